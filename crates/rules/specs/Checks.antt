@@ -1,0 +1,94 @@
+-- Document 01, "Refused by the input, refused by the state": the checks of opening and of the four calls, each list in the paper's
+-- order. A call's code is the number of its first failing check, or 0. Assumes nothing.
+use mathlib.Core.List.{List, [], _∷_, _++_}
+use mathlib.Core.Bool.{Bool, true, false, _||_}
+use Prim.Native.Nat.{ℕ, _+_, _*_, _^_}
+use lib.ListN.{length}
+use lib.Dec.{leb, ltb}
+use Rattle.rules.specs.Model.{Reg, Model, member}
+
+pub record Check : Type 0 where
+  pub fails : Bool
+  pub number : ℕ
+
+-- the number of the first check that fails, or 0
+unfoldable pub verdict : List Check → ℕ
+verdict [] = 0
+verdict (c ∷ cs) = elim (c .fails) [ true ↦ c .number | false ↦ verdict cs ]
+
+unfoldable pub any : (ℕ → Bool) → List ℕ → Bool
+any t [] = false
+any t (x ∷ xs) = t x || any t xs
+
+unfoldable pub repeats : List ℕ → Bool
+repeats [] = false
+repeats (x ∷ xs) = member x xs || repeats xs
+
+unfoldable pub written-by : ℕ → List Reg → Bool
+written-by x [] = false
+written-by x (a ∷ as′) = member x (a .outs) || written-by x as′
+
+-- already set, written or promised by a waiting registration
+unfoldable pub taken : Model → ℕ → Bool
+taken k x = member x (k .sets) || written-by x (k .adds)
+
+-- the list numbers of registrations
+unfoldable pub pooled : List Reg → ℕ
+pooled [] = 0
+pooled (a ∷ as′) = length (a .ins) + length (a .outs) + pooled as′
+
+-- 1: P or V outside its range
+unfoldable pub check-range : ℕ → ℕ → List Check
+check-range P N =
+    record { fails = ltb P 1 || ltb 64999 P; number = 1 } ∷ (record { fails = ltb N 1 || ltb 16777216 N; number = 1 } ∷ [])
+
+-- the lengths of lent storage: spans, order and rows in entries, places with a mark and a location each, numbers of waiting storage,
+-- counts of the tally
+pub record Sizes : Type 0 where
+  pub spans : ℕ
+  pub order : ℕ
+  pub rows : ℕ
+  pub marks : ℕ
+  pub locations : ℕ
+  pub waiting : ℕ
+  pub tally : ℕ
+
+-- 2: a lent length too short
+unfoldable pub too-short : ℕ → ℕ → Sizes → Bool
+too-short P N s =
+    ltb (s .spans) (32 * (P + 1)) || (ltb (s .order) N || (ltb (s .rows) N || (ltb (s .marks) N || (ltb (s .locations) N || (ltb (s .waiting) (4 * N) || ltb (s .tally) (P + 1))))))
+
+-- opening: 1, 2
+unfoldable pub check-open : ℕ → ℕ → Sizes → List Check
+check-open P N s = check-range P N ++ (record { fails = too-short P N s; number = 2 } ∷ [])
+
+-- 7: closed
+unfoldable pub check-closed : Model → Check
+check-closed k = record { fails = k .closed; number = 7 }
+
+-- 4: a place with bit 62 or 63; 5: a place of V or more
+unfoldable pub check-places : ℕ → List ℕ → List Check
+check-places N xs = record { fails = any (λ x. leb (2 ^ 62) x) xs; number = 4 } ∷ (record { fails = any (λ x. leb N x) xs; number = 5 } ∷ [])
+
+-- set: 7, 4, 5, 8
+unfoldable pub check-set : ℕ → ℕ → Model → List Check
+check-set N x k = check-closed k ∷ (check-places N (x ∷ []) ++ (record { fails = taken k x; number = 8 } ∷ []))
+
+-- add: 7, 3, 4, 5, 6, 8, 9, 10
+unfoldable pub check-add : ℕ → ℕ → Reg → Model → List Check
+check-add N W a k =
+    check-closed k
+    ∷ (record { fails = ltb 65535 (length (a .ins)) || ltb 65535 (length (a .outs)); number = 3 }
+    ∷ (check-places N (a .ins ++ a .outs)
+    ++ (record { fails = repeats (a .outs); number = 6 }
+    ∷ (record { fails = any (taken k) (a .outs); number = 8 }
+    ∷ (record { fails = leb N (length (k .adds)); number = 9 }
+    ∷ (record { fails = ltb W (pooled (k .adds) + length (a .ins) + length (a .outs)); number = 10 } ∷ []))))))
+
+-- flush: 7, 11
+unfoldable pub check-flush : Model → List Check
+check-flush k = check-closed k ∷ (record { fails = leb 65535 (k .flushes); number = 11 } ∷ [])
+
+-- final: 7, 12
+unfoldable pub check-final : Model → List Check
+check-final k = check-closed k ∷ (record { fails = ltb 0 (length (k .pending)); number = 12 } ∷ [])

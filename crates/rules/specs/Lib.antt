@@ -1,0 +1,5 @@
+-- Document 01 as definitions, in the paper's order.
+pub mod Guide
+pub mod Model
+pub mod Checks
+pub mod Calls
