@@ -117,8 +117,15 @@ unfoldable pub place-one : ℕ → ℕ → ℕ → Model → Model
 place-one P c r k =
     let p : Placed = place P (after (k .located) ((reg-of k r) .ins)) (record { value = r; added = r; accepted = c }) (k .guide) in
     record {
-      adds = k .adds; sets = k .sets; located = k .located ++ spotted (p .loc) ((reg-of k r) .outs); pending = k .pending; guide = p .guide; flushes = k .flushes;
-      closed = k .closed; recorded = k .recorded }
+      adds = k .adds;
+      sets = k .sets;
+      located = k .located ++ spotted (p .loc) ((reg-of k r) .outs);
+      pending = k .pending;
+      guide = p .guide;
+      flushes = k .flushes;
+      closed = k .closed;
+      recorded = k .recorded;
+    }
 
 -- the waiting registrations below m, which stand first, and the others
 unfoldable pub due : ℕ → List Pending → List ℕ
@@ -174,8 +181,15 @@ do-set P N x k = settle-all P N (length (k .adds)) (off N (with-set x k)) (rest 
 unfoldable pub with-add : Reg → Model → Model
 with-add a k =
     record {
-      adds = k .adds ++ (a ∷ []); sets = k .sets; located = k .located; pending = k .pending; guide = k .guide; flushes = k .flushes; closed = k .closed;
-      recorded = k .recorded }
+      adds = k .adds ++ (a ∷ []);
+      sets = k .sets;
+      located = k .located;
+      pending = k .pending;
+      guide = k .guide;
+      flushes = k .flushes;
+      closed = k .closed;
+      recorded = k .recorded;
+    }
 
 unfoldable pub do-add : ℕ → ℕ → Reg → Model → Model
 do-add P N a k =
@@ -193,14 +207,19 @@ with-record d k =
 unfoldable pub note-add : Model → Model
 note-add k =
     with-record (record {
-      written = k .recorded .written ++ (length (k .guide .order) ∷ []); registrations = k .recorded .registrations; places = k .recorded .places }) k
+      written = k .recorded .written ++ (length (k .guide .order) ∷ []);
+      registrations = k .recorded .registrations;
+      places = k .recorded .places;
+    }) k
 
 -- flush and final store it in the row of the latest registration, if any
 unfoldable pub note-flush : Model → Model
 note-flush k =
     with-record (record {
-      written = set-at (k .recorded .written) (length (k .recorded .written) - 1) (length (k .guide .order)); registrations = k .recorded .registrations;
-      places = k .recorded .places }) k
+      written = set-at (k .recorded .written) (length (k .recorded .written) - 1) (length (k .guide .order));
+      registrations = k .recorded .registrations;
+      places = k .recorded .places;
+    }) k
 
 -- final fixes registrations and places
 unfoldable pub note-final : ℕ → Model → Model
@@ -210,7 +229,15 @@ note-final N k = with-record (record { written = k .recorded .written; registrat
 unfoldable pub with-flush : ℕ → ℕ → Bool → Model → Model
 with-flush P f c k =
     record {
-      adds = k .adds; sets = k .sets; located = k .located; pending = k .pending; guide = flush-guide P (k .guide); flushes = f; closed = c; recorded = k .recorded }
+      adds = k .adds;
+      sets = k .sets;
+      located = k .located;
+      pending = k .pending;
+      guide = flush-guide P (k .guide);
+      flushes = f;
+      closed = c;
+      recorded = k .recorded;
+    }
 
 unfoldable pub do-flush : ℕ → Model → Model
 do-flush P k = note-flush (with-flush P (suc (k .flushes)) (k .closed) k)
