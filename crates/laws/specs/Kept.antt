@@ -9,7 +9,7 @@ use lib.ListN.{length}
 use lib.Dec.{eqb}
 use borrow.Author.Tests.{eqb-true}
 use Rattle.rules.specs.Model.{Recorded, with-record, note-add, note-flush, note-final, do-flush, do-final, Reg, Pending, Model, watermark, greatest, ready, place-one, keep, queue, push, off, rest, with-set, with-add, with-flush, cascade, settle-all, do-set, do-add, initial}
-use Rattle.rules.specs.Calls.{on-accept, Call, set, add, flush, final, apply-call, answer, step, run}
+use Rattle.rules.specs.Calls.{chosen, Call, set, add, flush, final, apply-call, answer, step, run}
 use Rattle.laws.specs.ModelBase.{bool-cases}
 use Rattle.laws.specs.ModelInv.{Inv, place-one-inv, off-inv, with-set-inv, with-add-inv, initial-inv, step-inv, add-stack, push-from, push-length, off-rest, place-pending}
 
@@ -63,12 +63,12 @@ module _ (P N W : ℕ) (hP : 1 ≤ P) (Q : Model → List ℕ → Type 0) (κ : 
   call-kept final k v a q = κ .recording _ _ (κ .recording _ _ (κ .closing k v a q))
 
   step-kept : (c : Call) (k : Model) → Inv P N k [] → Q k [] → Q (step P N W c k) []
-  unfolding step on-accept
+  unfolding step chosen
   step-kept c k v q = go (bool-cases (eqb (answer N W c k) 0))
     where
       go : (eqb (answer N W c k) 0 ≡ true) ⊎ (eqb (answer N W c k) 0 ≡ false) → Q (step P N W c k) []
-      go (inl e) = rw (e, on-accept) (call-kept c k v (eqb-true (answer N W c k) 0 e) q)
-      go (inr e) = rw (e, on-accept) q
+      go (inl e) = rw (e, chosen) (call-kept c k v (eqb-true (answer N W c k) 0 e) q)
+      go (inr e) = rw (e, chosen) q
 
   pub run-kept : (cs : List Call) (k : Model) → Inv P N k [] → Q k [] → Q (run P N W cs k) []
   unfolding run

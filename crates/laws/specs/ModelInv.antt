@@ -16,7 +16,7 @@ use Rattle.laws.specs.Together.{Behind}
 use Rattle.laws.specs.GuideInv.{Core, Later, grow, flush-core, release-later, regroup, len-empties}
 use Rattle.laws.specs.Place.{Step, place-step, place-behind}
 use Rattle.rules.specs.Model.{Recorded, with-record, note-add, note-flush, note-final, do-flush, do-final, Reg, Located, Pending, Model, member, marked, tracked, watermark, greatest, loc-of, top, after, spotted, reg-of, place-one, due, left, keep, push, off, rest, with-set, with-add, cascade, settle-all, ready, queue, do-set, do-add, with-flush, initial}
-use Rattle.rules.specs.Calls.{on-accept, step, run, answer, apply-call, Call, set, add, flush, final}
+use Rattle.rules.specs.Calls.{chosen, step, run, answer, apply-call, Call, set, add, flush, final}
 use Rattle.laws.specs.ModelBase.{In, or-cases, bool-cases, tracked-cases, watermark-tracked, top-ge, top-le, behind-le, loc-of-left, loc-of-right, loc-of-none, marked-append, spotted-in, entry-at, hist-cases, hist-old, hist-new, in-range, after-some, Grown, grown, tracked-of, greatest-ge, get-extend}
 
 abbrev pub hist : Model → List (List Item) → List (List Item)
@@ -450,12 +450,12 @@ module _ (P N : ℕ) (hP : 1 ≤ P) (k : Model) (v : Inv P N k []) where
   call-inv final = record-inv P N _ _ [] (record-inv P N _ _ [] (flush-inv _ _))
 
   pub step-inv : (W : ℕ) (c : Call) → Inv P N (step P N W c k) []
-  unfolding step on-accept
+  unfolding step chosen
   step-inv W c = go (bool-cases (eqb (answer N W c k) 0))
     where
       go : (eqb (answer N W c k) 0 ≡ true) ⊎ (eqb (answer N W c k) 0 ≡ false) → Inv P N (step P N W c k) []
-      go (inl e) = rw (e, on-accept) (call-inv c)
-      go (inr e) = rw (e, on-accept) v
+      go (inl e) = rw (e, chosen) (call-inv c)
+      go (inr e) = rw (e, chosen) v
 
 pub initial-inv : (P N : ℕ) → Inv P N initial []
 unfolding initial fresh released marked

@@ -3,3 +3,5 @@ pub mod Guide
 pub mod Model
 pub mod Checks
 pub mod Calls
+pub mod Alone
+pub mod Summary
