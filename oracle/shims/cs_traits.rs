@@ -1,0 +1,3 @@
+//! Stands in for `cs/traits/mod.rs`.
+
+pub mod cs;
