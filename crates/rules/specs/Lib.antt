@@ -5,3 +5,5 @@ pub mod Checks
 pub mod Calls
 pub mod Alone
 pub mod Summary
+pub mod Job
+pub mod Listing

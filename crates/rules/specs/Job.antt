@@ -1,0 +1,206 @@
+-- Document 01, "Summary, job and listing": the text of a job, from its bytes to the model at its end or to the first refusal with its
+-- line. Reading and running go line by line. How open points are read stands in docs/DECISIONS.md. Assumes nothing.
+use mathlib.Core.List.{List, [], _∷_, _++_}
+use mathlib.Core.Bool.{Bool, true, false, not, _&&_, _||_}
+use mathlib.Core.Option.{Option, some, none}
+use Prim.Native.Nat.{ℕ, zero, suc, _+_, _-_, _*_, _^_}
+use lib.ListN.{length}
+use lib.Dec.{leb, ltb, eqb}
+use Rattle.rules.specs.Model.{Model, initial}
+use Rattle.rules.specs.Checks.{Sizes, verdict, check-open}
+use Rattle.rules.specs.Calls.{Call, set, add, flush, final, answer, step}
+
+-- the keys, as bytes: parallelism= places= set= in= out=, and the two lines that have one form only: flush=1 final=1
+abbrev pub key-parallelism : List ℕ
+key-parallelism = 112 ∷ 97 ∷ 114 ∷ 97 ∷ 108 ∷ 108 ∷ 101 ∷ 108 ∷ 105 ∷ 115 ∷ 109 ∷ 61 ∷ []
+
+abbrev pub key-places : List ℕ
+key-places = 112 ∷ 108 ∷ 97 ∷ 99 ∷ 101 ∷ 115 ∷ 61 ∷ []
+
+abbrev pub key-set : List ℕ
+key-set = 115 ∷ 101 ∷ 116 ∷ 61 ∷ []
+
+abbrev pub key-in : List ℕ
+key-in = 105 ∷ 110 ∷ 61 ∷ []
+
+abbrev pub key-out : List ℕ
+key-out = 111 ∷ 117 ∷ 116 ∷ 61 ∷ []
+
+abbrev pub flush-text : List ℕ
+flush-text = 102 ∷ 108 ∷ 117 ∷ 115 ∷ 104 ∷ 61 ∷ 49 ∷ []
+
+abbrev pub final-text : List ℕ
+final-text = 102 ∷ 105 ∷ 110 ∷ 97 ∷ 108 ∷ 61 ∷ 49 ∷ []
+
+-- the lines that byte 10 ends; what stands after the last byte 10 is no line
+unfoldable pub lines-from : List ℕ → List ℕ → List (List ℕ)
+lines-from so-far [] = []
+lines-from so-far (b ∷ bs) = elim (eqb b 10) [ true ↦ so-far ∷ lines-from [] bs | false ↦ lines-from (so-far ++ (b ∷ [])) bs ]
+
+unfoldable pub lines : List ℕ → List (List ℕ)
+lines bs = lines-from [] bs
+
+-- the job ends without byte 10
+unfoldable pub ragged : List ℕ → Bool
+ragged [] = false
+ragged (b ∷ []) = not (eqb b 10)
+ragged (b ∷ (c ∷ bs)) = ragged (c ∷ bs)
+
+-- a number: digits only, with the value of those before it
+unfoldable pub digits-from : ℕ → List ℕ → Option ℕ
+digits-from n [] = some n
+digits-from n (b ∷ bs) = elim (leb 48 b && leb b 57) [ true ↦ digits-from (n * 10 + (b - 48)) bs | false ↦ none ]
+
+-- no leading zero but 0 itself
+unfoldable pub leading-zero : List ℕ → Bool
+leading-zero [] = false
+leading-zero (b ∷ []) = false
+leading-zero (b ∷ (c ∷ bs)) = eqb b 48
+
+-- at most 64 bits
+unfoldable pub in-64-bits : Option ℕ → Option ℕ
+in-64-bits none = none
+in-64-bits (some n) = elim (ltb n (2 ^ 64)) [ true ↦ some n | false ↦ none ]
+
+-- 1 to 20 digits, no leading zero but 0 itself, 64 bits
+unfoldable pub number : List ℕ → Option ℕ
+number bs = elim (leb 1 (length bs) && (leb (length bs) 20 && not (leading-zero bs))) [ true ↦ in-64-bits (digits-from 0 bs) | false ↦ none ]
+
+-- the fields between single commas: one more than there are commas
+unfoldable pub fields-from : List ℕ → List ℕ → List (List ℕ)
+fields-from so-far [] = so-far ∷ []
+fields-from so-far (b ∷ bs) = elim (eqb b 44) [ true ↦ so-far ∷ fields-from [] bs | false ↦ fields-from (so-far ++ (b ∷ [])) bs ]
+
+unfoldable pub both : Option ℕ → Option (List ℕ) → Option (List ℕ)
+both none ns = none
+both (some n) none = none
+both (some n) (some ns) = some (n ∷ ns)
+
+unfoldable pub numbers : List (List ℕ) → Option (List ℕ)
+numbers [] = some []
+numbers (f ∷ fs) = both (number f) (numbers fs)
+
+-- a list: empty, or numbers with single commas
+unfoldable pub list : List ℕ → Option (List ℕ)
+list [] = some []
+list (b ∷ bs) = numbers (fields-from [] (b ∷ bs))
+
+pub data Line : Type 0 where
+  parallelism-line places-line set-line : ℕ → Line
+  in-line out-line : List ℕ → Line
+  flush-line final-line malformed : Line
+
+-- what follows a key, where the line starts with it
+unfoldable pub after-key : List ℕ → List ℕ → Option (List ℕ)
+after-key [] bs = some bs
+after-key (c ∷ cs) [] = none
+after-key (c ∷ cs) (b ∷ bs) = elim (eqb b c) [ true ↦ after-key cs bs | false ↦ none ]
+
+unfoldable pub with-number : (ℕ → Line) → Option ℕ → Line
+with-number f none = malformed
+with-number f (some n) = f n
+
+unfoldable pub with-list : (List ℕ → Line) → Option (List ℕ) → Line
+with-list f none = malformed
+with-list f (some ns) = f ns
+
+-- a line that is a key with nothing after it
+unfoldable pub whole : Line → List ℕ → Line
+whole l [] = l
+whole l (b ∷ bs) = malformed
+
+unfoldable pub key-or : Option (List ℕ) → (List ℕ → Line) → Line → Line
+key-or none f other = other
+key-or (some rest) f other = f rest
+
+unfoldable pub line-of : List ℕ → Line
+line-of bs =
+    key-or (after-key key-parallelism bs) (λ r. with-number parallelism-line (number r))
+    (key-or (after-key key-places bs) (λ r. with-number places-line (number r))
+    (key-or (after-key key-set bs) (λ r. with-number set-line (number r))
+    (key-or (after-key key-in bs) (λ r. with-list in-line (list r))
+    (key-or (after-key key-out bs) (λ r. with-list out-line (list r))
+    (key-or (after-key flush-text bs) (whole flush-line)
+    (key-or (after-key final-text bs) (whole final-line) malformed))))))
+
+-- how a job ends: closed, with P and the model, or refused with its line and number
+pub data Outcome : Type 0 where
+  finished : ℕ → Model → Outcome
+  rejected : ℕ → ℕ → Outcome
+
+-- a call on line n: its refusal, or what follows
+unfoldable pub on-line : ℕ → ℕ → Outcome → Outcome
+on-line n code next = elim (eqb code 0) [ true ↦ next | false ↦ rejected n code ]
+
+-- after `final=1` on the line before n, anything more is surplus
+unfoldable pub closing : ℕ → ℕ → List (List ℕ) → Bool → Model → Outcome
+closing P n [] false k = finished P k
+closing P n [] true k = rejected n 15
+closing P n (l ∷ ls) rag k = rejected n 15
+
+-- the lines from line n on; `begun` holds the inputs of an `in=` line whose `out=` line must come next
+unfoldable pub run-lines : ℕ → ℕ → ℕ → ℕ → Option (List ℕ) → List (List ℕ) → Bool → Model → Outcome
+run-lines P N W n begun [] rag k = rejected n 15
+run-lines P N W n none (l ∷ ls) rag k =
+    elim (line-of l) [
+      | set-line x ↦ on-line n (answer N W (set x) k) (run-lines P N W (suc n) none ls rag (step P N W (set x) k))
+      | in-line ins ↦ run-lines P N W (suc n) (some ins) ls rag k
+      | flush-line ↦ on-line n (answer N W flush k) (run-lines P N W (suc n) none ls rag (step P N W flush k))
+      | final-line ↦ on-line n (answer N W final k) (closing P (suc n) ls rag (step P N W final k))
+      | parallelism-line x ↦ rejected n 15
+      | places-line x ↦ rejected n 15
+      | out-line outs ↦ rejected n 15
+      | malformed ↦ rejected n 15
+    ]
+run-lines P N W n (some ins) (l ∷ ls) rag k =
+    elim (line-of l) [
+      | out-line outs ↦ on-line n (answer N W (add ins outs) k) (run-lines P N W (suc n) none ls rag (step P N W (add ins outs) k))
+      | parallelism-line x ↦ rejected n 15
+      | places-line x ↦ rejected n 15
+      | set-line x ↦ rejected n 15
+      | in-line xs ↦ rejected n 15
+      | flush-line ↦ rejected n 15
+      | final-line ↦ rejected n 15
+      | malformed ↦ rejected n 15
+    ]
+
+-- storage for P ≤ 64, V ≤ 512, W = 4,096
+unfoldable pub job-sizes : Sizes
+job-sizes = record { spans = 2080; order = 512; rows = 512; marks = 512; locations = 512; waiting = 2048; tally = 65 }
+
+abbrev pub job-pool : ℕ
+job-pool = 4096
+
+-- line 2, then opening, whose refusal is line 2's
+unfoldable pub run-places : ℕ → List (List ℕ) → Bool → Outcome
+run-places P [] rag = rejected 2 15
+run-places P (l ∷ ls) rag =
+    elim (line-of l) [
+      | places-line N ↦ on-line 2 (verdict (check-open P N job-sizes)) (run-lines P N job-pool 3 none ls rag initial)
+      | parallelism-line x ↦ rejected 2 15
+      | set-line x ↦ rejected 2 15
+      | in-line xs ↦ rejected 2 15
+      | out-line xs ↦ rejected 2 15
+      | flush-line ↦ rejected 2 15
+      | final-line ↦ rejected 2 15
+      | malformed ↦ rejected 2 15
+    ]
+
+-- line 1
+unfoldable pub run-job : List (List ℕ) → Bool → Outcome
+run-job [] rag = rejected 1 15
+run-job (l ∷ ls) rag =
+    elim (line-of l) [
+      | parallelism-line P ↦ run-places P ls rag
+      | places-line x ↦ rejected 1 15
+      | set-line x ↦ rejected 1 15
+      | in-line xs ↦ rejected 1 15
+      | out-line xs ↦ rejected 1 15
+      | flush-line ↦ rejected 1 15
+      | final-line ↦ rejected 1 15
+      | malformed ↦ rejected 1 15
+    ]
+
+-- 16: a job over 65,536 bytes, before anything else
+unfoldable pub outcome : List ℕ → Outcome
+outcome bs = elim (ltb 65536 (length bs)) [ true ↦ rejected 1 16 | false ↦ run-job (lines bs) (ragged bs) ]

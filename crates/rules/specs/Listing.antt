@@ -1,0 +1,123 @@
+-- Document 01, the listing of a job, and the whole program and the host's call as definitions: job bytes to output bytes. Assumes nothing.
+use mathlib.Core.List.{List, [], _∷_, _++_}
+use mathlib.Core.Bool.{Bool, true, false}
+use Prim.Native.Nat.{ℕ, zero, suc, _+_, _*_, _/_, _%_, min}
+use lib.ListN.{length, drop, getD}
+use lib.Dec.{leb, ltb}
+use Rattle.rules.specs.Guide.{Item, Entry, tally}
+use Rattle.rules.specs.Model.{Model}
+use Rattle.rules.specs.Summary.{median}
+use Rattle.rules.specs.Job.{Outcome, finished, rejected, outcome}
+
+-- the digits of n, of which there are at most f
+unfoldable pub digits : ℕ → ℕ → List ℕ
+digits zero n = []
+digits (suc f) n = elim (ltb n 10) [ true ↦ (48 + n) ∷ [] | false ↦ digits f (n / 10) ++ ((48 + n % 10) ∷ []) ]
+
+-- a 64-bit number in decimal
+unfoldable pub decimal : ℕ → List ℕ
+decimal n = digits 20 n
+
+-- the words, as bytes: status= line= entries= places= floor= median= order= " added=" " accepted=" " parallelism=" " written="
+abbrev pub word-status : List ℕ
+word-status = 115 ∷ 116 ∷ 97 ∷ 116 ∷ 117 ∷ 115 ∷ 61 ∷ []
+
+abbrev pub word-line : List ℕ
+word-line = 108 ∷ 105 ∷ 110 ∷ 101 ∷ 61 ∷ []
+
+abbrev pub word-entries : List ℕ
+word-entries = 101 ∷ 110 ∷ 116 ∷ 114 ∷ 105 ∷ 101 ∷ 115 ∷ 61 ∷ []
+
+abbrev pub word-places : List ℕ
+word-places = 112 ∷ 108 ∷ 97 ∷ 99 ∷ 101 ∷ 115 ∷ 61 ∷ []
+
+abbrev pub word-floor : List ℕ
+word-floor = 102 ∷ 108 ∷ 111 ∷ 111 ∷ 114 ∷ 61 ∷ []
+
+abbrev pub word-median : List ℕ
+word-median = 109 ∷ 101 ∷ 100 ∷ 105 ∷ 97 ∷ 110 ∷ 61 ∷ []
+
+abbrev pub word-order : List ℕ
+word-order = 111 ∷ 114 ∷ 100 ∷ 101 ∷ 114 ∷ 61 ∷ []
+
+abbrev pub word-added : List ℕ
+word-added = 32 ∷ 97 ∷ 100 ∷ 100 ∷ 101 ∷ 100 ∷ 61 ∷ []
+
+abbrev pub word-accepted : List ℕ
+word-accepted = 32 ∷ 97 ∷ 99 ∷ 99 ∷ 101 ∷ 112 ∷ 116 ∷ 101 ∷ 100 ∷ 61 ∷ []
+
+abbrev pub word-parallelism : List ℕ
+word-parallelism = 32 ∷ 112 ∷ 97 ∷ 114 ∷ 97 ∷ 108 ∷ 108 ∷ 101 ∷ 108 ∷ 105 ∷ 115 ∷ 109 ∷ 61 ∷ []
+
+abbrev pub word-written : List ℕ
+word-written = 32 ∷ 119 ∷ 114 ∷ 105 ∷ 116 ∷ 116 ∷ 101 ∷ 110 ∷ 61 ∷ []
+
+-- a word and its number, and the same as a line
+unfoldable pub field : List ℕ → ℕ → List ℕ
+field word n = word ++ decimal n
+
+unfoldable pub line : List ℕ → ℕ → List ℕ
+line word n = field word n ++ (10 ∷ [])
+
+-- floor: the smallest parallelism in the order, 0 if it is empty
+unfoldable pub floor : List Entry → ℕ
+floor [] = 0
+floor (e ∷ []) = e .parallelism
+floor (e ∷ (f ∷ es)) = min (e .parallelism) (floor (f ∷ es))
+
+-- an entry's line: its order index, added, accepted and parallelism, and its row's written
+unfoldable pub entry-line : ℕ → Entry → ℕ → List ℕ
+entry-line index e written =
+    field word-order index
+    ++ (field word-added (e .item .added)
+    ++ (field word-accepted (e .item .accepted) ++ (field word-parallelism (e .parallelism) ++ (field word-written written ++ (10 ∷ [])))))
+
+-- the entries from index n on
+unfoldable pub entry-lines : ℕ → List Entry → List ℕ → List ℕ
+entry-lines n [] written = []
+entry-lines n (e ∷ es) written = entry-line n e (getD written (e .item .added) 0) ++ entry-lines (suc n) es written
+
+-- an accepted job's listing
+unfoldable pub listing : ℕ → Model → List ℕ
+listing P k =
+    line word-status 0
+    ++ (line word-entries (length (k .guide .order))
+    ++ (line word-places (k .recorded .places)
+    ++ (line word-floor (floor (k .guide .order))
+    ++ (line word-median (median (tally P (k .guide .order))) ++ entry-lines 0 (k .guide .order) (k .recorded .written)))))
+
+-- what a refused job prints
+unfoldable pub rejection : ℕ → ℕ → List ℕ
+rejection n code = line word-status code ++ line word-line n
+
+-- the answer where `room` listing bytes are lent: 17, on line 1, comes last
+pub data Reply : Type 0 where
+  listed : List ℕ → Reply
+  refused : ℕ → ℕ → Reply
+
+unfoldable pub fit : ℕ → List ℕ → Reply
+fit room text = elim (ltb room (length text)) [ true ↦ refused 1 17 | false ↦ listed text ]
+
+unfoldable pub told : ℕ → Outcome → Reply
+told room (finished P k) = fit room (listing P k)
+told room (rejected n code) = refused n code
+
+unfoldable pub reply : ℕ → List ℕ → Reply
+reply room job = told room (outcome job)
+
+-- the program: job bytes to output bytes
+unfoldable pub printed : Reply → List ℕ
+printed (listed text) = text
+printed (refused n code) = rejection n code
+
+unfoldable pub program : List ℕ → List ℕ
+program job = printed (reply 65536 job)
+
+-- the host's call: its result, and the listing bytes after it
+unfoldable pub result : Reply → ℕ
+result (listed text) = 64 * length text
+result (refused n code) = 64 * n + code
+
+unfoldable pub bytes-after : Reply → List ℕ → List ℕ
+bytes-after (listed text) bytes = text ++ drop (length text) bytes
+bytes-after (refused n code) bytes = bytes
