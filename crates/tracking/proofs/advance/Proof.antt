@@ -1,0 +1,60 @@
+-- What remains to be done keeps the answer: the run from the place reached is the run from 0. Assumes nothing.
+use Rattle.rules.specs.Model.{run-from}
+use Rattle.tracking.specs.Tracking.{tracked-in, nz}
+use Rattle.tracking.specs.Loops.{run-begins, run-most, run-more, run-stops, run-ends, nz-no, nz-yes}
+use denote.Ref.{now}
+use lib.ListN.{length, getD, set, length-set}
+use Prim.Native.Nat.{ℕ, _+_, _*_, _-_, _≤_, _<_}
+use mathlib.Core.Logic.{⊎-elim}
+use mathlib.Core.Path.{_≡_, refl, sym, ap, _∙_}
+use borrow.Author.Needs.{needs}
+use native.Mathlib.Omega.{arith}
+use Rattle.tracking.proofs.advance.Statement.{statement}
+use Rattle.tracking.proofs.advance.Tie as tie
+
+abbrev Inv-loop : tie.InvT-loop
+Inv-loop marks v from i₀ i = (i ≤ v) × (run-from (tracked-in marks) v 0 ≡ run-from (tracked-in marks) (v - i) i)
+
+abbrev μ-loop : tie.MeasureT-loop
+μ-loop marks v from i₀ i = v - i
+
+loop-holds : tie.Need-loop-holds Inv-loop μ-loop
+loop-holds c = let a = c .args in (omega (arith, run-most (tracked-in (now (a .marks))) (a .v), c .pre .1), run-begins (tracked-in (now (a .marks))) (a .v) (a .from) (c .pre .1))
+
+mul-if1 : tie.Need-mul-if1 Inv-loop μ-loop
+mul-if1 c = search needs
+
+shared-slice-read-if1 : tie.Need-shared-slice-read-if1 Inv-loop μ-loop
+shared-slice-read-if1 c = search needs
+
+returns : tie.Need-returns Inv-loop μ-loop
+unfolding tracked-in
+returns c = let s = c .before .before .before .before in let a = s .args in let i = c .before .before .before .loop .i in sym (c .before .before .before .loop .inv .1 ∙ run-stops (tracked-in (now (a .marks))) (a .v) i (c .before .before .loop-test .taken) (nz-no (getD (now (a .marks)) i 0) (c .if1 .taken)))
+
+add-i : tie.Need-add-i Inv-loop μ-loop
+add-i c = search needs
+
+loop-less : tie.Need-loop-less Inv-loop μ-loop
+loop-less c = search needs
+
+loop-again : tie.Need-loop-again Inv-loop μ-loop
+unfolding tracked-in
+loop-again c = let s = c .before .before .before .before in let a = s .args in let i = c .before .before .before .loop .i in (omega arith, c .before .before .before .loop .inv .1 ∙ run-more (tracked-in (now (a .marks))) (a .v) i (c .before .before .loop-test .taken) (nz-yes (getD (now (a .marks)) i 0) (c .if1 .left)))
+
+returns-2 : tie.Need-returns-2 Inv-loop μ-loop
+returns-2 c = let s = c .before .before in let a = s .args in sym (c .before .loop .inv .1 ∙ run-ends (tracked-in (now (a .marks))) (a .v) (c .before .loop .i) (c .loop-test .left))
+
+pub advance-spec : {M : Type 1} → statement M
+advance-spec =
+    tie.close
+    (tie.spec
+    Inv-loop
+    μ-loop
+    loop-holds
+    mul-if1
+    shared-slice-read-if1
+    returns
+    add-i
+    loop-less
+    loop-again
+    returns-2)
