@@ -7,3 +7,4 @@ pub mod Alone
 pub mod Summary
 pub mod Job
 pub mod Listing
+pub mod Encoding
