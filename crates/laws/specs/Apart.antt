@@ -11,47 +11,11 @@ use Rattle.rules.specs.Model.{with-record, Reg, Pending, Model, watermark, read
 use Rattle.rules.specs.Calls.{Call, set, add, checks, answer, run}
 use Rattle.rules.specs.Checks.{check-set, check-add, check-flush, check-final, check-closed, written-by, taken, Check, verdict, any, check-places}
 use Rattle.laws.specs.ModelBase.{In, or-cases, bool-cases, member-in, in-member}
+use Rattle.laws.specs.Accepted.{set-passed, add-passed}
 use Rattle.laws.specs.History.{lt-or-le}
 use Rattle.laws.specs.GuideInv.{eq-or-ne}
 use Rattle.laws.specs.ModelInv.{Inv, reg-of-old, reg-of-new, reg-of-beyond}
 use Rattle.laws.specs.Kept.{Kept, kept}
-
-pub verdict-head : (c : Check) (cs : List Check) → verdict (c ∷ cs) ≡ 0 → c .number ≢ 0 → (c .fails ≡ false) × (verdict cs ≡ 0)
-unfolding verdict
-verdict-head c cs h n = go (bool-cases (c .fails))
-  where
-    go : (c .fails ≡ true) ⊎ (c .fails ≡ false) → (c .fails ≡ false) × (verdict cs ≡ 0)
-    go (inl e) = absurd (n (rw (e, verdict) at h))
-    go (inr e) = (e, rw (e, verdict) at h)
-
-any-false : (t : ℕ → Bool) (l : List ℕ) (i : ℕ) → any t l ≡ false → In i l → t i ≡ false
-unfolding any
-any-false t [] i h y = absurd (List·Memᴰ·not-nil y)
-any-false t (x ∷ l) i h y = go (bool-cases (t x)) (List·Memᴰ·cases-cons y) (λ z. any-false t l i z)
-  where
-    go : (t x ≡ true) ⊎ (t x ≡ false) → (i ≡ x) ⊎ In i l → (any t l ≡ false → In i l → t i ≡ false) → t i ≡ false
-    go (inl e) y f = absurd (false≢true (sym (rw e at h)))
-    go (inr e) (inl y) f = rw y e
-    go (inr e) (inr y) f = f (rw e at h) y
-
-set-free : (N W x : ℕ) (k : Model) → answer N W (set x) k ≡ 0 → taken k x ≡ false
-unfolding answer checks check-set check-add check-flush check-final check-closed check-places
-set-free N W x k h =
-    let a = verdict-head _ _ h (omega arith) in
-    let b = verdict-head _ _ (a .1) (omega arith) in
-    let c = verdict-head _ _ (b .1) (omega arith) in
-    verdict-head _ _ (c .1) (omega arith) .0
-
-add-free : (N W : ℕ) (ins outs : List ℕ) (k : Model) → answer N W (add ins outs) k ≡ 0 → (i : ℕ) → In i outs → taken k i ≡ false
-unfolding answer checks check-set check-add check-flush check-final check-closed check-places
-add-free N W ins outs k h i y =
-    let a = verdict-head _ _ h (omega arith) in
-    let b = verdict-head _ _ (a .1) (omega arith) in
-    let c = verdict-head _ _ (b .1) (omega arith) in
-    let d = verdict-head _ _ (c .1) (omega arith) in
-    let e = verdict-head _ _ (d .1) (omega arith) in
-    let f = verdict-head _ _ (e .1) (omega arith) in
-    any-false (taken k) outs i (f .0) y
 
 written-in : (i : ℕ) (l : List Reg) (r : ℕ) (d : Reg) → d .outs ≡ [] → In i ((getD l r d) .outs) → written-by i l ≡ true
 unfolding written-by
@@ -113,9 +77,9 @@ unfolding reg-of
 same-apart k j st st′ e f p =
     record { sets-apart = λ i r y z. p .sets-apart i r (rw e at y) (rw f at z); outs-apart = λ i r t y z. p .outs-apart i r t (rw f at y) (rw f at z) }
 
-apart-opening : Apart initial []
+pub apart-initial : Apart initial []
 unfolding initial reg-of
-apart-opening = record { sets-apart = λ i r y z. List·Memᴰ·not-nil y; outs-apart = λ i r t y z. absurd (List·Memᴰ·not-nil y) }
+apart-initial = record { sets-apart = λ i r y z. List·Memᴰ·not-nil y; outs-apart = λ i r t y z. absurd (List·Memᴰ·not-nil y) }
 
 with-set-apart : (x : ℕ) (k : Model) (st st′ : List ℕ) → taken k x ≡ false → Apart k st → Apart (with-set x k) st′
 unfolding with-set reg-of
@@ -127,18 +91,18 @@ with-set-apart x k st st′ f p =
     go i r z (inr e) = p .sets-apart i r e z
 
 module _ (P N W : ℕ) (hP : 1 ≤ P) where
-  apart-kept : Kept P N W Apart
+  pub apart-kept : Kept P N W Apart
   unfolding rest keep with-set place-one with-flush with-record
   apart-kept =
       record {
-        placing = λ c r st k v p. same-apart k (rest N (place-one P c r k)) (r ∷ st) _ refl refl p;
-        setting = λ x k v a p. same-apart (with-set x k) (rest N (with-set x k)) [] _ refl refl (with-set-apart x k [] [] (set-free N W x k a) p);
-        adding = λ ins outs k v a e p. with-add-apart _ k [] _ (add-free N W ins outs k a) p;
-        waiting = λ ins outs k v a e p. same-apart (with-add _ k) _ [] [] refl refl (with-add-apart _ k [] [] (add-free N W ins outs k a) p);
+        placing = λ c r st k l v p. same-apart k (rest N (place-one P c r k)) (r ∷ st) _ refl refl p;
+        setting = λ x k v a p. same-apart (with-set x k) (rest N (with-set x k)) [] _ refl refl (with-set-apart x k [] [] (set-passed N W x k a .free) p);
+        adding = λ ins outs k v a e p. with-add-apart _ k [] _ (add-passed N W ins outs k a .free) p;
+        waiting = λ ins outs k v a e p. same-apart (with-add _ k) _ [] [] refl refl (with-add-apart _ k [] [] (add-passed N W ins outs k a .free) p);
         flushing = λ k v a p. same-apart k _ [] [] refl refl p;
         closing = λ k v a p. same-apart k _ [] [] refl refl p;
-        recording = λ d k p. same-apart k _ [] [] refl refl p;
+        recording = λ d k v n p. same-apart k _ [] [] refl refl p;
       }
 
   pub apart : (cs : List Call) → Apart (run P N W cs initial) []
-  apart cs = kept P N W hP Apart apart-kept apart-opening cs
+  apart cs = kept P N W hP Apart apart-kept apart-initial cs

@@ -144,9 +144,9 @@ module _ (φ : ℕ → ℕ) where
       below-suc : (n : ℕ) → below (suc n) ≡ below n + φ n
       below-suc n = refl
 
-  balance-opening : Balance initial []
+  pub balance-initial : Balance initial []
   unfolding Balance initial fresh wsum qsum lsum below
-  balance-opening = omega (arith, hsum-empties 32)
+  balance-initial = omega (arith, hsum-empties 32)
 
   module _ (P N W : ℕ) (hP : 1 ≤ P) where
     balance-placing : (c r : ℕ) (st : List ℕ) (k : Model) → Inv P N k (r ∷ st) → Balance k (r ∷ st) → Balance (rest N (place-one P c r k)) (push (off N (place-one P c r k)) st)
@@ -158,18 +158,18 @@ module _ (φ : ℕ → ℕ) where
         let s = place-step P (k .guide) (v .past) e hP (v .core) (v .later) a in
         omega (arith, step-sum P (k .guide) (v .past) e (place P a e (k .guide)) (v .core) s, off-sum N j, push-sum (off N j) st, b)
 
-    balance-kept : Kept P N W Balance
+    pub balance-kept : Kept P N W Balance
     unfolding Balance rest keep with-set with-add with-flush lsum qsum with-record
     balance-kept =
         record {
-          placing = balance-placing;
+          placing = λ c r st k l v b. balance-placing c r st k v b;
           setting = λ x k v a b. omega (arith, off-sum N (with-set x k), b);
           adding = λ ins outs k v a e b. omega (arith, below-add (k .adds) (record { ins = ins; outs = outs }), b);
           waiting = λ ins outs k v a e b. omega (arith, below-add (k .adds) (record { ins = ins; outs = outs }), queue-sum (record { under = greatest ins; reg = length (k .adds) }) (k .pending), b);
           flushing = λ k v a b. omega (arith, flush-sum P (k .guide) (v .past) (v .core) (flush-core P (k .guide) (v .past) hP (v .core) (v .later 31 (omega arith))), b);
           closing = λ k v a b. omega (arith, flush-sum P (k .guide) (v .past) (v .core) (flush-core P (k .guide) (v .past) hP (v .core) (v .later 31 (omega arith))), b);
-          recording = λ d k b. b;
+          recording = λ d k v n b. b;
         }
 
     pub balance : (cs : List Call) → Balance (run P N W cs initial) []
-    balance cs = kept P N W hP Balance balance-kept balance-opening cs
+    balance cs = kept P N W hP Balance balance-kept balance-initial cs

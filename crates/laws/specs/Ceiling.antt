@@ -13,8 +13,7 @@ use Rattle.laws.specs.Place.{Step, place-step}
 use Rattle.rules.specs.Model.{with-record, Reg, Pending, Model, reg-of, after, place-one, keep, queue, push, off, rest, with-set, with-add, with-flush, initial}
 use Rattle.rules.specs.Calls.{Call, flush, final, answer, checks, run}
 use Rattle.laws.specs.ModelInv.{Inv, push-length, off-rest}
-use Rattle.laws.specs.Apart.{verdict-head}
-use Rattle.laws.specs.Closed.{open-final}
+use Rattle.laws.specs.Accepted.{final-passed}
 use Rattle.laws.specs.Kept.{Kept, kept}
 
 unfoldable pub ended : Bool → ℕ
@@ -43,17 +42,17 @@ module _ (P N W : ℕ) (hP : 1 ≤ P) where
       let s = place-step P (k .guide) (v .past) e hP (v .core) (v .later) (after (k .located) ((reg-of k r) .ins)) in
       omega (arith, s .advances, push-length (off N j) st, off-rest N j)
 
-  ceiling-kept : Kept P N W Ceiling
+  pub ceiling-kept : Kept P N W Ceiling
   unfolding rest keep with-set with-add with-flush flush-guide release ended with-record
   ceiling-kept =
       record {
-        placing = ceiling-placing;
+        placing = λ c r st k l v b. ceiling-placing c r st k v b;
         setting = λ x k v a b. omega (arith, off-rest N (with-set x k), b);
         adding = λ ins outs k v a e b. simp length-append (omega (arith, b));
         waiting = λ ins outs k v a e b. simp (length-append, queue-length) (omega (arith, b));
         flushing = λ k v a b. omega (arith, b);
-        closing = λ k v a b. omega (arith, ap ended (open-final N W k a), b);
-        recording = λ d k b. b;
+        closing = λ k v a b. omega (arith, ap ended (final-passed N W k a .not-closed), b);
+        recording = λ d k v n b. b;
       }
 
   pub ceiling : (cs : List Call) → Ceiling (run P N W cs initial) []

@@ -15,8 +15,8 @@ use Rattle.rules.specs.Model.{with-record, Reg, Pending, Model, watermark, read
 use Rattle.rules.specs.Calls.{Call, set, add, flush, final, checks, answer, run}
 use Rattle.rules.specs.Checks.{check-set, check-add, check-flush, check-final, check-closed, Check, verdict, check-places}
 use Rattle.laws.specs.ModelInv.{Inv, run-inv, initial-inv}
-use Rattle.laws.specs.Apart.{verdict-head}
-use Rattle.laws.specs.Kept.{Kept, kept, run-kept}
+use Rattle.laws.specs.Accepted.{set-passed, add-passed, flush-passed, final-passed}
+use Rattle.laws.specs.Kept.{Kept, kept, run-kept, run-noted, initial-noted}
 use Rattle.laws.specs.Balance.{hsum, hsum-append, hsum-empties}
 
 -- the order begins with o
@@ -39,13 +39,13 @@ module _ (P N W : ℕ) (hP : 1 ≤ P) (o : List Entry) where
   unfolding rest keep with-set with-add with-flush flush-guide release with-record
   begins-kept =
       record {
-        placing = begins-placing;
+        placing = λ c r st k l v b. begins-placing c r st k v b;
         setting = λ x k v a b. b;
         adding = λ ins outs k v a e b. b;
         waiting = λ ins outs k v a e b. b;
         flushing = λ k v a b. begins-more k [] (released P 32 (k .guide .spans)) b;
         closing = λ k v a b. begins-more k [] (released P 32 (k .guide .spans)) b;
-        recording = λ d k b. b;
+        recording = λ d k v n b. b;
       }
 
 run-append : (P N W : ℕ) (cs ds : List Call) (k : Model) → run P N W (cs ++ ds) k ≡ run P N W ds (run P N W cs k)
@@ -58,31 +58,11 @@ pub stays : (P N W : ℕ) → 1 ≤ P → (cs ds : List Call) → (more : List E
 stays P N W hP cs ds =
     rw (run-append P N W cs ds initial)
     (run-kept P N W hP (Begins ((run P N W cs initial) .guide .order)) (begins-kept P N W hP ((run P N W cs initial) .guide .order)) ds (run P N W cs initial)
-    (run-inv P N W hP cs initial (initial-inv P N)) ([], sym (append-nil _)))
+    (run-inv P N W hP cs initial (initial-inv P N)) (run-noted P N W cs initial initial-noted) ([], sym (append-nil _)))
 
 -- closed: nothing pending and nothing is held
 abbrev pub Done : Model → List ℕ → Type 0
 Done k st = k .closed ≡ true → (length st ≡ 0) × (length (k .pending) ≡ 0) × ((φ : ℕ → ℕ) → hsum φ (k .guide .spans) ≡ 0)
-
-open-set : (N W x : ℕ) (k : Model) → answer N W (set x) k ≡ 0 → k .closed ≡ false
-unfolding answer checks check-set check-add check-flush check-final check-closed check-places
-open-set N W x k h = verdict-head _ _ h (omega arith) .0
-
-open-add : (N W : ℕ) (ins outs : List ℕ) (k : Model) → answer N W (add ins outs) k ≡ 0 → k .closed ≡ false
-unfolding answer checks check-set check-add check-flush check-final check-closed check-places
-open-add N W ins outs k h = verdict-head _ _ h (omega arith) .0
-
-pub open-flush : (N W : ℕ) (k : Model) → answer N W flush k ≡ 0 → k .closed ≡ false
-unfolding answer checks check-set check-add check-flush check-final check-closed check-places
-open-flush N W k h = verdict-head _ _ h (omega arith) .0
-
-pub open-final : (N W : ℕ) (k : Model) → answer N W final k ≡ 0 → k .closed ≡ false
-unfolding answer checks check-set check-add check-flush check-final check-closed check-places
-open-final N W k h = verdict-head _ _ h (omega arith) .0
-
-no-waits : (N W : ℕ) (k : Model) → answer N W final k ≡ 0 → length (k .pending) ≡ 0
-unfolding answer checks check-set check-add check-flush check-final check-closed check-places
-no-waits N W k h = let a = verdict-head _ _ h (omega arith) in let b = verdict-head _ _ (a .1) (omega arith) in omega (arith, ltb-false 0 (length (k .pending)) (b .0))
 
 module _ (P N W : ℕ) (hP : 1 ≤ P) where
   flushed-empty : (k : Model) → Inv P N k [] → (φ : ℕ → ℕ) → hsum φ ((flush-guide P (k .guide)) .spans) ≡ 0
@@ -94,17 +74,17 @@ module _ (P N W : ℕ) (hP : 1 ≤ P) where
   not-open : (k : Model) {X : Type 0} → k .closed ≡ false → k .closed ≡ true → X
   not-open k e c = absurd (false≢true (sym e ∙ c))
 
-  done-kept : Kept P N W Done
+  pub done-kept : Kept P N W Done
   unfolding rest keep place-one with-set with-add with-flush with-record
   done-kept =
       record {
-        placing = λ c r st k v d e. absurd (omega (arith, d e .0));
-        setting = λ x k v a d e. not-open k (open-set N W x k a) e;
-        adding = λ ins outs k v a z d e. not-open k (open-add N W ins outs k a) e;
-        waiting = λ ins outs k v a z d e. not-open k (open-add N W ins outs k a) e;
-        flushing = λ k v a d e. not-open k (open-flush N W k a) e;
-        closing = λ k v a d e. (refl, no-waits N W k a, flushed-empty k v);
-        recording = λ r k d. d;
+        placing = λ c r st k l v d e. absurd (omega (arith, d e .0));
+        setting = λ x k v a d e. not-open k (set-passed N W x k a .not-closed) e;
+        adding = λ ins outs k v a z d e. not-open k (add-passed N W ins outs k a .not-closed) e;
+        waiting = λ ins outs k v a z d e. not-open k (add-passed N W ins outs k a .not-closed) e;
+        flushing = λ k v a d e. not-open k (flush-passed N W k a .not-closed) e;
+        closing = λ k v a d e. (refl, final-passed N W k a .none, flushed-empty k v);
+        recording = λ r k v n d. d;
       }
 
   pub done : (cs : List Call) → Done (run P N W cs initial) []

@@ -6,7 +6,7 @@ use mathlib.Core.Bool.{Bool, true, false, false≢true}
 use Prim.Native.Nat.{ℕ, zero, suc, _+_, _≤_, _<_}
 use native.Mathlib.Omega.{arith}
 use lib.ListN.{length, getD, set, replicate, length-append, length-set, length-replicate}
-use Rattle.rules.specs.Guide.{Loc, Item, Entry, Guide, released, parallelism}
+use Rattle.rules.specs.Guide.{Loc, Item, Entry, Guide, released, parallelism, held}
 use Rattle.laws.specs.Width.{flat, width-flat, width-pos, width-le}
 use Rattle.rules.specs.Model.{Reg, Pending, Model, watermark, ready, reg-of, initial}
 use Rattle.rules.specs.Calls.{Call, run}
@@ -16,7 +16,7 @@ use Rattle.laws.specs.GuideInv.{Core}
 use Rattle.laws.specs.ModelBase.{In, entry-at, no-entry, in-range}
 use Rattle.laws.specs.ModelInv.{Inv, hist, Writes, run-inv, initial-inv}
 use Rattle.laws.specs.Balance.{hsum, wsum, qsum, lsum, below, Balance, core-sum, balance}
-use Rattle.laws.specs.Once.{one-place, held, wsum-one, qsum-one, hsum-one, below-all, below-one, one-of}
+use Rattle.laws.specs.Once.{one-place, wsum-one, qsum-one, hsum-one, below-all, below-one, one-of}
 use Rattle.laws.specs.Apart.{Apart, apart}
 use Rattle.laws.specs.Waiting.{IsPending, Waiting, waiting}
 use Rattle.laws.specs.Closed.{Done, done}

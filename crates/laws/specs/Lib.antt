@@ -8,10 +8,15 @@ pub mod Place
 pub mod ModelBase
 pub mod ModelInv
 pub mod Kept
+pub mod Accepted
 pub mod Balance
 pub mod Apart
 pub mod Waiting
 pub mod Once
 pub mod Closed
 pub mod Ceiling
+pub mod Limits
+pub mod Order
+pub mod Sound
+pub mod Placeable
 pub mod Demand

@@ -384,7 +384,7 @@ module _ (P N : ℕ) (hP : 1 ≤ P) (k : Model) (v : Inv P N k []) where
       go s q i (inl y) = inl y
       go s q i (inr y) = inr (y .0, grow-writes (y .0) i (y .1), y .2)
 
-  queued-inv : (a : Reg) → Inv P N (keep (queue (record { under = greatest (a .ins); reg = length (k .adds) }) (k .pending)) (with-add a k)) []
+  pub queued-inv : (a : Reg) → Inv P N (keep (queue (record { under = greatest (a .ins); reg = length (k .adds) }) (k .pending)) (with-add a k)) []
   unfolding keep reg-of tracked with-add
   queued-inv a =
       record {

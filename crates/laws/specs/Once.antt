@@ -8,7 +8,7 @@ use native.Mathlib.Omega.{arith}
 use lib.ListN.{length, getD}
 use lib.Dec.{eqb}
 use borrow.Author.Tests.{eq-eqb, ne-eqb}
-use Rattle.rules.specs.Guide.{Item, Entry}
+use Rattle.rules.specs.Guide.{Item, Entry, held}
 use Rattle.rules.specs.Model.{Pending}
 use Rattle.laws.specs.History.{len, lt-or-le}
 use Rattle.laws.specs.GuideInv.{eq-or-ne}
@@ -29,7 +29,7 @@ module _ (φ : ℕ → ℕ) where
   esum-two (e ∷ l) zero (suc r) d i h = omega (arith, esum-at l r d (omega arith))
   esum-two (e ∷ l) (suc q) (suc r) d i h = omega (arith, esum-two l q r d (omega arith) (omega arith))
 
-  hsum-at : (H : List (List Item)) (s q : ℕ) → q < len H s → φ ((entry-at H s q) .added) ≤ hsum φ H
+  pub hsum-at : (H : List (List Item)) (s q : ℕ) → q < len H s → φ ((entry-at H s q) .added) ≤ hsum φ H
   unfolding hsum entry-at
   hsum-at [] s q h = absurd (omega arith)
   hsum-at (l ∷ H) zero q h = omega (arith, esum-at l q no-entry h)
@@ -52,7 +52,7 @@ module _ (φ : ℕ → ℕ) where
 unfoldable pub one-of : ℕ → ℕ → ℕ
 one-of r x = elim (eqb r x) [ true ↦ 1 | false ↦ 0 ]
 
-one-same : (r x : ℕ) → r ≡ x → one-of r x ≡ 1
+pub one-same : (r x : ℕ) → r ≡ x → one-of r x ≡ 1
 unfolding one-of
 one-same r x h = rw (eq-eqb r x h, one-of)
 
@@ -74,7 +74,7 @@ below-one r (suc n) h = go (eq-or-ne r n) (λ i. below-one r n i)
     go (inl e) f = omega (arith, below-none r n (omega arith), one-same r n e)
     go (inr e) f = omega (arith, f (omega arith), one-other r n e)
 
-below-le : (r n : ℕ) → below (one-of r) n ≤ 1
+pub below-le : (r n : ℕ) → below (one-of r) n ≤ 1
 below-le r n = go (lt-or-le r n)
   where
     go : (r < n) ⊎ (n ≤ r) → below (one-of r) n ≤ 1
@@ -125,11 +125,6 @@ esum-one : (l : List Item) → esum (λ x. 1) l ≡ length l
 unfolding esum
 esum-one [] = refl
 esum-one (w ∷ l) = omega (arith, esum-one l)
-
--- the sum of the window's lengths
-unfoldable pub held : List (List Item) → ℕ
-held [] = 0
-held (l ∷ H) = length l + held H
 
 pub hsum-one : (H : List (List Item)) → hsum (λ x. 1) H ≡ held H
 unfolding hsum held

@@ -52,14 +52,22 @@ unfolding ready
 ready-on n [] h = refl
 ready-on n (x ∷ l) h = lt-ltb _ _ h
 
-not-ready : (n : ℕ) (l : List ℕ) → ready n l ≡ false → n ≤ greatest l
+pub not-ready : (n : ℕ) (l : List ℕ) → ready n l ≡ false → n ≤ greatest l
 unfolding ready
 not-ready n [] h = absurd (false≢true (sym h))
 not-ready n (x ∷ l) h = ltb-false _ _ h
 
+-- by ascending place, then by registration
+abbrev pub Before : Pending → Pending → Type 0
+Before w v = (w .under < v .under) ⊎ ((w .under ≡ v .under) × (w .reg < v .reg))
+
+before-le : (w v : Pending) → Before w v → w .under ≤ v .under
+before-le w v (inl h) = omega arith
+before-le w v (inr h) = omega arith
+
 abbrev pub Sorted : List Pending → Type 0
 Sorted [] = Unit {0}
-Sorted (w ∷ ws) = ((v : Pending) → List·Memᴰ v ws → w .under ≤ v .under) × Sorted ws
+Sorted (w ∷ ws) = ((v : Pending) → List·Memᴰ v ws → Before w v) × Sorted ws
 
 left-sorted : (m : ℕ) (ws : List Pending) → Sorted ws → Sorted (left m ws)
 unfolding left
@@ -81,7 +89,7 @@ left-above m (v ∷ ws) s w h = go (bool-cases (ltb (v .under) m)) (λ y. left-a
       where
         past : (w ≡ v) ⊎ List·Memᴰ w ws → m ≤ w .under
         past (inl y) = rw y (ltb-false (v .under) m e)
-        past (inr y) = omega (arith, ltb-false (v .under) m e, s .0 w y)
+        past (inr y) = omega (arith, ltb-false (v .under) m e, before-le v w (s .0 w y))
 
 left-or-due : (m : ℕ) (ws : List Pending) (w : Pending) → List·Memᴰ w ws → List·Memᴰ w (left m ws) ⊎ (w .under < m)
 unfolding left
@@ -93,17 +101,21 @@ left-or-due m (v ∷ ws) w h = go (bool-cases (ltb (v .under) m)) (List·Memᴰ�
     go (inl e) (inr y) r = rw (e, left) (r y)
     go (inr e) y r = inl (rw (e, left) h)
 
-queue-sorted : (x : Pending) (ws : List Pending) → Sorted ws → Sorted (queue x ws)
+queue-sorted : (x : Pending) (ws : List Pending) → ((v : Pending) → List·Memᴰ v ws → v .reg < x .reg) → Sorted ws → Sorted (queue x ws)
 unfolding queue
-queue-sorted x [] s = ((λ v h. absurd (List·Memᴰ·not-nil h)), tt)
-queue-sorted x (w ∷ ws) s = go (bool-cases (ltb (x .under) (w .under))) (queue-sorted x ws (s .1))
+queue-sorted x [] n s = ((λ v h. absurd (List·Memᴰ·not-nil h)), tt)
+queue-sorted x (w ∷ ws) n s = go (bool-cases (ltb (x .under) (w .under))) (queue-sorted x ws (λ v h. n v (List·Memᴰ·tail h)) (s .1))
   where
-    front : ltb (x .under) (w .under) ≡ true → (v : Pending) → (v ≡ w) ⊎ List·Memᴰ v ws → x .under ≤ v .under
-    front e v (inl h) = rw h (omega (arith, ltb-true (x .under) (w .under) e))
-    front e v (inr h) = omega (arith, ltb-true (x .under) (w .under) e, s .0 v h)
+    front : ltb (x .under) (w .under) ≡ true → (v : Pending) → (v ≡ w) ⊎ List·Memᴰ v ws → Before x v
+    front e v (inl h) = inl (rw h (omega (arith, ltb-true (x .under) (w .under) e)))
+    front e v (inr h) = inl (omega (arith, ltb-true (x .under) (w .under) e, before-le w v (s .0 v h)))
 
-    back : ltb (x .under) (w .under) ≡ false → (v : Pending) → (v ≡ x) ⊎ List·Memᴰ v ws → w .under ≤ v .under
-    back e v (inl h) = rw h (ltb-false (x .under) (w .under) e)
+    last : w .under ≤ x .under → (w .under < x .under) ⊎ (x .under ≤ w .under) → Before w x
+    last a (inl b) = inl b
+    last a (inr b) = inr (omega arith, n w (List·Memᴰ·head refl))
+
+    back : ltb (x .under) (w .under) ≡ false → (v : Pending) → (v ≡ x) ⊎ List·Memᴰ v ws → Before w v
+    back e v (inl h) = rw h (last (ltb-false (x .under) (w .under) e) (lt-or-le (w .under) (x .under)))
     back e v (inr h) = s .0 v h
 
     go : (ltb (x .under) (w .under) ≡ true) ⊎ (ltb (x .under) (w .under) ≡ false) → Sorted (queue x ws) → Sorted (queue x (w ∷ ws))
@@ -217,7 +229,7 @@ module _ (P N W : ℕ) (hP : 1 ≤ P) where
   unfolding with-add keep watermark tracked reg-of
   waiting-queued a k v e p =
       record {
-        sorted = queue-sorted x (k .pending) (p .sorted);
+        sorted = queue-sorted x (k .pending) (λ u h. v .pending-ok u h .0) (p .sorted);
         above = λ w h. over w (queue-from x (k .pending) w h);
         others = λ r h. go r (lt-or-le r (length (k .adds))) (simp length-append at h);
       }
@@ -237,9 +249,9 @@ module _ (P N W : ℕ) (hP : 1 ≤ P) where
       go r (inl y) h = rw (reg-of-old a k r y) (still r (p .others r y))
       go r (inr y) h = inl (x, in-queue x (k .pending), omega arith)
 
-  waiting-opening : Waiting N initial []
+  pub waiting-initial : Waiting N initial []
   unfolding initial
-  waiting-opening = record { sorted = tt; above = λ w h. absurd (List·Memᴰ·not-nil h); others = λ r h. absurd (omega arith) }
+  waiting-initial = record { sorted = tt; above = λ w h. absurd (List·Memᴰ·not-nil h); others = λ r h. absurd (omega arith) }
 
   waiting-flushing : (f : ℕ) (c : Bool) (k : Model) → Waiting N k [] → Waiting N (with-flush P f c k) []
   unfolding with-flush watermark tracked reg-of
@@ -249,18 +261,18 @@ module _ (P N W : ℕ) (hP : 1 ≤ P) where
   unfolding with-record watermark tracked reg-of
   waiting-recording d k p = record { sorted = p .sorted; above = p .above; others = p .others }
 
-  waiting-kept : Kept P N W (Waiting N)
+  pub waiting-kept : Kept P N W (Waiting N)
   unfolding place-one with-set reg-of
   waiting-kept =
       record {
-        placing = λ c r st k v p. moved P N k (place-one P c r k) (r ∷ st) _ v p refl refl (λ t. refl) (tracked-place P c r k);
+        placing = λ c r st k l v p. moved P N k (place-one P c r k) (r ∷ st) _ v p refl refl (λ t. refl) (tracked-place P c r k);
         setting = λ x k v a p. moved P N k (with-set x k) [] _ v p refl refl (λ t. refl) (tracked-set x k);
         adding = λ ins outs k v a e p. waiting-adding _ k v e p;
         waiting = λ ins outs k v a e p. waiting-queued _ k v e p;
         flushing = λ k v a p. waiting-flushing _ _ k p;
         closing = λ k v a p. waiting-flushing _ _ k p;
-        recording = waiting-recording;
+        recording = λ d k v n p. waiting-recording d k p;
       }
 
   pub waiting : (cs : List Call) → Waiting N (run P N W cs initial) []
-  waiting cs = kept P N W hP (Waiting N) waiting-kept waiting-opening cs
+  waiting cs = kept P N W hP (Waiting N) waiting-kept waiting-initial cs

@@ -1,0 +1,108 @@
+-- What an accepted call has passed: each check of its list, as a fact.
+use mathlib.Core.Path.{_≡_, refl, sym, ap, _∙_}
+use mathlib.Core.List.{List, [], _∷_, _++_, List·Memᴰ, List·Memᴰ·head, List·Memᴰ·tail, List·Memᴰ·not-nil, List·Memᴰ·cases-cons, Memᴰ·append-left, Memᴰ·append-right}
+use mathlib.Core.Logic.{_⊎_, inl, inr, _≢_}
+use mathlib.Core.Bool.{Bool, true, false, _||_, false≢true}
+use Prim.Native.Nat.{ℕ, zero, suc, _+_, _≤_, _<_}
+use native.Mathlib.Omega.{arith}
+use lib.ListN.{length}
+use lib.Dec.{leb, ltb}
+use borrow.Author.Tests.{ltb-false, leb-false}
+use Rattle.rules.specs.Model.{Model}
+use Rattle.rules.specs.Calls.{Call, set, add, flush, final, checks, answer}
+use Rattle.rules.specs.Checks.{Check, verdict, any, repeats, taken, pooled, check-set, check-add, check-flush, check-final, check-closed, check-places}
+use Rattle.laws.specs.ModelBase.{In, bool-cases}
+
+-- a list of checks gives 0: its first passes, and so do the others
+pub verdict-head : (c : Check) (cs : List Check) → verdict (c ∷ cs) ≡ 0 → c .number ≢ 0 → (c .fails ≡ false) × (verdict cs ≡ 0)
+unfolding verdict
+verdict-head c cs h n = go (bool-cases (c .fails))
+  where
+    go : (c .fails ≡ true) ⊎ (c .fails ≡ false) → (c .fails ≡ false) × (verdict cs ≡ 0)
+    go (inl e) = absurd (n (rw (e, verdict) at h))
+    go (inr e) = (e, rw (e, verdict) at h)
+
+pub any-false : (t : ℕ → Bool) (l : List ℕ) (i : ℕ) → any t l ≡ false → In i l → t i ≡ false
+unfolding any
+any-false t [] i h y = absurd (List·Memᴰ·not-nil y)
+any-false t (x ∷ l) i h y = go (bool-cases (t x)) (List·Memᴰ·cases-cons y) (λ z. any-false t l i z)
+  where
+    go : (t x ≡ true) ⊎ (t x ≡ false) → (i ≡ x) ⊎ In i l → (any t l ≡ false → In i l → t i ≡ false) → t i ≡ false
+    go (inl e) y f = absurd (false≢true (sym (rw e at h)))
+    go (inr e) (inl y) f = rw y e
+    go (inr e) (inr y) f = f (rw e at h) y
+
+pub or-false : (a b : Bool) → (a || b) ≡ false → (a ≡ false) × (b ≡ false)
+or-false true b h = absurd (false≢true (sym h))
+or-false false b h = (refl, h)
+
+pub record SetPassed (N x : ℕ) (k : Model) : Type 0 where
+  pub not-closed : k .closed ≡ false
+  pub inside : x < N
+  pub free : taken k x ≡ false
+
+pub record AddPassed (N W : ℕ) (ins outs : List ℕ) (k : Model) : Type 0 where
+  pub not-closed : k .closed ≡ false
+  pub ins-few : length ins ≤ 65535
+  pub outs-few : length outs ≤ 65535
+  pub ins-inside : (i : ℕ) → In i ins → i < N
+  pub outs-inside : (i : ℕ) → In i outs → i < N
+  pub once : repeats outs ≡ false
+  pub free : (i : ℕ) → In i outs → taken k i ≡ false
+  pub more : length (k .adds) < N
+  pub room : pooled (k .adds) + length ins + length outs ≤ W
+
+pub record FlushPassed (k : Model) : Type 0 where
+  pub not-closed : k .closed ≡ false
+  pub few : k .flushes < 65535
+
+pub record FinalPassed (k : Model) : Type 0 where
+  pub not-closed : k .closed ≡ false
+  pub none : length (k .pending) ≡ 0
+
+pub set-passed : (N W x : ℕ) (k : Model) → answer N W (set x) k ≡ 0 → SetPassed N x k
+unfolding answer checks check-set check-add check-flush check-final check-closed check-places any
+set-passed N W x k h =
+    let a = verdict-head _ _ h (omega arith) in
+    let b = verdict-head _ _ (a .1) (omega arith) in
+    let c = verdict-head _ _ (b .1) (omega arith) in
+    let d = verdict-head _ _ (c .1) (omega arith) in
+    record { not-closed = a .0; inside = leb-false N x (any-false (λ y. leb N y) (x ∷ []) x (c .0) (List·Memᴰ·head refl)); free = d .0 }
+
+pub add-passed : (N W : ℕ) (ins outs : List ℕ) (k : Model) → answer N W (add ins outs) k ≡ 0 → AddPassed N W ins outs k
+unfolding answer checks check-set check-add check-flush check-final check-closed check-places
+add-passed N W ins outs k h =
+    let a = verdict-head _ _ h (omega arith) in
+    let b = verdict-head _ _ (a .1) (omega arith) in
+    let few = or-false _ _ (b .0) in
+    let c = verdict-head _ _ (b .1) (omega arith) in
+    let d = verdict-head _ _ (c .1) (omega arith) in
+    let e = verdict-head _ _ (d .1) (omega arith) in
+    let f = verdict-head _ _ (e .1) (omega arith) in
+    let g = verdict-head _ _ (f .1) (omega arith) in
+    let m = verdict-head _ _ (g .1) (omega arith) in
+    record {
+      not-closed = a .0;
+      ins-few = ltb-false 65535 (length ins) (few .0);
+      outs-few = ltb-false 65535 (length outs) (few .1);
+      ins-inside = λ i y. leb-false N i (any-false (λ x. leb N x) (ins ++ outs) i (d .0) (Memᴰ·append-left outs y));
+      outs-inside = λ i y. leb-false N i (any-false (λ x. leb N x) (ins ++ outs) i (d .0) (Memᴰ·append-right ins y));
+      once = e .0;
+      free = λ i y. any-false (taken k) outs i (f .0) y;
+      more = leb-false N (length (k .adds)) (g .0);
+      room = ltb-false W (pooled (k .adds) + length ins + length outs) (m .0);
+    }
+
+pub flush-passed : (N W : ℕ) (k : Model) → answer N W flush k ≡ 0 → FlushPassed k
+unfolding answer checks check-set check-add check-flush check-final check-closed check-places
+flush-passed N W k h =
+    let a = verdict-head _ _ h (omega arith) in
+    let b = verdict-head _ _ (a .1) (omega arith) in
+    record { not-closed = a .0; few = leb-false 65535 (k .flushes) (b .0) }
+
+pub final-passed : (N W : ℕ) (k : Model) → answer N W final k ≡ 0 → FinalPassed k
+unfolding answer checks check-set check-add check-flush check-final check-closed check-places
+final-passed N W k h =
+    let a = verdict-head _ _ h (omega arith) in
+    let b = verdict-head _ _ (a .1) (omega arith) in
+    record { not-closed = a .0; none = omega (arith, ltb-false 0 (length (k .pending)) (b .0)) }

@@ -1,0 +1,125 @@
+-- What the checks keep bounded: the counts of registrations, list numbers and plain flushes, and the places that lists and sets name.
+use mathlib.Core.Path.{_≡_, refl, sym, ap, _∙_}
+use mathlib.Core.List.{List, [], _∷_, _++_, List·Memᴰ, List·Memᴰ·not-nil, List·Memᴰ·cases-cons}
+use mathlib.Core.Logic.{_⊎_, inl, inr, _≢_}
+use Prim.Native.Nat.{ℕ, zero, suc, _+_, _≤_, _<_}
+use mathlib.Core.Bool.{Bool, true, false}
+use native.Mathlib.Omega.{arith}
+use lib.ListN.{length, getD, length-append, List·getD-eq-default}
+use Rattle.rules.specs.Model.{with-record, Reg, Pending, Model, greatest, reg-of, place-one, keep, queue, push, off, rest, with-set, with-add, with-flush, initial}
+use Rattle.rules.specs.Calls.{Call, run}
+use Rattle.rules.specs.Checks.{repeats, pooled}
+use Rattle.laws.specs.ModelBase.{In}
+use Rattle.laws.specs.History.{lt-or-le}
+use Rattle.laws.specs.GuideInv.{eq-or-ne}
+use Rattle.laws.specs.ModelInv.{reg-of-old, reg-of-new}
+use Rattle.laws.specs.Accepted.{AddPassed, set-passed, add-passed, flush-passed}
+use Rattle.laws.specs.Kept.{Kept, kept}
+
+-- every one of a list is below N
+abbrev pub Below : ℕ → List ℕ → Type 0
+Below N l = (i : ℕ) → In i l → i < N
+
+-- the counts
+pub record Limits (N W : ℕ) (k : Model) (st : List ℕ) : Type 0 where
+  pub many : length (k .adds) ≤ N
+  pub pool : pooled (k .adds) ≤ W
+  pub few : k .flushes ≤ 65535
+  pub rows : length (k .recorded .written) ≤ length (k .adds)
+
+-- an accepted registration's lists
+pub record Listed (N : ℕ) (a : Reg) : Type 0 where
+  pub ins-few : length (a .ins) ≤ 65535
+  pub outs-few : length (a .outs) ≤ 65535
+  pub ins-below : Below N (a .ins)
+  pub outs-below : Below N (a .outs)
+  pub outs-once : repeats (a .outs) ≡ false
+
+-- the places
+pub record Inside (N : ℕ) (k : Model) (st : List ℕ) : Type 0 where
+  pub lists : (r : ℕ) → Listed N (reg-of k r)
+  pub sets-below : Below N (k .sets)
+
+pooled-append : (l : List Reg) (a : Reg) → pooled (l ++ (a ∷ [])) ≡ pooled l + length (a .ins) + length (a .outs)
+unfolding pooled
+pooled-append [] a = omega arith
+pooled-append (x ∷ l) a = omega (arith, pooled-append l a)
+
+-- after one more is accepted a registration is what it was, or it is the new one
+reg-cases : (a : Reg) (k : Model) (r : ℕ) → (reg-of (with-add a k) r ≡ reg-of k r) ⊎ (reg-of (with-add a k) r ≡ a)
+unfolding reg-of with-add
+reg-cases a k r = go (lt-or-le r (length (k .adds))) (eq-or-ne r (length (k .adds)))
+  where
+    go : (r < length (k .adds)) ⊎ (length (k .adds) ≤ r) → (r ≡ length (k .adds)) ⊎ (r ≢ length (k .adds)) → (reg-of (with-add a k) r ≡ reg-of k r) ⊎ (reg-of (with-add a k) r ≡ a)
+    go (inl h) e = inl (reg-of-old a k r h)
+    go (inr h) (inl e) = inr (ap (reg-of (with-add a k)) e ∙ reg-of-new a k)
+    go (inr h) (inr e) = inl (List·getD-eq-default (k .adds ++ (a ∷ [])) _ {n = r} (simp length-append (omega arith)) ∙ sym (List·getD-eq-default (k .adds) _ {n = r} h))
+
+module _ (P N W : ℕ) where
+  limits-adding : (ins outs : List ℕ) (k : Model) (st : List ℕ) → length (k .adds) < N → pooled (k .adds) + length ins + length outs ≤ W → Limits N W k [] → Limits N W (with-add (record { ins = ins; outs = outs }) k) st
+  unfolding with-add
+  limits-adding ins outs k st h p l =
+      record {
+        many = simp length-append (omega arith);
+        pool = rw (pooled-append (k .adds) (record { ins = ins; outs = outs })) p;
+        few = l .few;
+        rows = simp length-append (omega (arith, l .rows));
+      }
+
+  pub limits-kept : Kept P N W (Limits N W)
+  unfolding rest keep with-set place-one with-flush with-record
+  limits-kept =
+      record {
+        placing = λ c r st k h v l. record { many = l .many; pool = l .pool; few = l .few; rows = l .rows };
+        setting = λ x k v a l. record { many = l .many; pool = l .pool; few = l .few; rows = l .rows };
+        adding = λ ins outs k v a e l. let p = add-passed N W ins outs k a in limits-adding ins outs k _ (p .more) (p .room) l;
+        waiting = λ ins outs k v a e l. let p = add-passed N W ins outs k a in let m = limits-adding ins outs k [] (p .more) (p .room) l in record { many = m .many; pool = m .pool; few = m .few; rows = m .rows };
+        flushing = λ k v a l. record { many = l .many; pool = l .pool; few = omega (arith, flush-passed N W k a .few); rows = l .rows };
+        closing = λ k v a l. record { many = l .many; pool = l .pool; few = l .few; rows = l .rows };
+        recording = λ d k v n l. record { many = l .many; pool = l .pool; few = l .few; rows = omega (arith, n .many) };
+      }
+
+  inside-adding : (ins outs : List ℕ) (k : Model) (st : List ℕ) → Listed N (record { ins = ins; outs = outs }) → Inside N k [] → Inside N (with-add (record { ins = ins; outs = outs }) k) st
+  unfolding with-add
+  inside-adding ins outs k st g l = record { lists = λ r. go r (reg-cases _ k r); sets-below = l .sets-below }
+    where
+      go : (r : ℕ) → (reg-of (with-add (record { ins = ins; outs = outs }) k) r ≡ reg-of k r) ⊎ (reg-of (with-add (record { ins = ins; outs = outs }) k) r ≡ record { ins = ins; outs = outs })
+          → Listed N (reg-of (with-add (record { ins = ins; outs = outs }) k) r)
+      go r (inl e) = rw e (l .lists r)
+      go r (inr e) = rw e g
+
+  -- what the checks say of an accepted add's lists
+  passed-listed : (ins outs : List ℕ) (k : Model) → AddPassed N W ins outs k → Listed N (record { ins = ins; outs = outs })
+  passed-listed ins outs k p = record { ins-few = p .ins-few; outs-few = p .outs-few; ins-below = p .ins-inside; outs-below = p .outs-inside; outs-once = p .once }
+
+  set-below : (x : ℕ) (k : Model) → x < N → Below N (k .sets) → Below N (x ∷ k .sets)
+  set-below x k h b i y = go (List·Memᴰ·cases-cons y)
+    where
+      go : (i ≡ x) ⊎ In i (k .sets) → i < N
+      go (inl e) = omega arith
+      go (inr e) = b i e
+
+  pub inside-kept : Kept P N W (Inside N)
+  unfolding rest keep with-set place-one with-flush with-record reg-of
+  inside-kept =
+      record {
+        placing = λ c r st k h v l. record { lists = l .lists; sets-below = l .sets-below };
+        setting = λ x k v a l. record { lists = l .lists; sets-below = set-below x k (set-passed N W x k a .inside) (l .sets-below) };
+        adding = λ ins outs k v a e l. inside-adding ins outs k _ (passed-listed ins outs k (add-passed N W ins outs k a)) l;
+        waiting = λ ins outs k v a e l. let m = inside-adding ins outs k [] (passed-listed ins outs k (add-passed N W ins outs k a)) l in record { lists = m .lists; sets-below = m .sets-below };
+        flushing = λ k v a l. record { lists = l .lists; sets-below = l .sets-below };
+        closing = λ k v a l. record { lists = l .lists; sets-below = l .sets-below };
+        recording = λ d k v n l. record { lists = l .lists; sets-below = l .sets-below };
+      }
+
+pub limits-initial : (N W : ℕ) → Limits N W initial []
+unfolding initial pooled
+limits-initial N W = record { many = omega arith; pool = omega arith; few = omega arith; rows = omega arith }
+
+pub inside-initial : (N : ℕ) → Inside N initial []
+unfolding initial reg-of repeats
+inside-initial N =
+    record {
+      lists = λ r. record { ins-few = omega arith; outs-few = omega arith; ins-below = λ i h. absurd (List·Memᴰ·not-nil h); outs-below = λ i h. absurd (List·Memᴰ·not-nil h); outs-once = refl };
+      sets-below = λ i h. absurd (List·Memᴰ·not-nil h);
+    }

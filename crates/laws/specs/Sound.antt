@@ -1,0 +1,181 @@
+-- What holds of every reachable model with a stack of registrations still to be placed, as one record, and that each part of each
+-- call keeps it. Between calls the stack is empty and the record has a row for each accepted registration (`Between`).
+use mathlib.Core.Path.{_≡_, refl}
+use mathlib.Core.List.{List, [], _∷_}
+use mathlib.Core.Bool.{Bool, true, false, false≢true}
+use mathlib.Core.Logic.{_⊎_, inl, inr}
+use Prim.Native.Nat.{ℕ, zero, suc, _+_, _≤_, _<_}
+use native.Mathlib.Omega.{arith}
+use lib.ListN.{length}
+use Rattle.rules.specs.Guide.{fresh}
+use Rattle.rules.specs.Model.{Recorded, with-record, Model, watermark, ready, greatest, place-one, keep, queue, push, off, rest, with-set, with-add, with-flush, settle-all, initial}
+use Rattle.rules.specs.Calls.{Call, set, add, flush, final, answer, step, run}
+use Rattle.laws.specs.ModelInv.{Inv, place-one-inv, off-inv, with-set-inv, queued-inv, flush-inv, record-inv, initial-inv, add-stack, push-from}
+use Rattle.laws.specs.Kept.{Kept, Notes, Noted, settle-kept, step-kept, step-noted, initial-noted}
+use Rattle.laws.specs.Balance.{Balance, balance-kept, balance-initial}
+use Rattle.laws.specs.Apart.{Apart, apart-kept, apart-initial}
+use Rattle.laws.specs.Waiting.{Waiting, waiting-kept, waiting-initial}
+use Rattle.laws.specs.Closed.{Done, done-kept}
+use Rattle.laws.specs.Ceiling.{Ceiling, ceiling-kept}
+use Rattle.laws.specs.Limits.{Limits, limits-kept, limits-initial, Inside, inside-kept, inside-initial}
+
+pub record Sound (P N W : ℕ) (k : Model) (st : List ℕ) : Type 0 where
+  -- window, order and history; what is placed reads what was set or lies before it; who is on the stack is ready
+  pub inv : Inv P N k st
+  -- each accepted registration is written, held, pending or on the stack, once
+  pub balance : (φ : ℕ → ℕ) → Balance φ k st
+  -- at most two released spans for each placing and 32 for each flush
+  pub ceiling : Ceiling k st
+  -- a place is set or written by one registration
+  pub apart : Apart k st
+  -- who waits, and in which order
+  pub waiting : Waiting N k st
+  -- nothing waits and nothing is held once closed
+  pub done : Done k st
+  -- the counts, and the places of sets and lists
+  pub limits : Limits N W k st
+  pub inside : Inside N k st
+
+module _ (P N W : ℕ) (hP : 1 ≤ P) where
+  pub inv-kept : Kept P N W (Inv P N)
+  inv-kept =
+      record {
+        placing = λ c r st k l v i. off-inv P N (place-one P c r k) st (place-one-inv P N c r st k hP i) (push (off N (place-one P c r k)) st) (push-from (off N (place-one P c r k)) st);
+        setting = λ x k v a i. off-inv P N (with-set x k) [] (with-set-inv P N hP k i x) (off N (with-set x k)) (λ r h. inl h);
+        adding = λ ins outs k v a e i. add-stack P N hP k i _ e;
+        waiting = λ ins outs k v a e i. queued-inv P N hP k i _;
+        flushing = λ k v a i. flush-inv P N hP k i _ _;
+        closing = λ k v a i. flush-inv P N hP k i _ _;
+        recording = λ d k v n i. record-inv P N d k [] i;
+      }
+
+  pub sound-kept : Kept P N W (Sound P N W)
+  sound-kept =
+      record {
+        placing = λ c r st k l v s. record {
+          inv = inv-kept .placing c r st k l v (s .inv);
+          balance = λ φ. balance-kept φ P N W hP .placing c r st k l v (s .balance φ);
+          ceiling = ceiling-kept P N W hP .placing c r st k l v (s .ceiling);
+          apart = apart-kept P N W hP .placing c r st k l v (s .apart);
+          waiting = waiting-kept P N W hP .placing c r st k l v (s .waiting);
+          done = done-kept P N W hP .placing c r st k l v (s .done);
+          limits = limits-kept P N W .placing c r st k l v (s .limits);
+          inside = inside-kept P N W .placing c r st k l v (s .inside);
+        };
+        setting = λ x k v a s. record {
+          inv = inv-kept .setting x k v a (s .inv);
+          balance = λ φ. balance-kept φ P N W hP .setting x k v a (s .balance φ);
+          ceiling = ceiling-kept P N W hP .setting x k v a (s .ceiling);
+          apart = apart-kept P N W hP .setting x k v a (s .apart);
+          waiting = waiting-kept P N W hP .setting x k v a (s .waiting);
+          done = done-kept P N W hP .setting x k v a (s .done);
+          limits = limits-kept P N W .setting x k v a (s .limits);
+          inside = inside-kept P N W .setting x k v a (s .inside);
+        };
+        adding = λ ins outs k v a e s. record {
+          inv = inv-kept .adding ins outs k v a e (s .inv);
+          balance = λ φ. balance-kept φ P N W hP .adding ins outs k v a e (s .balance φ);
+          ceiling = ceiling-kept P N W hP .adding ins outs k v a e (s .ceiling);
+          apart = apart-kept P N W hP .adding ins outs k v a e (s .apart);
+          waiting = waiting-kept P N W hP .adding ins outs k v a e (s .waiting);
+          done = done-kept P N W hP .adding ins outs k v a e (s .done);
+          limits = limits-kept P N W .adding ins outs k v a e (s .limits);
+          inside = inside-kept P N W .adding ins outs k v a e (s .inside);
+        };
+        waiting = λ ins outs k v a e s. record {
+          inv = inv-kept .waiting ins outs k v a e (s .inv);
+          balance = λ φ. balance-kept φ P N W hP .waiting ins outs k v a e (s .balance φ);
+          ceiling = ceiling-kept P N W hP .waiting ins outs k v a e (s .ceiling);
+          apart = apart-kept P N W hP .waiting ins outs k v a e (s .apart);
+          waiting = waiting-kept P N W hP .waiting ins outs k v a e (s .waiting);
+          done = done-kept P N W hP .waiting ins outs k v a e (s .done);
+          limits = limits-kept P N W .waiting ins outs k v a e (s .limits);
+          inside = inside-kept P N W .waiting ins outs k v a e (s .inside);
+        };
+        flushing = λ k v a s. record {
+          inv = inv-kept .flushing k v a (s .inv);
+          balance = λ φ. balance-kept φ P N W hP .flushing k v a (s .balance φ);
+          ceiling = ceiling-kept P N W hP .flushing k v a (s .ceiling);
+          apart = apart-kept P N W hP .flushing k v a (s .apart);
+          waiting = waiting-kept P N W hP .flushing k v a (s .waiting);
+          done = done-kept P N W hP .flushing k v a (s .done);
+          limits = limits-kept P N W .flushing k v a (s .limits);
+          inside = inside-kept P N W .flushing k v a (s .inside);
+        };
+        closing = λ k v a s. record {
+          inv = inv-kept .closing k v a (s .inv);
+          balance = λ φ. balance-kept φ P N W hP .closing k v a (s .balance φ);
+          ceiling = ceiling-kept P N W hP .closing k v a (s .ceiling);
+          apart = apart-kept P N W hP .closing k v a (s .apart);
+          waiting = waiting-kept P N W hP .closing k v a (s .waiting);
+          done = done-kept P N W hP .closing k v a (s .done);
+          limits = limits-kept P N W .closing k v a (s .limits);
+          inside = inside-kept P N W .closing k v a (s .inside);
+        };
+        recording = λ d k v n s. record {
+          inv = inv-kept .recording d k v n (s .inv);
+          balance = λ φ. balance-kept φ P N W hP .recording d k v n (s .balance φ);
+          ceiling = ceiling-kept P N W hP .recording d k v n (s .ceiling);
+          apart = apart-kept P N W hP .recording d k v n (s .apart);
+          waiting = waiting-kept P N W hP .recording d k v n (s .waiting);
+          done = done-kept P N W hP .recording d k v n (s .done);
+          limits = limits-kept P N W .recording d k v n (s .limits);
+          inside = inside-kept P N W .recording d k v n (s .inside);
+        };
+      }
+
+  -- the same for a caller that has `Sound` alone
+  pub sound-placing : (c r : ℕ) (st : List ℕ) (k : Model) → c ≤ length (k .adds) → Sound P N W k (r ∷ st) → Sound P N W (rest N (place-one P c r k)) (push (off N (place-one P c r k)) st)
+  sound-placing c r st k l s = sound-kept .placing c r st k l (s .inv) s
+
+  pub sound-settled : (c : ℕ) (st : List ℕ) (k : Model) → c ≤ length (k .adds) → Sound P N W k st → Sound P N W (settle-all P N c st k) []
+  sound-settled c st k l s = settle-kept P N W hP (Sound P N W) sound-kept c st k l (s .inv) s
+
+  pub sound-setting : (x : ℕ) (k : Model) → answer N W (set x) k ≡ 0 → Sound P N W k [] → Sound P N W (rest N (with-set x k)) (off N (with-set x k))
+  sound-setting x k a s = sound-kept .setting x k (s .inv) a s
+
+  pub sound-adding : (ins outs : List ℕ) (k : Model) → answer N W (add ins outs) k ≡ 0 → ready (watermark N k) ins ≡ true → Sound P N W k []
+      → Sound P N W (with-add (record { ins = ins; outs = outs }) k) (length (k .adds) ∷ [])
+  sound-adding ins outs k a e s = sound-kept .adding ins outs k (s .inv) a e s
+
+  pub sound-delaying : (ins outs : List ℕ) (k : Model) → answer N W (add ins outs) k ≡ 0 → ready (watermark N k) ins ≡ false → Sound P N W k []
+      → Sound P N W (keep (queue (record { under = greatest ins; reg = length (k .adds) }) (k .pending)) (with-add (record { ins = ins; outs = outs }) k)) []
+  sound-delaying ins outs k a e s = sound-kept .waiting ins outs k (s .inv) a e s
+
+-- a model between calls
+pub record Between (P N W : ℕ) (k : Model) : Type 0 where
+  pub sound : Sound P N W k []
+  pub noted : length (k .recorded .written) ≡ length (k .adds)
+
+pub between-initial : (P N W : ℕ) → 1 ≤ P → Between P N W initial
+unfolding initial fresh
+between-initial P N W hP =
+    record {
+      sound = record {
+        inv = initial-inv P N;
+        balance = λ φ. balance-initial φ;
+        ceiling = omega arith;
+        apart = apart-initial;
+        waiting = waiting-initial P N W hP;
+        done = λ e. absurd (false≢true e);
+        limits = limits-initial N W;
+        inside = inside-initial N;
+      };
+      noted = initial-noted;
+    }
+
+pub between-step : (P N W : ℕ) → 1 ≤ P → (c : Call) (k : Model) → Between P N W k → Between P N W (step P N W c k)
+between-step P N W hP c k b =
+    record { sound = step-kept P N W hP (Sound P N W) (sound-kept P N W hP) c k (b .sound .inv) (b .noted) (b .sound); noted = step-noted P N k (b .noted) W c }
+
+pub between-run : (P N W : ℕ) → 1 ≤ P → (cs : List Call) (k : Model) → Between P N W k → Between P N W (run P N W cs k)
+unfolding run
+between-run P N W hP [] k b = b
+between-run P N W hP (c ∷ cs) k b = between-run P N W hP cs (step P N W c k) (between-step P N W hP c k b)
+
+-- every reachable model
+pub between : (P N W : ℕ) → 1 ≤ P → (cs : List Call) → Between P N W (run P N W cs initial)
+between P N W hP cs = between-run P N W hP cs initial (between-initial P N W hP)
+
+pub sound : (P N W : ℕ) → 1 ≤ P → (cs : List Call) → Sound P N W (run P N W cs initial) []
+sound P N W hP cs = between P N W hP cs .sound
