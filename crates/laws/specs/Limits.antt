@@ -17,8 +17,8 @@ use Rattle.laws.specs.Accepted.{AddPassed, set-passed, add-passed, flush
 use Rattle.laws.specs.Kept.{Kept, kept}
 
 -- every one of a list is below N
-abbrev pub Below : ℕ → List ℕ → Type 0
-Below N l = (i : ℕ) → In i l → i < N
+abbrev pub AllBelow : ℕ → List ℕ → Type 0
+AllBelow N l = (i : ℕ) → In i l → i < N
 
 -- the counts
 pub record Limits (N W : ℕ) (k : Model) (st : List ℕ) : Type 0 where
@@ -28,17 +28,17 @@ pub record Limits (N W : ℕ) (k : Model) (st : List ℕ) : Type 0 where
   pub rows : length (k .recorded .written) ≤ length (k .adds)
 
 -- an accepted registration's lists
-pub record Listed (N : ℕ) (a : Reg) : Type 0 where
+pub record Bounded (N : ℕ) (a : Reg) : Type 0 where
   pub ins-few : length (a .ins) ≤ 65535
   pub outs-few : length (a .outs) ≤ 65535
-  pub ins-below : Below N (a .ins)
-  pub outs-below : Below N (a .outs)
+  pub ins-below : AllBelow N (a .ins)
+  pub outs-below : AllBelow N (a .outs)
   pub outs-once : repeats (a .outs) ≡ false
 
 -- the places
 pub record Inside (N : ℕ) (k : Model) (st : List ℕ) : Type 0 where
-  pub lists : (r : ℕ) → Listed N (reg-of k r)
-  pub sets-below : Below N (k .sets)
+  pub lists : (r : ℕ) → Bounded N (reg-of k r)
+  pub sets-below : AllBelow N (k .sets)
 
 pooled-append : (l : List Reg) (a : Reg) → pooled (l ++ (a ∷ [])) ≡ pooled l + length (a .ins) + length (a .outs)
 unfolding pooled
@@ -79,20 +79,20 @@ module _ (P N W : ℕ) where
         recording = λ d k v n l. record { many = l .many; pool = l .pool; few = l .few; rows = omega (arith, n .many) };
       }
 
-  inside-adding : (ins outs : List ℕ) (k : Model) (st : List ℕ) → Listed N (record { ins = ins; outs = outs }) → Inside N k [] → Inside N (with-add (record { ins = ins; outs = outs }) k) st
+  inside-adding : (ins outs : List ℕ) (k : Model) (st : List ℕ) → Bounded N (record { ins = ins; outs = outs }) → Inside N k [] → Inside N (with-add (record { ins = ins; outs = outs }) k) st
   unfolding with-add
   inside-adding ins outs k st g l = record { lists = λ r. go r (reg-cases _ k r); sets-below = l .sets-below }
     where
       go : (r : ℕ) → (reg-of (with-add (record { ins = ins; outs = outs }) k) r ≡ reg-of k r) ⊎ (reg-of (with-add (record { ins = ins; outs = outs }) k) r ≡ record { ins = ins; outs = outs })
-          → Listed N (reg-of (with-add (record { ins = ins; outs = outs }) k) r)
+          → Bounded N (reg-of (with-add (record { ins = ins; outs = outs }) k) r)
       go r (inl e) = rw e (l .lists r)
       go r (inr e) = rw e g
 
   -- what the checks say of an accepted add's lists
-  passed-listed : (ins outs : List ℕ) (k : Model) → AddPassed N W ins outs k → Listed N (record { ins = ins; outs = outs })
-  passed-listed ins outs k p = record { ins-few = p .ins-few; outs-few = p .outs-few; ins-below = p .ins-inside; outs-below = p .outs-inside; outs-once = p .once }
+  passed-bounded : (ins outs : List ℕ) (k : Model) → AddPassed N W ins outs k → Bounded N (record { ins = ins; outs = outs })
+  passed-bounded ins outs k p = record { ins-few = p .ins-few; outs-few = p .outs-few; ins-below = p .ins-inside; outs-below = p .outs-inside; outs-once = p .once }
 
-  set-below : (x : ℕ) (k : Model) → x < N → Below N (k .sets) → Below N (x ∷ k .sets)
+  set-below : (x : ℕ) (k : Model) → x < N → AllBelow N (k .sets) → AllBelow N (x ∷ k .sets)
   set-below x k h b i y = go (List·Memᴰ·cases-cons y)
     where
       go : (i ≡ x) ⊎ In i (k .sets) → i < N
@@ -105,8 +105,8 @@ module _ (P N W : ℕ) where
       record {
         placing = λ c r st k h v l. record { lists = l .lists; sets-below = l .sets-below };
         setting = λ x k v a l. record { lists = l .lists; sets-below = set-below x k (set-passed N W x k a .inside) (l .sets-below) };
-        adding = λ ins outs k v a e l. inside-adding ins outs k _ (passed-listed ins outs k (add-passed N W ins outs k a)) l;
-        waiting = λ ins outs k v a e l. let m = inside-adding ins outs k [] (passed-listed ins outs k (add-passed N W ins outs k a)) l in record { lists = m .lists; sets-below = m .sets-below };
+        adding = λ ins outs k v a e l. inside-adding ins outs k _ (passed-bounded ins outs k (add-passed N W ins outs k a)) l;
+        waiting = λ ins outs k v a e l. let m = inside-adding ins outs k [] (passed-bounded ins outs k (add-passed N W ins outs k a)) l in record { lists = m .lists; sets-below = m .sets-below };
         flushing = λ k v a l. record { lists = l .lists; sets-below = l .sets-below };
         closing = λ k v a l. record { lists = l .lists; sets-below = l .sets-below };
         recording = λ d k v n l. record { lists = l .lists; sets-below = l .sets-below };

@@ -20,7 +20,7 @@ use Rattle.laws.specs.Balance.{esum, hsum, wsum, qsum, lsum, below, Bala
 use Rattle.laws.specs.Once.{hsum-at, one-of, one-same, below-le, wsum-one, qsum-one, hsum-one, below-all}
 use Rattle.laws.specs.Ceiling.{Ceiling, ended}
 use Rattle.laws.specs.Waiting.{Sorted, not-ready}
-use Rattle.laws.specs.Limits.{Below, Listed}
+use Rattle.laws.specs.Limits.{AllBelow, Bounded}
 use Rattle.laws.specs.Order.{no-written, nth, bounds, order-known}
 use Rattle.laws.specs.Sound.{Sound}
 
@@ -38,7 +38,7 @@ pub record Fits (P N : ℕ) (k : Model) : Type 0 where
   pub parallelisms : (j : ℕ) → j < length (k .guide .order) → (1 ≤ (nth k j) .parallelism) × ((nth k j) .parallelism ≤ P)
   pub mark-low : watermark N k ≤ N
   pub located-below : (x : ℕ) → marked x (k .located) ≡ true → x < N
-  pub sets-below : Below N (k .sets)
+  pub sets-below : AllBelow N (k .sets)
 
 -- no number stands twice
 abbrev pub Distinct : List ℕ → Type 0
@@ -66,7 +66,7 @@ pub record Placeable (P N r : ℕ) (k : Model) : Type 0 where
   pub room : length (k .guide .order) + len (k .guide .spans) 0 + len (k .guide .spans) 1 ≤ N
   pub room-all : length (k .guide .order) + held (k .guide .spans) < N
   pub near : (top (k .located) ((reg-of k r) .ins)) .span ≤ k .guide .first + 31
-  pub lists : Listed N (reg-of k r)
+  pub lists : Bounded N (reg-of k r)
   pub unset : (x : ℕ) → In x ((reg-of k r) .outs) → member x (k .sets) ≡ false
   pub unplaced : (x : ℕ) → In x ((reg-of k r) .outs) → marked x (k .located) ≡ false
 
@@ -84,12 +84,12 @@ pub watermark-le : (N : ℕ) (k : Model) → watermark N k ≤ N
 unfolding watermark
 watermark-le N k = omega (arith, run-le (tracked k) N 0)
 
-greatest-below : (N : ℕ) (l : List ℕ) → 0 < N → Below N l → greatest l < N
+greatest-below : (N : ℕ) (l : List ℕ) → 0 < N → AllBelow N l → greatest l < N
 unfolding greatest
 greatest-below N [] h b = h
 greatest-below N (x ∷ l) h b = omega (arith, b x (List·Memᴰ·head refl), greatest-below N l h (λ i y. b i (List·Memᴰ·tail y)))
 
-delayed-below : (N m : ℕ) (l : List ℕ) → ready m l ≡ false → Below N l → greatest l < N
+delayed-below : (N m : ℕ) (l : List ℕ) → ready m l ≡ false → AllBelow N l → greatest l < N
 unfolding ready
 delayed-below N m [] e b = absurd (false≢true (sym e))
 delayed-below N m (x ∷ l) e b = greatest-below N (x ∷ l) (omega (arith, b x (List·Memᴰ·head refl))) b
