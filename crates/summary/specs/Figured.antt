@@ -1,0 +1,22 @@
+-- How the struct that the code returns stands for document 01's summary, and what is asked of a tally. Definitions only; the laws
+-- are in Loops. Assumes nothing.
+use mathlib.Core.List.{List}
+use Prim.Native.Nat.{ℕ, _+_, _≤_, _<_}
+use lib.ListN.{length, take}
+use Rattle.rules.specs.Summary.{Figures, sum}
+use Rattle.summary.specs.declared.Summary.{Summary}
+
+-- the figures that the struct holds
+abbrev pub figured : Summary → Figures
+figured s = record { average = s .average; median = s .median; low = s .low; thousands = s .thousands }
+
+-- storage t whose first P + 1 counts are a tally that can be summed up: P is at most 64,999 and the counts' sum at most 2^24
+pub record Tallied (t : List ℕ) (P : ℕ) : Type 0 where
+  pub stored : P + 1 ≤ length t
+  pub most : P < 65000
+  pub total : sum (take (P + 1) t) ≤ 16777216
+
+-- the same said of the counts alone
+pub record Small (t : List ℕ) : Type 0 where
+  pub few : length t ≤ 65000
+  pub total : sum t ≤ 16777216
