@@ -1,0 +1,66 @@
+-- `encoding::call_end` meets its contract: a law for each tag.
+use Rattle.encoding.specs.Ends.{call-add, call-flush, call-final, call-set, call-set-short, call-other}
+use borrow.Author.Needs.{needs}
+use Rattle.encoding.proofs.call_end.Statement.{statement}
+use Rattle.encoding.proofs.call_end.Tie as tie
+
+mul-tag : tie.Need-mul-tag
+mul-tag c = search needs
+
+shared-slice-read-tag : tie.Need-shared-slice-read-tag
+shared-slice-read-tag c = search needs
+
+add-add-end : tie.Need-add-add-end
+add-add-end c = search needs
+
+add-end-requires : tie.Need-add-end-requires
+add-end-requires c κs = search needs
+
+returns : tie.Need-returns
+returns c = call-add _ _ (c .before .before .before .before .pre) _ (c .before .if1 .taken) (c .add-end .ensures)
+
+add-result : tie.Need-add-result
+add-result c = search needs
+
+returns-2 : tie.Need-returns-2
+returns-2 c = call-flush _ _ (c .before .before .before .before .pre) (c .if2 .taken)
+
+add-result-2 : tie.Need-add-result-2
+add-result-2 c = search needs
+
+returns-3 : tie.Need-returns-3
+returns-3 c = call-final _ _ (c .before .before .before .before .before .pre) (c .if3 .taken)
+
+add-if5 : tie.Need-add-if5
+add-if5 c = search needs
+
+add-result-3 : tie.Need-add-result-3
+add-result-3 c = search needs
+
+returns-4 : tie.Need-returns-4
+returns-4 c = call-set _ _ (c .before .before .before .before .before .before .before .pre) (c .before .if4 .taken) (c .if5 .taken)
+
+returns-5 : tie.Need-returns-5
+returns-5 c = call-set-short _ _ (c .before .before .before .before .before .before .before .pre) (c .before .if4 .taken) (c .if5 .left)
+
+returns-6 : tie.Need-returns-6
+returns-6 c = call-other _ _ (c .before .before .before .before .before .before .pre) (c .if4 .left) (c .before .before .before .if1 .left) (c .before .before .if2 .left) (c .before .if3 .left)
+
+pub call-end-spec : {M : Type 1} → statement M
+call-end-spec =
+    tie.close
+    (tie.spec
+    mul-tag
+    shared-slice-read-tag
+    add-add-end
+    add-end-requires
+    returns
+    add-result
+    returns-2
+    add-result-2
+    returns-3
+    add-if5
+    add-result-3
+    returns-4
+    returns-5
+    returns-6)

@@ -1,0 +1,141 @@
+-- Where a counted list and a call end in the numbers, what a count of the calls says, and the laws by which the functions' proofs go.
+-- Assumes nothing.
+use mathlib.Core.Path.{_≡_, refl, sym, ap, _∙_}
+use mathlib.Core.List.{List, [], _∷_, _++_}
+use mathlib.Core.Bool.{Bool, true, false}
+use mathlib.Core.Logic.{_⊎_, inl, inr}
+use mathlib.Core.Option.{Option, some, none}
+use Prim.Native.Nat.{ℕ, zero, suc, _+_, _-_, _≤_, _<_}
+use native.Mathlib.Omega.{arith}
+use lib.Dec.{leb, eqb}
+use lib.ListN.{length, getD, take, drop, length-append, length-drop, drop-of-length-le}
+use lib.Seq.{drop-cons, drop-drop}
+use borrow.Author.Tests.{le-leb, lt-leb, eq-eqb, ne-eqb}
+use Rattle.rules.specs.Calls.{Call, set, add, flush, final}
+use Rattle.rules.specs.Encoding.{Front, Counted, counted, set-front, add-outs, add-front, front, before-all, and-then, unless-empty, decode-from, decode}
+use Rattle.encoding.specs.Decode.{decode-none, decode-some, prefix, prefix-more, prefix-none, prefix-some}
+
+-- r is the index past the counted list at `at`, or 0 where there is none
+abbrev pub ListEnds : List ℕ → ℕ → ℕ → Type 0
+ListEnds l at r =
+    ((r ≡ 0) × (counted (drop at l) ≡ none))
+    ⊎ ((at < r) × (r ≤ length l) × (counted (drop at l) ≡ some (record { items = take (r - (at + 1)) (drop (at + 1) l); rest = drop r l })))
+
+-- r is the index past the call that was read at `at`, or 0 where none was
+abbrev pub Ends : Option Front → List ℕ → ℕ → ℕ → Type 0
+Ends o l at r = ((r ≡ 0) × (o ≡ none)) ⊎ ((call : Call) × (at < r) × (r ≤ length l) × (o ≡ some (record { call = call; rest = drop r l })))
+
+-- whether the numbers are a list of calls, and how many these are
+pub record Counts (l : List ℕ) (well : Bool) (n : ℕ) : Type 0 where
+  pub malformed : well ≡ false → decode l ≡ none
+  pub formed : well ≡ true → (cs : List Call) × (decode l ≡ some cs) × (length cs ≡ n)
+
+module _ (l : List ℕ) (at : ℕ) where
+  pub list-past : length l ≤ at → ListEnds l at 0
+  unfolding counted
+  list-past h = inl (refl, ap counted (drop-of-length-le l h))
+
+  pub list-short : (n : ℕ) → n ≡ getD l at 0 → at < length l → length l - 1 - at < n → ListEnds l at 0
+  unfolding counted
+  list-short n d h k =
+      let e : leb (getD l at 0) (length (drop (suc at) l)) ≡ false = lt-leb (getD l at 0) (length (drop (suc at) l)) (omega (arith, length-drop (suc at) l)) in
+      inl (refl, ap counted (drop-cons l at 0 h) ∙ rw (e, counted))
+
+  pub list-whole : (n : ℕ) → n ≡ getD l at 0 → at < length l → n ≤ length l - 1 - at → ListEnds l at (at + 1 + n)
+  unfolding counted
+  list-whole n d h k =
+      let e : leb (getD l at 0) (length (drop (suc at) l)) ≡ true = le-leb (getD l at 0) (length (drop (suc at) l)) (omega (arith, length-drop (suc at) l)) in
+      let m : at + 1 + n - (at + 1) ≡ getD l at 0 = omega arith in
+      let s : at + 1 ≡ suc at = omega arith in
+      let t : at + 1 + n ≡ suc at + getD l at 0 = omega arith in
+      inr (omega arith, omega arith, ap counted (drop-cons l at 0 h) ∙ rw (e, counted) (rw (m, t, s, drop-drop)))
+
+  pub add-none : (middle : ℕ) → ListEnds l at middle → middle ≡ 0 → Ends (add-front (counted (drop at l))) l at 0
+  unfolding add-front
+  add-none middle (inl x) e = inl (refl, rw (x .1, add-front))
+  add-none middle (inr x) e = absurd (omega (arith, x .0))
+
+  pub add-some : (middle r : ℕ) → ListEnds l at middle → (middle ≡ 0 → ⊥) → ListEnds l middle r → Ends (add-front (counted (drop at l))) l at r
+  unfolding add-front add-outs
+  add-some middle r (inl x) e y = absurd (e (x .0))
+  add-some middle r (inr x) e (inl y) = inl (y .0, rw (x .2, add-front) (rw (y .1, add-outs)))
+  add-some middle r (inr x) e (inr y) =
+      inr (add (take (middle - (at + 1)) (drop (at + 1) l)) (take (r - (middle + 1)) (drop (middle + 1) l)), omega (arith, x .0, y .0), y .1, rw (x .2, add-front) (rw (y .2, add-outs)))
+
+  module _ (h : at < length l) where
+    front-at : front (drop at l) ≡ front (getD l at 0 ∷ drop (at + 1) l)
+    front-at = let s : at + 1 ≡ suc at = omega arith in ap front (drop-cons l at 0 h ∙ ap (λ n. getD l at 0 ∷ drop n l) (sym s))
+
+    pub call-add : (r : ℕ) → getD l at 0 ≡ 2 → Ends (add-front (counted (drop (at + 1) l))) l (at + 1) r → Ends (front (drop at l)) l at r
+    unfolding front
+    call-add r e (inl x) = inl (x .0, front-at ∙ rw e (x .1))
+    call-add r e (inr x) = inr (x .0, omega (arith, x .1), x .2, front-at ∙ rw e (x .3))
+
+    pub call-flush : getD l at 0 ≡ 3 → Ends (front (drop at l)) l at (at + 1)
+    unfolding front
+    call-flush e = inr (flush, omega arith, omega arith, front-at ∙ rw e refl)
+
+    pub call-final : getD l at 0 ≡ 4 → Ends (front (drop at l)) l at (at + 1)
+    unfolding front
+    call-final e = inr (final, omega arith, omega arith, front-at ∙ rw e refl)
+
+    pub call-set : getD l at 0 ≡ 1 → at + 1 < length l → Ends (front (drop at l)) l at (at + 2)
+    unfolding front set-front
+    call-set e k =
+        let s : suc (at + 1) ≡ at + 2 = omega arith in
+        inr (set (getD l (at + 1) 0), omega arith, omega arith, front-at ∙ rw e (rw (drop-cons l (at + 1) 0 k, s)))
+
+    pub call-set-short : getD l at 0 ≡ 1 → length l ≤ at + 1 → Ends (front (drop at l)) l at 0
+    unfolding front set-front
+    call-set-short e k = inl (refl, front-at ∙ rw e (rw (drop-of-length-le l k)))
+
+    pub call-other : (getD l at 0 ≡ 1 → ⊥) → (getD l at 0 ≡ 2 → ⊥) → (getD l at 0 ≡ 3 → ⊥) → (getD l at 0 ≡ 4 → ⊥) → Ends (front (drop at l)) l at 0
+    unfolding front
+    call-other a b c d = inl (refl, front-at ∙ rw (ne-eqb (getD l at 0) 1 a, ne-eqb (getD l at 0) 2 b, ne-eqb (getD l at 0) 3 c, ne-eqb (getD l at 0) 4 d, front))
+
+-- the count at `at`: n calls were read, and the rest is still to be read
+pub record Counting (l : List ℕ) (at n : ℕ) : Type 0 where
+  pub upto : at ≤ length l
+  pub few : n ≤ at
+  pub calls : List Call
+  pub many : length calls ≡ n
+  pub is : decode l ≡ prefix calls (decode (drop at l))
+
+pub count-start : (l : List ℕ) → Counting l 0 0
+unfolding prefix
+count-start l = record { upto = omega arith; few = omega arith; calls = []; many = refl; is = refl }
+
+pub count-turn : (l : List ℕ) (at n r : ℕ) → Counting l at n → Ends (front (drop at l)) l at r → (r ≡ 0 → ⊥) → Counting l r (n + 1)
+count-turn l at n r c (inl x) z = absurd (z (x .0))
+count-turn l at n r c (inr x) z =
+    record {
+      upto = x .2;
+      few = omega (arith, c .few, x .1);
+      calls = c .calls ++ (x .0 ∷ []);
+      many = length-append (c .calls) (x .0 ∷ []) ∙ omega (arith, c .many);
+      is = c .is ∙ ap (prefix (c .calls)) (decode-some (drop at l) (record { call = x .0; rest = drop r l }) (x .3)) ∙ prefix-more (c .calls) (x .0) (decode (drop r l));
+    }
+
+pub count-stop : (l : List ℕ) (at n r : ℕ) → Counting l at n → at < length l → Ends (front (drop at l)) l at r → r ≡ 0 → Counts l false 0
+count-stop l at n r c h (inl x) z =
+    record {
+      malformed = λ e. c .is ∙ ap (prefix (c .calls)) (decode-none (drop at l) (omega (arith, length-drop at l)) (x .1)) ∙ prefix-none (c .calls);
+      formed = λ e. let y : _≡_ {A = ℕ} 0 1 = cc in absurd (omega arith);
+    }
+count-stop l at n r c h (inr x) z = absurd (omega (arith, x .1))
+
+append-none : (cs : List Call) → cs ++ [] ≡ cs
+append-none [] = refl
+append-none (c ∷ cs) = ap (λ x. c ∷ x) (append-none cs)
+
+pub count-end : (l : List ℕ) (at n : ℕ) → Counting l at n → length l ≤ at → Counts l true n
+unfolding decode decode-from unless-empty
+count-end l at n c h =
+    record {
+      malformed = λ e. let y : _≡_ {A = ℕ} 0 1 = cc in absurd (omega arith);
+      formed = λ e. (c .calls, c .is ∙ ap (λ x. prefix (c .calls) (decode x)) (drop-of-length-le l h) ∙ prefix-some (c .calls) [] ∙ ap some (append-none (c .calls)), c .many);
+    }
+
+pub count-less : (l : List ℕ) (at r : ℕ) → at < length l → Ends (front (drop at l)) l at r → (r ≡ 0 → ⊥) → length l - r < length l - at
+count-less l at r h (inl x) z = absurd (z (x .0))
+count-less l at r h (inr x) z = omega (arith, x .1)

@@ -1,0 +1,3 @@
+-- A list of calls encoded as numbers: where its calls end.
+pub mod Decode
+pub mod Ends

@@ -1,0 +1,90 @@
+// A list of calls encoded as numbers: where a call ends, and how many calls there are. Nothing is written.
+ghost use mathlib.Core.Path.{_≡_};
+ghost use Prim.Native.Nat.{ℕ, _+_, _≤_, _<_};
+ghost use lib.ListN.{length, drop};
+ghost use Rattle.rules.specs.Encoding.{front, add-front, counted};
+ghost use Rattle.encoding.specs.Ends.{ListEnds, Ends, Counts};
+
+fn short(x: u64) -> usize
+    ensures { λ r. ⌜ r ≡ x ⌝ }
+{
+    x as usize
+}
+
+// The index past the counted list that starts at `at`, or 0 where there is none.
+pub fn list_end(calls: &[u64], at: usize) -> usize
+    ensures { λ r. ⌜ ListEnds (now (calls .entry)) at r ⌝ }
+{
+    if calls.len() <= at {
+        return 0;
+    }
+    let n = short(calls[at]);
+    let left = calls.len() - 1 - at;
+    if left < n {
+        return 0;
+    }
+    at + 1 + n
+}
+
+// The index past the two counted lists that start at `at`, or 0 where they are not there.
+fn add_end(calls: &[u64], at: usize) -> usize
+    ensures { λ r. ⌜ Ends (add-front (counted (drop at (now (calls .entry))))) (now (calls .entry)) at r ⌝ }
+{
+    let middle = list_end(calls, at);
+    if middle == 0 {
+        return 0;
+    }
+    list_end(calls, middle)
+}
+
+// The index past the call that starts at `at`, or 0 where the numbers there are no call.
+pub fn call_end(calls: &[u64], at: usize) -> usize
+    requires { ⌜ at < length (now calls) ⌝ }
+    ensures { λ r. ⌜ Ends (front (drop at (now (calls .entry)))) (now (calls .entry)) at r ⌝ }
+{
+    let tag = calls[at];
+    if tag == 2 {
+        return add_end(calls, at + 1);
+    }
+    if tag == 3 {
+        return at + 1;
+    }
+    if tag == 4 {
+        return at + 1;
+    }
+    if tag == 1 {
+        if at + 1 < calls.len() {
+            return at + 2;
+        }
+        return 0;
+    }
+    0
+}
+
+// Whether the numbers are a list of calls, and how many calls these are.
+pub struct Count {
+    pub well: bool,
+    pub calls: usize,
+}
+
+pub fn count_calls(calls: &[u64]) -> Count
+    ensures { λ r. ⌜ Counts (now (calls .entry)) (r .well) (r .calls) ⌝ }
+{
+    let mut at = 0;
+    let mut n = 0;
+    while at < calls.len() {
+        let end = call_end(calls, at);
+        if end == 0 {
+            return Count {
+                well: false,
+                calls: 0,
+            };
+        }
+        n += 1;
+        at = end;
+    }
+    Count {
+        well: true,
+        calls: n,
+    }
+}

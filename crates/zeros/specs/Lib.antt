@@ -1,0 +1,2 @@
+-- Part of a list filled with zeros.
+pub mod Zeros
