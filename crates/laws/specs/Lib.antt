@@ -19,4 +19,6 @@ pub mod Limits
 pub mod Order
 pub mod Sound
 pub mod Placeable
+pub mod Tally
 pub mod Demand
+pub mod DemandProof

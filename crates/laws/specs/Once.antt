@@ -56,7 +56,7 @@ pub one-same : (r x : ℕ) → r ≡ x → one-of r x ≡ 1
 unfolding one-of
 one-same r x h = rw (eq-eqb r x h, one-of)
 
-one-other : (r x : ℕ) → r ≢ x → one-of r x ≡ 0
+pub one-other : (r x : ℕ) → r ≢ x → one-of r x ≡ 0
 unfolding one-of
 one-other r x h = rw (ne-eqb r x h, one-of)
 
