@@ -83,7 +83,7 @@ module _ (φ : ℕ → ℕ) where
   grow-sum (l ∷ H) zero e h = omega (arith, esum-append l (e ∷ []))
   grow-sum (l ∷ H) (suc s) e h = omega (arith, grow-sum H s e (omega arith))
 
-  step-sum : (P : ℕ) (g : Guide) (past : List (List Item)) (e : Item) (p : Placed) → Core P g past → Step P g past e p → wsum (p .guide .order) + hsum (p .guide .spans) ≡ wsum (g .order) + hsum (g .spans) + φ (e .added)
+  pub step-sum : (P : ℕ) (g : Guide) (past : List (List Item)) (e : Item) (p : Placed) → Core P g past → Step P g past e p → wsum (p .guide .order) + hsum (p .guide .spans) ≡ wsum (g .order) + hsum (g .spans) + φ (e .added)
   step-sum P g past e p c s =
       omega (
         arith,
@@ -95,7 +95,7 @@ module _ (φ : ℕ → ℕ) where
         hsum-empties (s .fresh-spans),
       )
 
-  flush-sum : (P : ℕ) (g : Guide) (past : List (List Item)) → Core P g past → Core P (flush-guide P g) (past ++ take 32 (g .spans)) → wsum ((flush-guide P g) .order) + hsum ((flush-guide P g) .spans) ≡ wsum (g .order) + hsum (g .spans)
+  pub flush-sum : (P : ℕ) (g : Guide) (past : List (List Item)) → Core P g past → Core P (flush-guide P g) (past ++ take 32 (g .spans)) → wsum ((flush-guide P g) .order) + hsum ((flush-guide P g) .spans) ≡ wsum (g .order) + hsum (g .spans)
   unfolding flush-guide release
   flush-sum P g past c d =
       omega (

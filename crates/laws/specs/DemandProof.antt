@@ -41,8 +41,8 @@ module _ (P N W : ℕ) (hP : 1 ≤ P) (k : Model) (o : Sound P N W k []) where
   abbrev H : List (List Item)
   H = hist k (v .past)
 
-  at : (j : ℕ) → j < written k → At P N hP k [] v j
-  at j h = order-at P N hP k [] v j h
+  at : (j : ℕ) → j < written k → At P hP (k .guide) (v .past) (v .core) j
+  at j h = order-at P hP (k .guide) (v .past) (v .core) j h
 
   never-falls : (i j : ℕ) → i ≤ j → j < written k → i + (nth k i) .parallelism ≤ j + (nth k j) .parallelism
   unfolding wd
@@ -59,14 +59,14 @@ module _ (P N W : ℕ) (hP : 1 ≤ P) (k : Model) (o : Sound P N W k []) where
   before : (j i : ℕ) → j < written k → reads k j i → In i (k .sets) ⊎ ((m : ℕ) × (m < j) × writes k m i)
   before j i h y = go (source j i h y)
     where
-      a : At P N hP k [] v j
+      a : At P hP (k .guide) (v .past) (v .core) j
       a = at j h
 
       go : In i (k .sets) ⊎ ((l : Loc) × Writes k H l i × Behind (l .span) (l .pos) (a .s) (a .q)) → In i (k .sets) ⊎ ((m : ℕ) × (m < j) × writes k m i)
       go (inl x) = inl x
       go (inr x) =
           let l = x .0 in
-          inr (start H (l .span) + l .pos, omega (arith, a .index, behind-before H (l .span) (l .pos) (a .s) (a .q) (x .1 .0) (a .within) (x .2)), rw (order-here P N hP k [] v (l .span) (l .pos) (omega (arith, a .out, behind-span (l .span) (l .pos) (a .s) (a .q) (x .2))) (x .1 .0)) (x .1 .1))
+          inr (start H (l .span) + l .pos, omega (arith, a .index, behind-before H (l .span) (l .pos) (a .s) (a .q) (x .1 .0) (a .within) (x .2)), rw (order-here P hP (k .guide) (v .past) (v .core) (l .span) (l .pos) (omega (arith, a .out, behind-span (l .span) (l .pos) (a .s) (a .q) (x .2))) (x .1 .0)) (x .1 .1))
 
   -- the history weighs no more than the accepted registrations
   light : (φ : ℕ → ℕ) → hsum φ H ≤ below φ (length (k .adds))
@@ -77,10 +77,10 @@ module _ (P N W : ℕ) (hP : 1 ≤ P) (k : Model) (o : Sound P N W k []) where
   behind : (a b i : ℕ) (h : a < written k) (g : b < written k) → writes k a i → reads k b i → Behind ((at a h) .s) ((at a h) .q) ((at b g) .s) ((at b g) .q)
   behind a b i h g y z = go (source b i g z)
     where
-      x : At P N hP k [] v a
+      x : At P hP (k .guide) (v .past) (v .core) a
       x = at a h
 
-      u : At P N hP k [] v b
+      u : At P hP (k .guide) (v .past) (v .core) b
       u = at b g
 
       go : In i (k .sets) ⊎ ((l : Loc) × Writes k H l i × Behind (l .span) (l .pos) (u .s) (u .q)) → Behind (x .s) (x .q) (u .s) (u .q)
@@ -136,7 +136,7 @@ module _ (P N W : ℕ) (hP : 1 ≤ P) (k : Model) (o : Sound P N W k []) where
 pub demand-3 : (P N W : ℕ) → 1 ≤ P → (calls : List Call) → Demand P N W calls (run P N W calls initial)
 demand-3 P N W hP calls =
     record {
-      parallelisms = bounds P N hP k [] (o .inv);
+      parallelisms = bounds P hP (k .guide) (o .inv .past) (o .inv .core);
       frontier = never-falls P N W hP k o;
       earlier = before P N W hP k o;
       together = none P N W hP k o;
@@ -145,8 +145,8 @@ demand-3 P N W hP calls =
       pending = exactly P N W hP k o;
       pending-under = λ w h. o .inv .pending-ok w h .1;
       pending-sorted = o .waiting .sorted;
-      tallied = tally-each P (k .guide .order) (λ j h. bounds P N hP k [] (o .inv) j h .1);
-      tally-sum = tally-sum P (k .guide .order) (λ j h. bounds P N hP k [] (o .inv) j h .1);
+      tallied = tally-each P (k .guide .order) (λ j h. bounds P hP (k .guide) (o .inv .past) (o .inv .core) j h .1);
+      tally-sum = tally-sum P (k .guide .order) (λ j h. bounds P hP (k .guide) (o .inv .past) (o .inv .core) j h .1);
       stays = λ before later e. rw e at (stays P N W hP before later);
       unchanged = refused P N W hP k o;
       none-pending = λ c. o .done c .1;

@@ -33,6 +33,33 @@ pub record Kept (P N W : ℕ) (Q : Model → List ℕ → Type 0) : Type 0 where
   pub closing : (k : Model) → Inv P N k [] → answer N W final k ≡ 0 → Q k [] → Q (with-flush P (k .flushes) true k) []
   pub recording : (d : Recorded) (k : Model) → Inv P N k [] → Notes N k d → Q k [] → Q (with-record d k) []
 
+module _ (P N W : ℕ) where
+  -- invariants that are kept are kept together
+  pub every : (A : Type 0) (Q : A → Model → List ℕ → Type 0) → ((a : A) → Kept P N W (Q a)) → Kept P N W (λ k st. (a : A) → Q a k st)
+  every A Q κ =
+      record {
+        placing = λ c r st k l v q a. κ a .placing c r st k l v (q a);
+        setting = λ x k v e q a. κ a .setting x k v e (q a);
+        adding = λ ins outs k v e h q a. κ a .adding ins outs k v e h (q a);
+        waiting = λ ins outs k v e h q a. κ a .waiting ins outs k v e h (q a);
+        flushing = λ k v e q a. κ a .flushing k v e (q a);
+        closing = λ k v e q a. κ a .closing k v e (q a);
+        recording = λ d k v n q a. κ a .recording d k v n (q a);
+      }
+
+  -- what is equivalent to a kept invariant is kept
+  pub equivalent : {Q R : Model → List ℕ → Type 0} → ((k : Model) (st : List ℕ) → Q k st → R k st) → ((k : Model) (st : List ℕ) → R k st → Q k st) → Kept P N W Q → Kept P N W R
+  equivalent to from κ =
+      record {
+        placing = λ c r st k l v q. to _ _ (κ .placing c r st k l v (from _ _ q));
+        setting = λ x k v e q. to _ _ (κ .setting x k v e (from _ _ q));
+        adding = λ ins outs k v e h q. to _ _ (κ .adding ins outs k v e h (from _ _ q));
+        waiting = λ ins outs k v e h q. to _ _ (κ .waiting ins outs k v e h (from _ _ q));
+        flushing = λ k v e q. to _ _ (κ .flushing k v e (from _ _ q));
+        closing = λ k v e q. to _ _ (κ .closing k v e (from _ _ q));
+        recording = λ d k v n q. to _ _ (κ .recording d k v n (from _ _ q));
+      }
+
 -- between calls the record has a row for each accepted registration
 abbrev pub Noted : Model → Type 0
 Noted k = length (k .recorded .written) ≡ length (k .adds)

@@ -17,8 +17,11 @@ pub mod Closed
 pub mod Ceiling
 pub mod Limits
 pub mod Order
+pub mod Entries
 pub mod Sound
 pub mod Placeable
 pub mod Tally
 pub mod Demand
 pub mod DemandProof
+pub mod Widths
+pub mod Alone

@@ -54,6 +54,20 @@ run-true t (suc f) n i h k = go (bool-cases (t n)) (λ a b. run-true t f (suc n)
     go (inl e) r (inr d) = r (omega arith) (rw (e, run-from) at k)
     go (inr e) r d = let z = rw (e, run-from) at k in absurd (omega arith)
 
+-- the run of tracked places goes no further than it looks
+run-le : (t : ℕ → Bool) (f n : ℕ) → run-from t f n ≤ n + f
+unfolding run-from
+run-le t zero n = omega arith
+run-le t (suc f) n = go (bool-cases (t n)) (run-le t f (suc n))
+  where
+    go : (t n ≡ true) ⊎ (t n ≡ false) → run-from t f (suc n) ≤ suc n + f → run-from t (suc f) n ≤ n + suc f
+    go (inl e) h = rw (e, run-from) (omega arith)
+    go (inr e) h = rw (e, run-from) (omega arith)
+
+pub watermark-le : (N : ℕ) (k : Model) → watermark N k ≤ N
+unfolding watermark
+watermark-le N k = omega (arith, run-le (tracked k) N 0)
+
 pub watermark-tracked : (N i : ℕ) (k : Model) → i < watermark N k → tracked k i ≡ true
 unfolding watermark
 watermark-tracked N i k h = run-true (tracked k) N 0 i (omega arith) h
@@ -227,12 +241,12 @@ module _ (H : List (List Item)) (n s₀ : ℕ) (e : Item) (fits : s₀ < length 
   unfolding entry-at
   hist-new = rw grown-same (simp length-append (omega arith), getD-append-seam (getD H s₀ []) e [] no-entry)
 
-pub loc-of-none : (ss : List Located) (x : ℕ) → marked x ss ≡ false → (loc-of ss x) .span ≡ 0
+pub loc-of-none : (ss : List Located) (x : ℕ) → marked x ss ≡ false → ((loc-of ss x) .span ≡ 0) × ((loc-of ss x) .pos ≡ 0)
 unfolding loc-of marked
-loc-of-none [] x h = refl
+loc-of-none [] x h = (refl, refl)
 loc-of-none (y ∷ ss) x h = go (bool-cases (eqb x (y .at))) (λ k. loc-of-none ss x k)
   where
-    go : (eqb x (y .at) ≡ true) ⊎ (eqb x (y .at) ≡ false) → (marked x ss ≡ false → (loc-of ss x) .span ≡ 0) → (loc-of (y ∷ ss) x) .span ≡ 0
+    go : (eqb x (y .at) ≡ true) ⊎ (eqb x (y .at) ≡ false) → (marked x ss ≡ false → ((loc-of ss x) .span ≡ 0) × ((loc-of ss x) .pos ≡ 0)) → ((loc-of (y ∷ ss) x) .span ≡ 0) × ((loc-of (y ∷ ss) x) .pos ≡ 0)
     go (inl e) r = absurd (false≢true (sym (rw e at h)))
     go (inr e) r = rw (e, loc-of) (r (rw e at h))
 

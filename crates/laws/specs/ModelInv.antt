@@ -81,7 +81,7 @@ module _ (P N c r : ℕ) (st : List ℕ) (k : Model) (hP : 1 ≤ P) (v : Inv P N
             v .core .past-is,
             v .core .window-is,
           )
-      go (inr e) = omega (arith, loc-of-none (k .located) i e)
+      go (inr e) = omega (arith, loc-of-none (k .located) i e .0)
 
   -- an input of r is set, or r lies behind the one that writes it
   input-behind : (i : ℕ) → In i ((reg-of k r) .ins) → In i (k .sets) ⊎ (Writes k H (loc-of (k .located) i) i × Behind ((loc-of (k .located) i) .span) ((loc-of (k .located) i) .pos) (plc .loc .span) (plc .loc .pos))

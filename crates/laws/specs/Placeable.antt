@@ -14,14 +14,14 @@ use Rattle.rules.specs.Model.{Model, Pending, member, marked, tracked, run-from
 use Rattle.rules.specs.Checks.{repeats}
 use Rattle.laws.specs.History.{len}
 use Rattle.laws.specs.GuideInv.{Core, Later, len-append}
-use Rattle.laws.specs.ModelBase.{In, bool-cases, in-member, member-in, entry-at, no-entry, in-range, top-le, loc-of-none}
+use Rattle.laws.specs.ModelBase.{In, bool-cases, in-member, member-in, entry-at, no-entry, in-range, top-le, loc-of-none, watermark-le}
 use Rattle.laws.specs.ModelInv.{Inv, hist}
 use Rattle.laws.specs.Balance.{esum, hsum, wsum, qsum, lsum, below, Balance, core-sum}
 use Rattle.laws.specs.Once.{hsum-at, one-of, one-same, below-le, wsum-one, qsum-one, hsum-one, below-all}
 use Rattle.laws.specs.Ceiling.{Ceiling, ended}
 use Rattle.laws.specs.Waiting.{Sorted, not-ready}
 use Rattle.laws.specs.Limits.{AllBelow, Bounded}
-use Rattle.laws.specs.Order.{no-written, nth, bounds, order-known}
+use Rattle.laws.specs.Order.{no-written, nth, order-at, bounds}
 use Rattle.laws.specs.Sound.{Sound}
 
 -- of every sound model: the window's spans are within their rows, what is held and what is still to be placed fits the order, and span
@@ -69,20 +69,6 @@ pub record Placeable (P N r : ℕ) (k : Model) : Type 0 where
   pub lists : Bounded N (reg-of k r)
   pub unset : (x : ℕ) → In x ((reg-of k r) .outs) → member x (k .sets) ≡ false
   pub unplaced : (x : ℕ) → In x ((reg-of k r) .outs) → marked x (k .located) ≡ false
-
--- the run of tracked places goes no further than it looks
-run-le : (t : ℕ → Bool) (f n : ℕ) → run-from t f n ≤ n + f
-unfolding run-from
-run-le t zero n = omega arith
-run-le t (suc f) n = go (bool-cases (t n)) (run-le t f (suc n))
-  where
-    go : (t n ≡ true) ⊎ (t n ≡ false) → run-from t f (suc n) ≤ suc n + f → run-from t (suc f) n ≤ n + suc f
-    go (inl e) h = rw (e, run-from) (omega arith)
-    go (inr e) h = rw (e, run-from) (omega arith)
-
-pub watermark-le : (N : ℕ) (k : Model) → watermark N k ≤ N
-unfolding watermark
-watermark-le N k = omega (arith, run-le (tracked k) N 0)
 
 greatest-below : (N : ℕ) (l : List ℕ) → 0 < N → AllBelow N l → greatest l < N
 unfolding greatest
@@ -153,14 +139,14 @@ module _ (P N W : ℕ) (hP : 1 ≤ P) (k : Model) (st : List ℕ) (s : Sound P N
           let same : r ≡ (entry-at H (l .span) (l .pos)) .added = s .apart .outs-apart i r _ z (w .1) in
           absurd (omega (arith, hsum-at (one-of r) H (l .span) (l .pos) (w .0), one-same r _ same, lsum-in st r y, single r))
 
-  located-span : (i : ℕ) → (loc-of (k .located) i) .span ≤ k .guide .first + 31
+  pub located-span : (i : ℕ) → (loc-of (k .located) i) .span ≤ k .guide .first + 31
   located-span i = go (bool-cases (marked i (k .located)))
     where
       go : (marked i (k .located) ≡ true) ⊎ (marked i (k .located) ≡ false) → (loc-of (k .located) i) .span ≤ k .guide .first + 31
       go (inl e) =
           let l = loc-of (k .located) i in
           omega (arith, in-range H (l .span) (l .pos) (s .inv .located-ok i e .0), length-append (s .inv .past) (k .guide .spans), s .inv .core .past-is, s .inv .core .window-is)
-      go (inr e) = omega (arith, loc-of-none (k .located) i e)
+      go (inr e) = omega (arith, loc-of-none (k .located) i e .0)
 
   -- the window is the end of the history
   window-len : (i : ℕ) → len (k .guide .spans) i ≡ len H (length (s .inv .past) + i)
@@ -180,8 +166,8 @@ module _ (P N W : ℕ) (hP : 1 ≤ P) (k : Model) (st : List ℕ) (s : Sound P N
         room = omega (arith, counted);
         low = omega (arith, s .ceiling, ended-le (k .closed), s .limits .many, s .limits .few);
         held-known = λ i q h. rw (window-entry i q) (s .inv .known (length (s .inv .past) + i) q (omega (arith, window-len i)));
-        order-known = order-known P N hP k st (s .inv);
-        parallelisms = bounds P N hP k st (s .inv);
+        order-known = λ j h. let a = order-at P hP (k .guide) (s .inv .past) (s .inv .core) j h in rw (a .entry-is) (s .inv .known (a .s) (a .q) (a .within));
+        parallelisms = bounds P hP (k .guide) (s .inv .past) (s .inv .core);
         mark-low = watermark-le N k;
         located-below = λ x h. s .inside .lists _ .outs-below x (s .inv .located-ok x h .1);
         sets-below = s .inside .sets-below;

@@ -11,12 +11,13 @@ use Rattle.rules.specs.Guide.{fresh}
 use Rattle.rules.specs.Model.{Recorded, with-record, Model, watermark, ready, greatest, place-one, keep, queue, push, off, rest, with-set, with-add, with-flush, settle-all, initial}
 use Rattle.rules.specs.Calls.{Call, set, add, flush, final, answer, step, run}
 use Rattle.laws.specs.ModelInv.{Inv, place-one-inv, off-inv, with-set-inv, queued-inv, flush-inv, record-inv, initial-inv, add-stack, push-from}
-use Rattle.laws.specs.Kept.{Kept, Notes, Noted, settle-kept, step-kept, step-noted, initial-noted}
+use Rattle.laws.specs.Kept.{Kept, every, equivalent, settle-kept, step-kept, step-noted, initial-noted}
 use Rattle.laws.specs.Balance.{Balance, balance-kept, balance-initial}
 use Rattle.laws.specs.Apart.{Apart, apart-kept, apart-initial}
 use Rattle.laws.specs.Waiting.{Waiting, waiting-kept, waiting-initial}
 use Rattle.laws.specs.Closed.{Done, done-kept}
 use Rattle.laws.specs.Ceiling.{Ceiling, ceiling-kept}
+use Rattle.laws.specs.Entries.{Entries, entries-kept, entries-initial}
 use Rattle.laws.specs.Limits.{Limits, limits-kept, limits-initial, Inside, inside-kept, inside-initial}
 
 pub record Sound (P N W : ℕ) (k : Model) (st : List ℕ) : Type 0 where
@@ -35,6 +36,8 @@ pub record Sound (P N W : ℕ) (k : Model) (st : List ℕ) : Type 0 where
   -- the counts, and the places of sets and lists
   pub limits : Limits N W k st
   pub inside : Inside N k st
+  -- the entries' value and accepted, and the record's numbers
+  pub entries : Entries N k st
 
 module _ (P N W : ℕ) (hP : 1 ≤ P) where
   pub inv-kept : Kept P N W (Inv P N)
@@ -49,80 +52,63 @@ module _ (P N W : ℕ) (hP : 1 ≤ P) where
         recording = λ d k v n i. record-inv P N d k [] i;
       }
 
-  pub sound-kept : Kept P N W (Sound P N W)
-  sound-kept =
+  -- the invariants that make up `Sound`, named
+  data Part : Type 0 where
+    the-inv the-ceiling the-apart the-waiting the-done the-limits the-inside the-entries : Part
+    the-balance : (ℕ → ℕ) → Part
+
+  Says : Part → Model → List ℕ → Type 0
+  Says the-inv = Inv P N
+  Says (the-balance φ) = Balance φ
+  Says the-ceiling = Ceiling
+  Says the-apart = Apart
+  Says the-waiting = Waiting N
+  Says the-done = Done
+  Says the-limits = Limits N W
+  Says the-inside = Inside N
+  Says the-entries = Entries N
+
+  part-kept : (p : Part) → Kept P N W (Says p)
+  unfolding Says
+  part-kept the-inv = inv-kept
+  part-kept (the-balance φ) = balance-kept φ P N W hP
+  part-kept the-ceiling = ceiling-kept P N W hP
+  part-kept the-apart = apart-kept P N W hP
+  part-kept the-waiting = waiting-kept P N W hP
+  part-kept the-done = done-kept P N W hP
+  part-kept the-limits = limits-kept P N W
+  part-kept the-inside = inside-kept P N W
+  part-kept the-entries = entries-kept P N W hP
+
+  joined : (k : Model) (st : List ℕ) → ((p : Part) → Says p k st) → Sound P N W k st
+  unfolding Says
+  joined k st f =
       record {
-        placing = λ c r st k l v s. record {
-          inv = inv-kept .placing c r st k l v (s .inv);
-          balance = λ φ. balance-kept φ P N W hP .placing c r st k l v (s .balance φ);
-          ceiling = ceiling-kept P N W hP .placing c r st k l v (s .ceiling);
-          apart = apart-kept P N W hP .placing c r st k l v (s .apart);
-          waiting = waiting-kept P N W hP .placing c r st k l v (s .waiting);
-          done = done-kept P N W hP .placing c r st k l v (s .done);
-          limits = limits-kept P N W .placing c r st k l v (s .limits);
-          inside = inside-kept P N W .placing c r st k l v (s .inside);
-        };
-        setting = λ x k v a s. record {
-          inv = inv-kept .setting x k v a (s .inv);
-          balance = λ φ. balance-kept φ P N W hP .setting x k v a (s .balance φ);
-          ceiling = ceiling-kept P N W hP .setting x k v a (s .ceiling);
-          apart = apart-kept P N W hP .setting x k v a (s .apart);
-          waiting = waiting-kept P N W hP .setting x k v a (s .waiting);
-          done = done-kept P N W hP .setting x k v a (s .done);
-          limits = limits-kept P N W .setting x k v a (s .limits);
-          inside = inside-kept P N W .setting x k v a (s .inside);
-        };
-        adding = λ ins outs k v a e s. record {
-          inv = inv-kept .adding ins outs k v a e (s .inv);
-          balance = λ φ. balance-kept φ P N W hP .adding ins outs k v a e (s .balance φ);
-          ceiling = ceiling-kept P N W hP .adding ins outs k v a e (s .ceiling);
-          apart = apart-kept P N W hP .adding ins outs k v a e (s .apart);
-          waiting = waiting-kept P N W hP .adding ins outs k v a e (s .waiting);
-          done = done-kept P N W hP .adding ins outs k v a e (s .done);
-          limits = limits-kept P N W .adding ins outs k v a e (s .limits);
-          inside = inside-kept P N W .adding ins outs k v a e (s .inside);
-        };
-        waiting = λ ins outs k v a e s. record {
-          inv = inv-kept .waiting ins outs k v a e (s .inv);
-          balance = λ φ. balance-kept φ P N W hP .waiting ins outs k v a e (s .balance φ);
-          ceiling = ceiling-kept P N W hP .waiting ins outs k v a e (s .ceiling);
-          apart = apart-kept P N W hP .waiting ins outs k v a e (s .apart);
-          waiting = waiting-kept P N W hP .waiting ins outs k v a e (s .waiting);
-          done = done-kept P N W hP .waiting ins outs k v a e (s .done);
-          limits = limits-kept P N W .waiting ins outs k v a e (s .limits);
-          inside = inside-kept P N W .waiting ins outs k v a e (s .inside);
-        };
-        flushing = λ k v a s. record {
-          inv = inv-kept .flushing k v a (s .inv);
-          balance = λ φ. balance-kept φ P N W hP .flushing k v a (s .balance φ);
-          ceiling = ceiling-kept P N W hP .flushing k v a (s .ceiling);
-          apart = apart-kept P N W hP .flushing k v a (s .apart);
-          waiting = waiting-kept P N W hP .flushing k v a (s .waiting);
-          done = done-kept P N W hP .flushing k v a (s .done);
-          limits = limits-kept P N W .flushing k v a (s .limits);
-          inside = inside-kept P N W .flushing k v a (s .inside);
-        };
-        closing = λ k v a s. record {
-          inv = inv-kept .closing k v a (s .inv);
-          balance = λ φ. balance-kept φ P N W hP .closing k v a (s .balance φ);
-          ceiling = ceiling-kept P N W hP .closing k v a (s .ceiling);
-          apart = apart-kept P N W hP .closing k v a (s .apart);
-          waiting = waiting-kept P N W hP .closing k v a (s .waiting);
-          done = done-kept P N W hP .closing k v a (s .done);
-          limits = limits-kept P N W .closing k v a (s .limits);
-          inside = inside-kept P N W .closing k v a (s .inside);
-        };
-        recording = λ d k v n s. record {
-          inv = inv-kept .recording d k v n (s .inv);
-          balance = λ φ. balance-kept φ P N W hP .recording d k v n (s .balance φ);
-          ceiling = ceiling-kept P N W hP .recording d k v n (s .ceiling);
-          apart = apart-kept P N W hP .recording d k v n (s .apart);
-          waiting = waiting-kept P N W hP .recording d k v n (s .waiting);
-          done = done-kept P N W hP .recording d k v n (s .done);
-          limits = limits-kept P N W .recording d k v n (s .limits);
-          inside = inside-kept P N W .recording d k v n (s .inside);
-        };
+        inv = f the-inv;
+        balance = λ φ. f (the-balance φ);
+        ceiling = f the-ceiling;
+        apart = f the-apart;
+        waiting = f the-waiting;
+        done = f the-done;
+        limits = f the-limits;
+        inside = f the-inside;
+        entries = f the-entries;
       }
+
+  taken-apart : (k : Model) (st : List ℕ) → Sound P N W k st → (p : Part) → Says p k st
+  unfolding Says
+  taken-apart k st s the-inv = s .inv
+  taken-apart k st s (the-balance φ) = s .balance φ
+  taken-apart k st s the-ceiling = s .ceiling
+  taken-apart k st s the-apart = s .apart
+  taken-apart k st s the-waiting = s .waiting
+  taken-apart k st s the-done = s .done
+  taken-apart k st s the-limits = s .limits
+  taken-apart k st s the-inside = s .inside
+  taken-apart k st s the-entries = s .entries
+
+  pub sound-kept : Kept P N W (Sound P N W)
+  sound-kept = equivalent P N W joined taken-apart (every P N W Part Says part-kept)
 
   -- the same for a caller that has `Sound` alone
   pub sound-placing : (c r : ℕ) (st : List ℕ) (k : Model) → c ≤ length (k .adds) → Sound P N W k (r ∷ st) → Sound P N W (rest N (place-one P c r k)) (push (off N (place-one P c r k)) st)
@@ -160,6 +146,7 @@ between-initial P N W hP =
         done = λ e. absurd (false≢true e);
         limits = limits-initial N W;
         inside = inside-initial N;
+        entries = entries-initial N;
       };
       noted = initial-noted;
     }
