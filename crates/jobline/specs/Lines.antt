@@ -1,0 +1,76 @@
+-- What reading a line promises: how the cases of the code's enums stand for document 01's lines (rules, Job). Assumes nothing.
+use mathlib.Core.Bool.{Bool, true, false}
+use mathlib.Core.List.{List, [], _∷_}
+use mathlib.Core.Option.{Option, some, none}
+use mathlib.Core.Path.{_≡_}
+use Prim.Native.Nat.{ℕ, _+_, _*_, _≤_}
+use lib.ListN.{length, take, drop}
+use Rattle.rules.specs.Job as rule
+use Rattle.jobline.specs.declared.Key.{Key}
+use Rattle.jobline.specs.declared.Key.the-variants as key
+use Rattle.jobline.specs.declared.Line.{Line}
+use Rattle.jobline.specs.declared.Line.the-variants as line
+
+-- the line s starts with the key ks
+unfoldable pub is-some : Option (List ℕ) → Bool
+is-some none = false
+is-some (some l) = true
+
+unfoldable pub begins : List ℕ → List ℕ → Bool
+begins ks s = is-some (rule.after-key ks s)
+
+-- the bytes of a key
+abbrev pub size : Key → ℕ
+size key.Parallelism = 12
+size key.Places = 7
+size key.Set = 4
+size key.Inputs = 3
+size key.Outputs = 4
+size key.Flush = 7
+size key.Final = 7
+size key.Other = 0
+
+-- the line that a key makes of what follows it
+abbrev pub keyed : Key → List ℕ → rule.Line
+keyed key.Parallelism r = rule.with-number rule.parallelism-line (rule.number r)
+keyed key.Places r = rule.with-number rule.places-line (rule.number r)
+keyed key.Set r = rule.with-number rule.set-line (rule.number r)
+keyed key.Inputs r = rule.with-list rule.in-line (rule.list r)
+keyed key.Outputs r = rule.with-list rule.out-line (rule.list r)
+keyed key.Flush r = rule.whole rule.flush-line r
+keyed key.Final r = rule.whole rule.final-line r
+keyed key.Other r = rule.malformed
+
+-- the key of the line s is k
+pub record Keyed (s : List ℕ) (k : Key) : Type 0 where
+  pub says : keyed k (drop (size k) s) ≡ rule.line-of s
+  pub within : size k ≤ length s
+
+-- the line that an answer tells, the numbers of its list standing at the start of `read`
+abbrev pub line-as : Line → List ℕ → rule.Line
+line-as (line.Parallelism n) read = rule.parallelism-line n
+line-as (line.Places n) read = rule.places-line n
+line-as (line.Set n) read = rule.set-line n
+line-as (line.Inputs n) read = rule.in-line (take n read)
+line-as (line.Outputs n) read = rule.out-line (take n read)
+line-as line.Flush read = rule.flush-line
+line-as line.Final read = rule.final-line
+line-as line.Malformed read = rule.malformed
+
+-- how many numbers its list has
+abbrev pub listed : Line → ℕ
+listed (line.Parallelism n) = 0
+listed (line.Places n) = 0
+listed (line.Set n) = 0
+listed (line.Inputs n) = n
+listed (line.Outputs n) = n
+listed line.Flush = 0
+listed line.Final = 0
+listed line.Malformed = 0
+
+-- the line s was read, its list into storage from `off` on: it is document 01's, it lies within, and what stands before is as it was
+pub record LineRead (entry exit : List ℕ) (off : ℕ) (s : List ℕ) (r : Line) : Type 0 where
+  pub reads : line-as r (drop off exit) ≡ rule.line-of s
+  pub few : 2 * listed r ≤ length s
+  pub within : off + listed r ≤ length exit
+  pub kept : take off exit ≡ take off entry

@@ -1,0 +1,120 @@
+-- Laws of the pieces between separators: the first byte of a kind, and the lines and fields of rules/Job told by it, with no text carried
+-- along. Assumes nothing.
+use mathlib.Core.List.{List, [], _∷_, _++_, append-assoc, append-nil}
+use mathlib.Core.Bool.{Bool, true, false, not}
+use mathlib.Core.Logic.{_⊎_, inl, inr}
+use mathlib.Core.Path.{_≡_, refl, sym, ap, _∙_}
+use Prim.Native.Nat.{ℕ, zero, suc, _+_, _-_, _≤_, _<_, zero-le, suc-le-suc}
+use native.Mathlib.Nat.{le-of-suc-le-suc, not-suc-le-zero}
+use native.Mathlib.Numerals.{add-one}
+use native.Mathlib.Omega.{arith}
+use lib.ListN.{length, getD, take, drop, length-drop}
+use lib.Seq.{drop-cons}
+use lib.Dec.{eqb}
+use borrow.Author.Tests.{eq-eqb, ne-eqb, eqb-true}
+use Rattle.rules.specs.Job.{lines-from, lines, ragged, fields-from}
+use Rattle.jobtext.specs.Text.{before}
+
+pub bool : (b : Bool) → (b ≡ true) ⊎ (b ≡ false)
+bool true = inl refl
+bool false = inr refl
+
+pub before-le : (b : ℕ) (l : List ℕ) → before b l ≤ length l
+unfolding before
+before-le b [] = zero-le
+before-le b (x ∷ l) = go (bool (eqb x b)) (before-le b l)
+  where
+    go : (eqb x b ≡ true) ⊎ (eqb x b ≡ false) → before b l ≤ length l → before b (x ∷ l) ≤ suc (length l)
+    go (inl e) h = rw (before, e) zero-le
+    go (inr e) h = rw (before, e) (suc-le-suc h)
+
+-- a search from i: at a b it ends, else it goes on
+pub before-stop : (b : ℕ) (s : List ℕ) (i : ℕ) → i < length s → getD s i 0 ≡ b → before b (drop i s) ≡ 0
+unfolding before
+before-stop b s i h e = rw (drop-cons s i 0 h, before, eq-eqb (getD s i 0) b e)
+
+pub before-on : (b : ℕ) (s : List ℕ) (i : ℕ) → i < length s → (getD s i 0 ≡ b → ⊥) → before b (drop i s) ≡ suc (before b (drop (i + 1) s))
+unfolding before
+before-on b s i h n = rw (drop-cons s i 0 h, before, ne-eqb (getD s i 0) b n, add-one)
+
+pub before-end : (b : ℕ) → before b [] ≡ 0
+unfolding before
+before-end b = refl
+
+-- a field, and the rest where a comma ends it
+pub fields-more : (acc l : List ℕ) → before 44 l < length l → fields-from acc l ≡ (acc ++ take (before 44 l) l) ∷ fields-from [] (drop (suc (before 44 l)) l)
+unfolding before fields-from
+fields-more acc [] h = absurd (not-suc-le-zero h)
+fields-more acc (x ∷ l) h = go (bool (eqb x 44)) (fields-more (acc ++ (x ∷ [])) l)
+  where
+    go : (eqb x 44 ≡ true) ⊎ (eqb x 44 ≡ false)
+        → (before 44 l < length l → fields-from (acc ++ (x ∷ [])) l ≡ ((acc ++ (x ∷ [])) ++ take (before 44 l) l) ∷ fields-from [] (drop (suc (before 44 l)) l))
+        → fields-from acc (x ∷ l) ≡ (acc ++ take (before 44 (x ∷ l)) (x ∷ l)) ∷ fields-from [] (drop (suc (before 44 (x ∷ l))) (x ∷ l))
+    go (inl e) i = rw (before, fields-from, e, append-nil)
+    go (inr e) i =
+        let h′ = rw (before, e) at h in
+        rw (before, fields-from, e) (i (le-of-suc-le-suc h′) ∙ rw append-assoc)
+
+pub fields-last : (acc l : List ℕ) → length l ≤ before 44 l → fields-from acc l ≡ (acc ++ l) ∷ []
+unfolding before fields-from
+fields-last acc [] h = rw append-nil
+fields-last acc (x ∷ l) h = go (bool (eqb x 44)) (fields-last (acc ++ (x ∷ [])) l)
+  where
+    go : (eqb x 44 ≡ true) ⊎ (eqb x 44 ≡ false)
+        → (length l ≤ before 44 l → fields-from (acc ++ (x ∷ [])) l ≡ ((acc ++ (x ∷ [])) ++ l) ∷ [])
+        → fields-from acc (x ∷ l) ≡ (acc ++ (x ∷ l)) ∷ []
+    go (inl e) i = absurd (not-suc-le-zero (rw (before, e) at h))
+    go (inr e) i =
+        let h′ = rw (before, e) at h in
+        rw (fields-from, e) (i (le-of-suc-le-suc h′) ∙ rw append-assoc)
+
+-- the same for lines, of which the last is none where nothing ends it
+pub lines-more : (acc l : List ℕ) → before 10 l < length l → lines-from acc l ≡ (acc ++ take (before 10 l) l) ∷ lines-from [] (drop (suc (before 10 l)) l)
+unfolding before lines-from
+lines-more acc [] h = absurd (not-suc-le-zero h)
+lines-more acc (x ∷ l) h = go (bool (eqb x 10)) (lines-more (acc ++ (x ∷ [])) l)
+  where
+    go : (eqb x 10 ≡ true) ⊎ (eqb x 10 ≡ false)
+        → (before 10 l < length l → lines-from (acc ++ (x ∷ [])) l ≡ ((acc ++ (x ∷ [])) ++ take (before 10 l) l) ∷ lines-from [] (drop (suc (before 10 l)) l))
+        → lines-from acc (x ∷ l) ≡ (acc ++ take (before 10 (x ∷ l)) (x ∷ l)) ∷ lines-from [] (drop (suc (before 10 (x ∷ l))) (x ∷ l))
+    go (inl e) i = rw (before, lines-from, e, append-nil)
+    go (inr e) i =
+        let h′ = rw (before, e) at h in
+        rw (before, lines-from, e) (i (le-of-suc-le-suc h′) ∙ rw append-assoc)
+
+pub lines-last : (acc l : List ℕ) → length l ≤ before 10 l → lines-from acc l ≡ []
+unfolding before lines-from
+lines-last acc [] h = refl
+lines-last acc (x ∷ l) h = go (bool (eqb x 10)) (lines-last (acc ++ (x ∷ [])) l)
+  where
+    go : (eqb x 10 ≡ true) ⊎ (eqb x 10 ≡ false) → (length l ≤ before 10 l → lines-from (acc ++ (x ∷ [])) l ≡ []) → lines-from acc (x ∷ l) ≡ []
+    go (inl e) i = absurd (not-suc-le-zero (rw (before, e) at h))
+    go (inr e) i =
+        let h′ = rw (before, e) at h in
+        rw (lines-from, e) (i (le-of-suc-le-suc h′))
+
+-- whether the text ends without byte 10 is told by what follows its first line; with no line it does, unless there is no byte
+pub ragged-more : (l : List ℕ) → before 10 l < length l → ragged l ≡ ragged (drop (suc (before 10 l)) l)
+unfolding before ragged
+ragged-more [] h = absurd (not-suc-le-zero h)
+ragged-more (x ∷ l) h = go (bool (eqb x 10)) l h (ragged-more l)
+  where
+    go : (eqb x 10 ≡ true) ⊎ (eqb x 10 ≡ false) → (m : List ℕ) → before 10 (x ∷ m) < suc (length m)
+        → (before 10 m < length m → ragged m ≡ ragged (drop (suc (before 10 m)) m)) → ragged (x ∷ m) ≡ ragged (drop (suc (before 10 (x ∷ m))) (x ∷ m))
+    go (inl e) [] h i = rw (before, ragged, e)
+    go (inl e) (y ∷ m) h i = rw (before, e)
+    go (inr e) [] h i = absurd (not-suc-le-zero (le-of-suc-le-suc (rw (before, e) at h)))
+    go (inr e) (y ∷ m) h i = rw (before, e) (i (le-of-suc-le-suc (rw (before, e) at h)))
+
+pub ragged-last : (x : ℕ) (l : List ℕ) → suc (length l) ≤ before 10 (x ∷ l) → ragged (x ∷ l) ≡ true
+unfolding before ragged
+ragged-last x [] h = go (bool (eqb x 10))
+  where
+    go : (eqb x 10 ≡ true) ⊎ (eqb x 10 ≡ false) → ragged (x ∷ []) ≡ true
+    go (inl e) = absurd (not-suc-le-zero (rw (before, e) at h))
+    go (inr e) = rw (ragged, e)
+ragged-last x (y ∷ l) h = go (bool (eqb x 10)) (ragged-last y l)
+  where
+    go : (eqb x 10 ≡ true) ⊎ (eqb x 10 ≡ false) → (suc (length l) ≤ before 10 (y ∷ l) → ragged (y ∷ l) ≡ true) → ragged (x ∷ (y ∷ l)) ≡ true
+    go (inl e) i = absurd (not-suc-le-zero (rw (before, e) at h))
+    go (inr e) i = i (le-of-suc-le-suc (rw (before, e) at h))

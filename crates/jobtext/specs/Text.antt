@@ -1,0 +1,39 @@
+-- What the readers of this crate promise: how an answer stands for document 01's numbers and lists (rules, Job). Assumes nothing.
+use mathlib.Core.List.{List, [], _∷_}
+use mathlib.Core.Bool.{Bool, true, false}
+use mathlib.Core.Option.{Option, some, none}
+use mathlib.Core.Path.{_≡_}
+use Prim.Native.Nat.{ℕ, zero, suc, _+_, _*_, _≤_}
+use lib.ListN.{length, take, drop}
+use lib.Dec.{eqb}
+use Rattle.rules.specs.Job.{list}
+use Rattle.jobtext.specs.declared.Number.{Number}
+use Rattle.jobtext.specs.declared.Number.the-variants as number
+use Rattle.jobtext.specs.declared.Items.{Items}
+use Rattle.jobtext.specs.declared.Items.the-variants as items
+
+-- how many bytes stand before the first b, all of them where there is none
+unfoldable pub before : ℕ → List ℕ → ℕ
+before b [] = 0
+before b (x ∷ l) = elim (eqb x b) [ true ↦ 0 | false ↦ suc (before b l) ]
+
+-- the number that an answer tells
+abbrev pub value-of : Number → Option ℕ
+value-of (number.Value n) = some n
+value-of number.Malformed = none
+
+-- the list that an answer tells, its numbers standing at the start of `read`
+abbrev pub list-of : Items → List ℕ → Option (List ℕ)
+list-of (items.Count n) read = some (take n read)
+list-of items.Malformed read = none
+
+abbrev pub count : Items → ℕ
+count (items.Count n) = n
+count items.Malformed = 0
+
+-- a list was read from the bytes s into storage from `off` on: it is document 01's, it lies within, and what stands before is as it was
+pub record ListRead (entry exit : List ℕ) (off : ℕ) (s : List ℕ) (r : Items) : Type 0 where
+  pub reads : list-of r (drop off exit) ≡ list s
+  pub few : 2 * count r ≤ length s + 1
+  pub within : off + count r ≤ length exit
+  pub kept : take off exit ≡ take off entry
