@@ -1,0 +1,106 @@
+-- One entry more, and the release of span 0: what they do to window and storage (the contracts of `put_in` and `release` cite it), and
+-- that under `view` they are `put` and `release` of `rules`. Assumes nothing.
+use mathlib.Core.Path.{_≡_, sym, ap, _∙_}
+use mathlib.Core.List.{List, [], _∷_, _++_}
+use Prim.Native.Nat.{ℕ, suc, _+_, _*_, _≤_, _<_}
+use native.Mathlib.Omega.{arith}
+use lib.ListN.{length, getD, set, drop, length-set, length-append, length-drop}
+use Rattle.window.specs.declared.Window.{Window}
+use Rattle.window.specs.Rotate.{rotated}
+use Rattle.entries.specs.declared.Entry.{Entry}
+use Rattle.entries.specs.Entries.{over, numbers, row, annotated, appended, item-of}
+use Rattle.entries.specs.Stored.{over-length}
+use Rattle.rules.specs.Guide.{put, release}
+use Rattle.buffer.specs.declared.Guide.{Guide}
+use Rattle.buffer.specs.View.{order-of, view, Laid, upto}
+use Rattle.buffer.specs.Rows.{row-ends, spans-put, spans-rotated, distinct-rotated, most-rotated, most-at, most-set, upto-at, upto-rotated, row-length}
+use Rattle.buffer.specs.Order.{order-released, first-released}
+
+-- where the next entry of span i goes
+abbrev pub slot-of : Guide → ℕ → ℕ
+slot-of g i = getD (g .window .rows) i 0 * (g .p + 1) + getD (g .window .lens) i 0
+
+abbrev pub with-window : Guide → Window → ℕ → Guide
+with-window g w n = record { window = w; p = g .p; v = g .v; written = n }
+
+unfoldable pub longer : Guide → ℕ → Guide
+longer g i = with-window g (record { ids = g .window .ids; lens = set (g .window .lens) i (getD (g .window .lens) i 0 + 1); rows = g .window .rows }) (g .written)
+
+unfoldable pub released-guide : Guide → Guide
+released-guide g = with-window g (rotated (g .window)) (g .written + getD (g .window .lens) 0 0)
+
+unfoldable pub released-order : Guide → List ℕ → List ℕ → List ℕ
+released-order g s o =
+    let a = getD (g .window .lens) 0 0 in
+    appended o (g .written) (annotated (g .p) a (getD (g .window .lens) 1 0) 0 (row s (getD (g .window .rows) 0 0 * (g .p + 1)) a))
+
+unfoldable pub put-spans : Guide → List ℕ → ℕ → Entry → List ℕ
+put-spans g s i e = over s (4 * slot-of g i) (numbers e)
+
+module _ (g : Guide) (s : List ℕ) (k : Laid g s) where
+  -- a slot lies in the lent spans
+  pub slot-fits : (i : ℕ) → getD (g .window .lens) i 0 ≤ g .p → 4 * slot-of g i + 4 ≤ length s
+  slot-fits i h =
+      let r : getD (g .window .rows) i 0 < 32 = omega (arith, most-at 31 (g .window .rows) i (k .below)) in
+      omega (arith, row-ends (g .p) (getD (g .window .rows) i 0) 32 r, k .lent)
+
+  pub put-laid : (i : ℕ) (e : Entry) → i < 32 → getD (g .window .lens) i 0 ≤ g .p → Laid (longer g i) (put-spans g s i e)
+  unfolding longer put-spans
+  put-laid i e hi h =
+      record {
+        one = k .one;
+        few = k .few;
+        rows-many = k .rows-many;
+        lens-many = length-set (g .window .lens) i _ ∙ k .lens-many;
+        distinct = k .distinct;
+        below = k .below;
+        short = most-set (g .p + 1) (g .window .lens) i _ (omega arith) (k .short);
+        numbered = k .numbered;
+        lent = rw (over-length s (slot-of g i) e (slot-fits i h)) (k .lent);
+      }
+
+  pub put-view : (i : ℕ) (e : Entry) (o : List ℕ) → i < 32 → getD (g .window .lens) i 0 ≤ g .p → view (longer g i) (put-spans g s i e) o ≡ put i (item-of e) (view g s o)
+  unfolding longer put-spans view put
+  put-view i e o hi h =
+      ap (λ t. record { first = getD (g .window .ids) 0 0; spans = t; order = order-of o (g .written) })
+      (spans-put (g .p) s e (g .window .rows) (g .window .lens) i (k .distinct) (k .short) (k .rows-many ∙ sym (k .lens-many)) (omega (arith, k .rows-many)) h (slot-fits i h))
+
+  last-number : getD (g .window .ids) 31 0 ≡ getD (g .window .ids) 0 0 + 31
+  last-number = ap (λ t. getD t 31 0) (k .numbered) ∙ upto-at (getD (g .window .ids) 0 0) 32 31 (omega arith)
+
+  ids-rotated : drop 1 (g .window .ids) ++ ((getD (g .window .ids) 31 0 + 1) ∷ []) ≡ upto (getD (g .window .ids) 0 0 + 1) 32
+  ids-rotated =
+      let n = getD (g .window .ids) 0 0 in
+      let e : n + 1 ≡ suc n = omega arith in
+      rw (last-number, e) (ap (λ t. drop 1 t ++ ((n + 31 + 1) ∷ [])) (k .numbered) ∙ upto-rotated n 31)
+
+  first-rotated : getD (drop 1 (g .window .ids) ++ ((getD (g .window .ids) 31 0 + 1) ∷ [])) 0 0 ≡ getD (g .window .ids) 0 0 + 1
+  unfolding upto
+  first-rotated = ap (λ t. getD t 0 0) ids-rotated
+
+  pub release-laid : Laid (released-guide g) s
+  unfolding released-guide rotated
+  release-laid =
+      record {
+        one = k .one;
+        few = k .few;
+        rows-many = simp (length-append, length-drop) (omega (arith, k .rows-many));
+        lens-many = simp (length-append, length-drop) (omega (arith, k .lens-many));
+        distinct = distinct-rotated (g .window .rows) (omega (arith, k .rows-many)) (k .distinct);
+        below = most-rotated 31 (g .window .rows) (getD (g .window .rows) 0 0) (most-at 31 (g .window .rows) 0 (k .below)) (k .below);
+        short = most-rotated (g .p + 1) (g .window .lens) 0 (omega arith) (k .short);
+        numbered = ids-rotated ∙ ap (λ t. upto t 32) (sym first-rotated);
+        lent = k .lent;
+      }
+
+  pub release-view : (o : List ℕ) → 4 * (g .written + getD (g .window .lens) 0 0) ≤ length o → view (released-guide g) s (released-order g s o) ≡ release (g .p) 1 (view g s o)
+  unfolding released-guide rotated released-order view release
+  release-view o h =
+      let a = getD (g .window .lens) 0 0 in
+      let es = row s (getD (g .window .rows) 0 0 * (g .p + 1)) a in
+      let same : length (g .window .rows) ≡ length (g .window .lens) = k .rows-many ∙ sym (k .lens-many) in
+      let f = first-rotated in
+      let sp = spans-rotated (g .p) s (g .window .rows) (g .window .lens) same in
+      let od = order-released o (g .written) (g .p) a (getD (g .window .lens) 1 0) es (row-length s _ a) h
+      ∙ ap (λ t. order-of o (g .written) ++ t) (sym (first-released (g .p) s (g .window .rows) (g .window .lens) same (omega (arith, k .lens-many)))) in
+      cc

@@ -1,0 +1,198 @@
+-- What a step of the guide leaves: `Done`, the storage after stands for the model b, and the frame. Laws: a release, two of them, a put, and
+-- what the pieces of the code ask of one another. Assumes nothing.
+use mathlib.Core.Path.{_≡_, refl, sym, ap, _∙_}
+use mathlib.Core.List.{List, [], _∷_, _++_, map}
+use Prim.Native.Nat.{ℕ, suc, _+_, _*_, _-_, _≤_, _<_}
+use native.Mathlib.Omega.{arith}
+use lib.ListN.{length, getD, drop, length-drop, length-map}
+use lib.Seq.{getD-set-same, getD-set-other, getD-at}
+use borrow.Author.Tests.{le-leb, lt-leb}
+use Rattle.rules.specs.Guide.{Guide as GuideModel, put, release, settle, tallied}
+use Rattle.laws.specs.History.{len}
+use Rattle.window.specs.Rotate.{rotated}
+use Rattle.entries.specs.declared.Entry.{Entry}
+use Rattle.entries.specs.Entries.{row, item-of, entry-of}
+use Rattle.buffer.specs.declared.Guide.{Guide}
+use Rattle.buffer.specs.View.{order-of, view, Laid}
+use Rattle.buffer.specs.Rows.{most-at, row-length, span-length, spans-length, upto-length, upto-at}
+use Rattle.buffer.specs.Moves.{longer, released-guide, released-order, put-spans, put-view, release-view}
+use Rattle.buffer.specs.Fit.{Fit, laid-fit}
+use Rattle.tally.specs.Counting.{Countable}
+use Rattle.placing.specs.Frame.{Frame, frame-refl, frame-trans}
+use Rattle.placing.specs.Stands.{Stands, stands-put, frame-put, stands-release, frame-release, countable}
+use Rattle.placing.specs.Flush.{release-none, release-next}
+
+-- g is the guide before, r after; the storage after stands for b
+pub record Done (g r : Guide) (s o t s′ o′ t′ : List ℕ) (b : GuideModel) : Type 0 where
+  pub stands : Stands r s′ o′ t′
+  pub is : view r s′ o′ ≡ b
+  pub same-p : r .p ≡ g .p
+  pub same-v : r .v ≡ g .v
+  pub frame : Frame (g .p) (g .written) (r .written) s o t s′ o′ t′
+
+-- what a release asks
+pub record Free (g : Guide) : Type 0 where
+  pub room : g .written + getD (g .window .lens) 0 0 ≤ g .v
+  pub low : getD (g .window .ids) 31 0 < 4294967295
+
+-- steps compose
+pub done-then : (g h r : Guide) (s o t s′ o′ t′ s″ o″ t″ : List ℕ) (b b′ : GuideModel) → Done g h s o t s′ o′ t′ b → Done h r s′ o′ t′ s″ o″ t″ b′ → Done g r s o t s″ o″ t″ b′
+done-then g h r s o t s′ o′ t′ s″ o″ t″ b b′ d f =
+    let q : Frame (g .p) (h .written) (r .written) s′ o′ t′ s″ o″ t″ = rw (d .same-p) at (f .frame) in
+    record { stands = f .stands; is = f .is; same-p = f .same-p ∙ d .same-p; same-v = f .same-v ∙ d .same-v; frame = frame-trans (d .frame) q }
+
+-- and may say their model by another name
+pub done-as : (g r : Guide) (s o t s′ o′ t′ : List ℕ) (b b′ : GuideModel) → b ≡ b′ → Done g r s o t s′ o′ t′ b → Done g r s o t s′ o′ t′ b′
+done-as g r s o t s′ o′ t′ b b′ e d = record { stands = d .stands; is = d .is ∙ e; same-p = d .same-p; same-v = d .same-v; frame = d .frame }
+
+pub release-done : (g r : Guide) (s o o′ t t′ : List ℕ) (n : ℕ) → n ≡ g .written → Stands g s o t → g .written + getD (g .window .lens) 0 0 ≤ g .v
+    → r ≡ released-guide g → o′ ≡ released-order g s o
+    → t′ ≡ tallied t (map entry-of (row o′ n (getD (g .window .lens) 0 0)))
+    → Done g r s o t s o′ t′ (release (g .p) 1 (view g s o))
+unfolding released-guide
+release-done g r s o o′ t t′ n en k room er eo et =
+    rw (et, en, eo, er) (record {
+      stands = stands-release g s o t k room;
+      is = release-view g s (k .laid) o (omega (arith, k .order-long));
+      same-p = refl;
+      same-v = refl;
+      frame = frame-release g s o t k room;
+    })
+
+pub put-done : (g r : Guide) (s s′ o t : List ℕ) (i : ℕ) (e : Entry) → Stands g s o t → i < 32 → getD (g .window .lens) i 0 ≤ g .p
+    → r ≡ longer g i → s′ ≡ put-spans g s i e → Done g r s o t s′ o t (put i (item-of e) (view g s o))
+unfolding longer
+put-done g r s s′ o t i e k hi h er es =
+    rw (er, es) (record {
+      stands = stands-put g s o t k i e hi h;
+      is = put-view g s (k .laid) i e o hi h;
+      same-p = refl;
+      same-v = refl;
+      frame = frame-put g s o t k i e hi h;
+    })
+
+-- what the tally asks after the release, and what the release asks
+pub asked-tally : (g : Guide) (s o o′ t : List ℕ) (n : ℕ) → Stands g s o t → g .written + getD (g .window .lens) 0 0 ≤ g .v → o′ ≡ released-order g s o → length o′ ≡ length o → n ≡ g .written
+    → (4 * (n + getD (g .window .lens) 0 0) ≤ length o′) × Countable (g .p) o′ n (getD (g .window .lens) 0 0) t
+asked-tally g s o o′ t n k room eo el en = (omega (arith, k .order-long), rw (en, eo) (countable g s o t k room))
+
+pub asked-release : (g : Guide) (s o t : List ℕ) → Stands g s o t → Free g
+    → Fit g s 0 × (((getD (g .window .lens) 1 0 ≤ g .p + 1) × ((getD (g .window .ids) 31 0 < 4294967295) × (g .written + getD (g .window .lens) 0 0 ≤ 16777216))) × (4 * (g .written + getD (g .window .lens) 0 0) ≤ length o))
+asked-release g s o t k f =
+    (laid-fit g s 0 (omega arith) (k .laid), ((most-at (g .p + 1) (g .window .lens) 1 (k .laid .short), (f .low, omega (arith, f .room, k .small))), omega (arith, f .room, k .order-long)))
+
+-- a put that does not fill the span, and one that does
+pub settle-kept : (P n : ℕ) (b : GuideModel) → n < P → settle P n b ≡ b
+unfolding settle
+settle-kept P n b h = rw (lt-leb P n h, settle)
+
+pub settle-gone : (P n : ℕ) (b : GuideModel) → P ≤ n → settle P n b ≡ release P 1 b
+unfolding settle
+settle-gone P n b h = rw (le-leb P n h, settle)
+
+module _ (g h : Guide) (i : ℕ) (e : h ≡ longer g i) where
+  pub longer-at : length (g .window .lens) ≡ 32 → i < 32 → getD (h .window .lens) i 0 ≡ getD (g .window .lens) i 0 + 1
+  unfolding longer
+  longer-at l k = rw e (getD-set-same (g .window .lens) i _ 0 (omega arith))
+
+  pub longer-zero : 1 ≤ i → getD (h .window .lens) 0 0 ≡ getD (g .window .lens) 0 0
+  unfolding longer
+  longer-zero k = rw e (getD-set-other (g .window .lens) i 0 _ 0 (omega arith))
+
+  pub longer-free : 1 ≤ i → Free g → Free h
+  unfolding longer
+  longer-free k f = rw e (record { room = rw (getD-set-other (g .window .lens) i 0 (getD (g .window .lens) i 0 + 1) 0 (omega arith)) (f .room); low = f .low })
+
+-- the guide after a release: its first lengths, its last length, its numbers
+module _ (g h : Guide) (e : h ≡ released-guide g) (l : length (g .window .lens) ≡ 32) where
+  pub released-last : getD (h .window .lens) 31 0 ≡ 0
+  unfolding released-guide rotated
+  released-last = rw e (getD-at (drop 1 (g .window .lens)) 0 [] 0 31 (length-drop 1 (g .window .lens) ∙ omega arith))
+
+  pub released-zero : getD (h .window .lens) 0 0 ≡ getD (g .window .lens) 1 0
+  unfolding released-guide rotated
+  released-zero = rw e (go (g .window .lens) l)
+    where
+      go : (xs : List ℕ) → length xs ≡ 32 → getD (drop 1 xs ++ (0 ∷ [])) 0 0 ≡ getD xs 1 0
+      go [] z = absurd (omega arith)
+      go (x ∷ []) z = absurd (omega arith)
+      go (x ∷ (y ∷ xs)) z = refl
+
+  pub released-number : length (g .window .ids) ≡ 32 → getD (h .window .ids) 31 0 ≡ getD (g .window .ids) 31 0 + 1
+  unfolding released-guide rotated
+  released-number z = rw e (getD-at (drop 1 (g .window .ids)) _ [] 0 31 (length-drop 1 (g .window .ids) ∙ omega arith))
+
+  pub released-written : h .written ≡ g .written + getD (g .window .lens) 0 0
+  unfolding released-guide
+  released-written = rw e
+
+pub view-length : (g : Guide) (s o : List ℕ) → Laid g s → length ((view g s o) .spans) ≡ 32
+unfolding view
+view-length g s o k = spans-length (g .p) s (g .window .rows) (g .window .lens) (k .rows-many ∙ sym (k .lens-many)) ∙ k .lens-many
+
+-- the model's lengths and numbers are the window's
+pub len-view : (g : Guide) (s o : List ℕ) → Laid g s → (i : ℕ) → len ((view g s o) .spans) i ≡ getD (g .window .lens) i 0
+unfolding view
+len-view g s o k i = span-length (g .p) s (g .window .rows) (g .window .lens) i (k .rows-many ∙ sym (k .lens-many))
+
+pub number-view : (g : Guide) (s o : List ℕ) → Laid g s → (i : ℕ) → i < 32 → getD (g .window .ids) i 0 ≡ (view g s o) .first + i
+unfolding view
+number-view g s o k i h = ap (λ x. getD x i 0) (k .numbered) ∙ upto-at (getD (g .window .ids) 0 0) 32 i h
+
+pub order-view : (g : Guide) (s o : List ℕ) → length ((view g s o) .order) ≡ g .written
+unfolding view order-of
+order-view g s o = length-map (row o 0 (g .written)) entry-of ∙ row-length o 0 (g .written)
+
+-- a put into an existing span, kept or with a release after it
+module _ (g h : Guide) (s s′ o t : List ℕ) (i : ℕ) (e : Entry) (k : Stands g s o t) (hi : 1 ≤ i) (hj : i < 32) (hl : getD (g .window .lens) i 0 ≤ g .p)
+    (eh : h ≡ longer g i) (es : s′ ≡ put-spans g s i e) where
+  abbrev put-in : GuideModel
+  put-in = put i (item-of e) (view g s o)
+
+  pub put-is : Done g h s o t s′ o t put-in
+  put-is = put-done g h s s′ o t i e k hj hl eh es
+
+  pub put-kept : getD (h .window .lens) i 0 < h .p → Done g h s o t s′ o t (settle (g .p) (getD (g .window .lens) i 0 + 1) put-in)
+  put-kept lt =
+      done-as g h s o t s′ o t put-in (settle (g .p) (getD (g .window .lens) i 0 + 1) put-in)
+      (sym (settle-kept (g .p) (getD (g .window .lens) i 0 + 1) put-in (omega (arith, longer-at g h i eh (k .laid .lens-many) hj, put-is .same-p)))) put-is
+
+  pub put-gone : (r : Guide) (o′ t′ : List ℕ) → h .p ≤ getD (h .window .lens) i 0 → Done h r s′ o t s′ o′ t′ (release (h .p) 1 (view h s′ o))
+      → Done g r s o t s′ o′ t′ (settle (g .p) (getD (g .window .lens) i 0 + 1) put-in)
+  put-gone r o′ t′ ge f =
+      done-as g r s o t s′ o′ t′ (release (h .p) 1 (view h s′ o)) (settle (g .p) (getD (g .window .lens) i 0 + 1) put-in)
+      (ap (λ x. release x 1 (view h s′ o)) (put-is .same-p) ∙ ap (λ x. release (g .p) 1 x) (put-is .is)
+      ∙ sym (settle-gone (g .p) (getD (g .window .lens) i 0 + 1) put-in (omega (arith, longer-at g h i eh (k .laid .lens-many) hj, put-is .same-p))))
+      (done-then g h r s o t s′ o t s′ o′ t′ put-in (release (h .p) 1 (view h s′ o)) put-is f)
+
+-- a put into the last span after a release
+pub open-put : (g h r : Guide) (s s′ o o′ t t′ : List ℕ) (e : Entry) (b : GuideModel) → Done g h s o t s o′ t′ b → getD (h .window .lens) 31 0 ≡ 0
+    → r ≡ longer h 31 → s′ ≡ put-spans h s 31 e → Done g r s o t s′ o′ t′ (put 31 (item-of e) b)
+open-put g h r s s′ o o′ t t′ e b d z er es =
+    let f = put-done h r s s′ o′ t′ 31 e (d .stands) (omega arith) (omega arith) er es in
+    done-as g r s o t s′ o′ t′ (put 31 (item-of e) (view h s o′)) (put 31 (item-of e) b) (ap (λ x. put 31 (item-of e) x) (d .is))
+    (done-then g h r s o t s o′ t′ s′ o′ t′ b (put 31 (item-of e) (view h s o′)) d f)
+
+-- one release after n of them, on the way to 2 or to 32
+pub done-next : (g h r : Guide) (s o o′ o″ t t′ t″ : List ℕ) (n : ℕ) → Laid g s → n < 32 → len ((view g s o) .spans) 31 ≤ g .p
+    → Done g h s o t s o′ t′ (release (g .p) n (view g s o)) → Done h r s o′ t′ s o″ t″ (release (h .p) 1 (view h s o′))
+    → Done g r s o t s o″ t″ (release (g .p) (suc n) (view g s o))
+done-next g h r s o o′ o″ t t′ t″ n k l m d f =
+    done-as g r s o t s o″ t″ (release (h .p) 1 (view h s o′)) (release (g .p) (suc n) (view g s o))
+    (ap (λ x. release x 1 (view h s o′)) (d .same-p) ∙ ap (λ x. release (g .p) 1 x) (d .is) ∙ release-next (g .p) n (view g s o) (k .one) (view-length g s o k) m l)
+    (done-then g h r s o t s o′ t′ s o″ t″ (release (g .p) n (view g s o)) (release (h .p) 1 (view h s o′)) d f)
+
+pub done-none : (g : Guide) (s o t : List ℕ) → Stands g s o t → Done g g s o t s o t (release (g .p) 0 (view g s o))
+done-none g s o t k =
+    record { stands = k; is = sym (release-none (g .p) (view g s o)); same-p = refl; same-v = refl; frame = frame-refl (g .p) (g .written) s o t }
+
+-- what the second release asks, and the put after it
+pub free-two : (g h : Guide) (s : List ℕ) → Laid g s → h ≡ released-guide g → h .v ≡ g .v → g .written + getD (g .window .lens) 0 0 + getD (g .window .lens) 1 0 ≤ g .v → getD (g .window .ids) 31 0 < 4294967294 → Free h
+free-two g h s k e ev room low =
+    record {
+      room = omega (arith, released-zero g h e (k .lens-many), released-written g h e (k .lens-many));
+      low = omega (arith, released-number g h e (k .lens-many) (ap length (k .numbered) ∙ upto-length (getD (g .window .ids) 0 0) 32));
+    }
+
+pub asked-put-last : (g h : Guide) (s : List ℕ) → h ≡ released-guide g → length (g .window .lens) ≡ 32 → Laid h s → Fit h s 31 × (getD (h .window .lens) 31 0 ≤ h .p)
+asked-put-last g h s e l k = (laid-fit h s 31 (omega arith) k, omega (arith, released-last g h e l))

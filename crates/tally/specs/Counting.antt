@@ -1,0 +1,43 @@
+-- What counting the a entries of the order from index n on asks; and the steps of the loop that counts them. Assumes nothing.
+use mathlib.Core.Path.{_≡_}
+use mathlib.Core.List.{List, [], _∷_, map}
+use Prim.Native.Nat.{ℕ, zero, suc, _+_, _-_, _≤_, _<_}
+use native.Mathlib.Nat.{add-zero, sub-zero}
+use native.Mathlib.Omega.{arith}
+use lib.ListN.{length, getD, set}
+use Rattle.rules.specs.Guide.{tallied}
+use Rattle.entries.specs.declared.Entry.{Entry}
+use Rattle.entries.specs.Entries.{row, entry-at, entry-of}
+
+-- each of the a entries from n on has a parallelism that the tally has a count for, and no count overflows
+pub record Countable (p : ℕ) (o : List ℕ) (n a : ℕ) (t : List ℕ) : Type 0 where
+  pub long : p < length t
+  pub known : (q : ℕ) → q < a → (entry-at o (n + q)) .parallelism ≤ p
+  pub small : (x : ℕ) → x ≤ p → getD t x 0 + a < 4294967296
+
+-- one more at one place: no count grows by more than 1
+pub counted-one : (t : List ℕ) (w x : ℕ) → getD (set t w (getD t w 0 + 1)) x 0 ≤ getD t x 0 + 1
+counted-one [] w x = omega arith
+counted-one (y ∷ t) zero zero = omega arith
+counted-one (y ∷ t) zero (suc x) = omega arith
+counted-one (y ∷ t) (suc w) zero = omega arith
+counted-one (y ∷ t) (suc w) (suc x) = counted-one t w x
+
+module _ (o : List ℕ) (n a : ℕ) where
+  -- what is still to be counted from the q-th entry on
+  abbrev pub to-count : List ℕ → ℕ → List ℕ
+  to-count t q = tallied t (map entry-of (row o (n + q) (a - q)))
+
+  pub count-begins : (t : List ℕ) → tallied t (map entry-of (row o n a)) ≡ to-count t 0
+  count-begins t = rw (add-zero, sub-zero)
+
+  pub count-turn : (t t′ : List ℕ) (q : ℕ) (e : Entry) → q < a → e ≡ entry-at o (n + q) → t′ ≡ set t (e .parallelism) (getD t (e .parallelism) 0 + 1) → to-count t q ≡ to-count t′ (q + 1)
+  unfolding tallied entry-of
+  count-turn t t′ q e h f g =
+      let e1 : a - q ≡ suc (a - (q + 1)) = omega arith in
+      let e2 : n + (q + 1) ≡ suc (n + q) = omega arith in
+      rw (g, f, e1, e2)
+
+  pub count-ends : (t : List ℕ) (q : ℕ) → a ≤ q → to-count t q ≡ t
+  unfolding tallied
+  count-ends t q h = let e : a - q ≡ 0 = omega arith in rw e

@@ -1,0 +1,3 @@
+-- What counting asks, and the laws of the tally.
+pub mod Counting
+pub mod Tallied
