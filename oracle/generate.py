@@ -345,6 +345,7 @@ def guides(numbers):
         absent, recent, flushes = (
             (30, 60, 3), (5, 90, 0), (60, 30, 2), (15, 80, 20), (2, 98, 0),
         )[i % 5]
+        reach = 1 if i % 10 == 4 else 1 + parallelism
         for _ in range(20 + numbers.below(70)):
             if numbers.chance(flushes):
                 run.flush()
@@ -352,7 +353,7 @@ def guides(numbers):
             if not run.given or kind < absent:
                 after = None
             elif kind < absent + recent:
-                after = run.given[-1 - numbers.below(min(len(run.given), 1 + parallelism))]
+                after = run.given[-1 - numbers.below(min(len(run.given), reach))]
             elif numbers.chance(50):
                 after = numbers.choice(run.given)
             elif run.first > 0 and numbers.chance(50):

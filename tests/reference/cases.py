@@ -1,0 +1,227 @@
+"""Cases worked out by hand from document 01. Each has a sentence, what is fed, and what must come.
+
+RUNS are call lists in the format of oracle/FORMAT.md with the refusals expected: the number of each
+call that is refused, calls counted from 0; the key "open" stands for the opening. JOBS are jobs with
+the program's output. HOSTS are jobs with the lent listing length and the number returned.
+"""
+
+FLAGGED = 1 << 62
+PLACEHOLDER = 1 << 63
+LARGEST = (1 << 64) - 1
+
+
+def many(word, count):
+    return ",".join([str(word)] * count)
+
+
+def run(opening, *calls):
+    return "\n".join((opening,) + calls + ("end",)) + "\n"
+
+
+RUNS = [
+    # Opening.
+    ("P below its range", run("session 0 1"), {"open": 1}),
+    ("P above its range", run("session 65000 1"), {"open": 1}),
+    ("V below its range", run("session 1 0"), {"open": 1}),
+    ("V above its range", run("session 1 16777217"), {"open": 1}),
+    ("the greatest P", run("session 64999 1", "final"), {}),
+    ("the guide alone has the same ranges", run("guide 0 1"), {"open": 1}),
+    ("V of the guide alone", run("guide 1 16777217"), {"open": 1}),
+    # 7: closed, before everything else.
+    (
+        "after final every call is refused, whatever it says",
+        run("session 1 2", "final", "set 0", f"set {FLAGGED}", "add - -", "add 9 9,9",
+            f"add {many(0, 65536)} -", "flush", "final"),
+        {1: 7, 2: 7, 3: 7, 4: 7, 5: 7, 6: 7, 7: 7},
+    ),
+    ("a refused final closes nothing", run("session 1 2", "add 0 -", "final", "set 0", "final"), {1: 12}),
+    # 3: inputs and outputs are counted apart, duplicates included.
+    ("65,536 inputs", run("session 1 1", "set 0", f"add {many(0, 65536)} -"), {1: 3}),
+    ("65,535 inputs", run("session 1 1", "set 0", f"add {many(0, 65535)} -"), {}),
+    ("65,536 outputs", run("session 1 1", f"add - {many(0, 65536)}"), {0: 3}),
+    ("65,535 outputs are not too many, but one twice", run("session 1 1", f"add - {many(0, 65535)}"), {0: 6}),
+    ("3 before 4", run("session 1 1", f"add {many(FLAGGED, 65536)} -"), {0: 3}),
+    (
+        "65,535 outputs that differ",
+        run("session 1 65535", "add - " + ",".join(map(str, range(65535))), "final"),
+        {},
+    ),
+    # 4 and 5.
+    ("the witness bit in a set", run("session 1 1", f"set {FLAGGED}"), {0: 4}),
+    ("the placeholder bit in a set", run("session 1 1", f"set {PLACEHOLDER}"), {0: 4}),
+    ("both bits", run("session 1 1", f"set {LARGEST}"), {0: 4}),
+    ("the greatest place without those bits is only too large", run("session 1 1", f"set {FLAGGED - 1}"), {0: 5}),
+    ("the bits in an input", run("session 1 1", f"add {FLAGGED} -"), {0: 4}),
+    ("the bits in an output", run("session 1 1", f"add - {PLACEHOLDER}"), {0: 4}),
+    ("4 in an output goes before 5 in an input", run("session 1 1", f"add 7 {FLAGGED}"), {0: 4}),
+    ("place V", run("session 1 3", "set 3", "add 3 -", "add - 3"), {0: 5, 1: 5, 2: 5}),
+    ("5 before 6", run("session 1 3", "add 3 1,1"), {0: 5}),
+    # 6 and 8.
+    ("an output twice", run("session 1 3", "add - 1,2,1"), {0: 6}),
+    ("6 before 8, over all outputs", run("session 1 3", "set 0", "add - 0,1,1"), {1: 6}),
+    ("an input may stand twice", run("session 1 3", "set 0", "add 0,0 1"), {}),
+    ("set twice", run("session 1 3", "set 1", "set 1"), {1: 8}),
+    ("set and written", run("session 1 3", "set 1", "add - 1"), {1: 8}),
+    ("written and set", run("session 1 3", "add - 1", "set 1"), {1: 8}),
+    ("written twice", run("session 1 3", "add - 1", "add - 1"), {1: 8}),
+    ("promised and set", run("session 1 3", "add 0 1", "set 1"), {1: 8}),
+    ("promised and written", run("session 1 3", "add 0 1", "add - 1"), {1: 8}),
+    ("promised and promised", run("session 1 3", "add 0 1", "add 2 1"), {1: 8}),
+    ("a refused add promises nothing", run("session 1 3", "set 0", "add 2 1,0", "set 1"), {1: 8}),
+    ("its own output as input: it waits for ever", run("session 1 3", "add 0 0", "set 0", "final"), {1: 8, 2: 12}),
+    # 9: V registrations.
+    ("the registration after the V-th", run("session 1 2", "add - -", "add - -", "add - -"), {2: 9}),
+    ("waiting ones count, refused ones don't", run("session 1 2", "add 1 -", "add - 5", "add 1 -", "add - -"), {1: 5, 3: 9}),
+    ("8 before 9", run("session 1 1", "add - 0", "add - 0"), {1: 8}),
+    ("sets are not counted", run("session 1 2", "set 0", "set 1", "add - -", "add - -"), {}),
+    # 10: the pool.
+    ("the pool is full", run("session 1 4 3", "add 0 1", "add 0,0 -", "add - 2", "add - 3", "add - -"), {1: 10, 3: 10}),
+    ("an empty pool takes empty lists", run("session 1 4 0", "add - -", "add 0 -", "add - 0"), {1: 10, 2: 10}),
+    ("9 before 10", run("session 1 1 0", "add - -", "add 0 -"), {1: 9}),
+    ("8 before 10", run("session 1 2 0", "set 0", "add - 0"), {1: 8}),
+    # 11: plain flushes.
+    (
+        "65,535 plain flushes, then only final",
+        run("session 1 1", *["flush"] * 65536, "flush", "final", "flush"),
+        {65535: 11, 65536: 11, 65538: 7},
+    ),
+    # 12.
+    ("final while one waits", run("session 1 2", "set 1", "add 1 -", "final", "set 0", "final"), {2: 12}),
+    ("final again", run("session 1 1", "final", "final"), {1: 7}),
+    # 13 and 14, the guide alone.
+    ("after a location that is not held", run("guide 3 9", "push 0 0 0 1,0", "push 0 0 0 -", "push 0 0 0 1,0", "push 0 0 0 1,1"), {0: 13, 3: 13}),
+    ("after (0,0) is always right", run("guide 3 9", "push 0 0 0 0,0", "push 0 0 0 0,1"), {1: 13}),
+    ("beyond the window", run("guide 3 9", "push 0 0 0 32,0", "push 0 0 0 4294967295,0"), {0: 13, 1: 13}),
+    ("below span 0's number anything goes", run("guide 3 9", "flush", "push 0 0 0 31,7", "push 0 0 0 32,0"), {2: 13}),
+    ("V pushes", run("guide 3 2", "push 0 0 0 -", "push 0 0 0 -", "push 0 0 0 -", "flush", "push 0 0 0 -"), {2: 14, 4: 14}),
+    ("14 before 13", run("guide 3 1", "push 0 0 0 -", "push 0 0 0 9,9"), {1: 14}),
+    ("refused pushes are not counted", run("guide 3 1", "push 0 0 0 9,9", "push 0 0 0 -"), {0: 13}),
+]
+
+
+def lines(*text):
+    return "".join(line + "\n" for line in text).encode()
+
+
+def refused(code, line):
+    return lines(f"status={code}", f"line={line}")
+
+
+HEAD = ("parallelism=2", "places=6")
+EMPTY = lines("status=0", "entries=0", "places=0", "floor=0", "median=0")
+J1 = lines(*HEAD, "set=0", "in=0", "out=1", "in=1", "out=2", "in=0", "out=3", "in=", "out=4", "final=1")
+J1_LISTING = lines(
+    "status=0", "entries=4", "places=5", "floor=1", "median=2",
+    "order=0 added=0 accepted=0 parallelism=2 written=0",
+    "order=1 added=2 accepted=2 parallelism=2 written=0",
+    "order=2 added=1 accepted=1 parallelism=2 written=0",
+    "order=3 added=3 accepted=3 parallelism=1 written=4",
+)
+# Exactly 65,536 bytes: 24 for the head, 8,188 flushes and final of 8 bytes each.
+FULL = lines("parallelism=1", "places=10", *["flush=1"] * 8188, "final=1")
+assert len(FULL) == 65536
+
+
+def body(*text):
+    return lines(*HEAD, *text)
+
+
+def malformed(line):
+    """A job whose third line is the one given."""
+    return (f"malformed: {line!r}", body(line, "final=1"), refused(15, 3))
+
+
+JOBS = [
+    ("J1", J1, J1_LISTING),
+    ("nothing but final", body("final=1"), EMPTY),
+    ("sets alone", body("set=1", "set=0", "final=1"), lines("status=0", "entries=0", "places=2", "floor=0", "median=0")),
+    ("no bytes at all", b"", refused(15, 1)),
+    ("an empty line", b"\n", refused(15, 1)),
+    ("a last line without byte 10 is no line", b"parallelism=2", refused(15, 1)),
+    ("the same for the second", b"parallelism=2\nplaces=6", refused(15, 2)),
+    ("the same for final", lines(*HEAD) + b"final=1", refused(15, 3)),
+    ("no second line", lines("parallelism=2"), refused(15, 2)),
+    ("no final", lines(*HEAD), refused(15, 3)),
+    ("no final after calls", body("set=0", "flush=1"), refused(15, 5)),
+    ("the head's lines exchanged", lines("places=6", "parallelism=2", "final=1"), refused(15, 1)),
+    ("a head line twice", lines("parallelism=2", *HEAD, "final=1"), refused(15, 2)),
+    # Opening: 15 before 1, 1 before 2, all at line 2.
+    ("P of 0", lines("parallelism=0", "places=6", "final=1"), refused(1, 2)),
+    ("P of 65,000", lines("parallelism=65000", "places=6", "final=1"), refused(1, 2)),
+    ("P of 64,999: more than is lent", lines("parallelism=64999", "places=6", "final=1"), refused(2, 2)),
+    ("P of 65", lines("parallelism=65", "places=6", "final=1"), refused(2, 2)),
+    ("P of 64", lines("parallelism=64", "places=6", "final=1"), EMPTY),
+    ("V of 0", lines("parallelism=2", "places=0", "final=1"), refused(1, 2)),
+    ("V of 16,777,217", lines("parallelism=2", "places=16777217", "final=1"), refused(1, 2)),
+    ("V of 16,777,216", lines("parallelism=2", "places=16777216", "final=1"), refused(2, 2)),
+    ("V of 513", lines("parallelism=2", "places=513", "final=1"), refused(2, 2)),
+    ("V of 512", lines("parallelism=2", "places=512", "final=1"), EMPTY),
+    ("1 before 2", lines("parallelism=0", "places=513", "final=1"), refused(1, 2)),
+    ("2 for P, 1 for V: 1", lines("parallelism=65", "places=0", "final=1"), refused(1, 2)),
+    ("the greatest number is only out of range", lines("parallelism=18446744073709551615", "places=6"), refused(1, 2)),
+    ("one more is malformed", lines("parallelism=18446744073709551616", "places=6"), refused(15, 1)),
+    ("15 in line 2 before 1 for line 1", lines("parallelism=0", "places=x"), refused(15, 2)),
+    ("a missing line 2 before 1 for line 1", lines("parallelism=0"), refused(15, 2)),
+    ("opening before line 3", lines("parallelism=0", "places=6", "nonsense"), refused(1, 2)),
+    # Malformed lines.
+    *map(malformed, [
+        "", " ", "set", "set=", "set=00", "set=01", "set=+1", "set=-1", "set= 1", "set=1 ", "set=1\r", "set=1,2",
+        "set=x", "set=0x1", "Set=1", " set=1", "set =1", "set=1=1", "set=18446744073709551616",
+        "set=99999999999999999999", "set=100000000000000000000", "set=000000000000000000001",
+        "flush", "flush=", "flush=0", "flush=01", "flush=1 ", "flush=11", "flush=2",
+        "final", "final=", "final=0", "final=01", "final=11",
+        "in", "in=,", "in=1,", "in=,1", "in=1,,2", "in=1, 2", "in=1 2", "in=01", "in=18446744073709551616",
+        "out=", "out=1", "parallelism=2", "places=6", "set=1\0",
+    ]),
+    # An add is its two lines.
+    ("no out line", body("in=0"), refused(15, 4)),
+    ("another line for the out line", body("in=0", "set=0", "final=1"), refused(15, 4)),
+    ("two in lines", body("in=0", "in=0", "out=1", "final=1"), refused(15, 4)),
+    ("a malformed out line wins over its in line's place", body("in=99", "out=x", "final=1"), refused(15, 4)),
+    ("a malformed in line comes first", body("in=x", "out=y", "final=1"), refused(15, 3)),
+    ("a refused add counts at its out line", body("in=6", "out=", "final=1"), refused(5, 4)),
+    # Refusals by the calls.
+    ("place V", body("set=6", "final=1"), refused(5, 3)),
+    ("bit 62", body("set=4611686018427387904", "final=1"), refused(4, 3)),
+    ("bits 62 and 63", body("set=18446744073709551615", "final=1"), refused(4, 3)),
+    ("below bit 62", body("set=4611686018427387903", "final=1"), refused(5, 3)),
+    ("4 before 5 in an add", body("in=6", "out=9223372036854775808", "final=1"), refused(4, 4)),
+    ("5 before 6", body("in=6", "out=1,1", "final=1"), refused(5, 4)),
+    ("6", body("in=", "out=1,1", "final=1"), refused(6, 4)),
+    ("6 before 8", body("set=1", "in=", "out=1,1", "final=1"), refused(6, 5)),
+    ("8 for a set", body("set=1", "set=1", "final=1"), refused(8, 4)),
+    ("8 for a promised place", body("in=0", "out=1", "set=1", "final=1"), refused(8, 5)),
+    ("9", lines("parallelism=1", "places=1", "in=", "out=", "in=", "out=", "final=1"), refused(9, 6)),
+    ("8 before 9", lines("parallelism=1", "places=1", "in=", "out=0", "in=", "out=0", "final=1"), refused(8, 6)),
+    ("the pool just full", body("set=0", "in=" + many(0, 4096), "out=", "in=", "out=", "final=1"),
+     lines("status=0", "entries=2", "places=1", "floor=1", "median=1",
+           "order=0 added=0 accepted=0 parallelism=2 written=0",
+           "order=1 added=1 accepted=1 parallelism=1 written=2")),
+    ("10", body("set=0", "in=" + many(0, 4097), "out=", "final=1"), refused(10, 5)),
+    ("10 by the second add", body("set=0", "in=" + many(0, 4096), "out=", "in=", "out=1", "final=1"), refused(10, 7)),
+    ("12", body("in=0", "out=", "final=1"), refused(12, 5)),
+    ("12 before what follows final", body("in=0", "out=", "final=1", "set=0"), refused(12, 5)),
+    ("an earlier refusal before a later malformed line", body("set=6", "nonsense"), refused(5, 3)),
+    ("an earlier malformed line before a later refusal", body("nonsense", "set=6"), refused(15, 3)),
+    # After final.
+    ("a call after final", body("final=1", "set=0"), refused(15, 4)),
+    ("final twice", body("final=1", "final=1"), refused(15, 4)),
+    ("an empty line after final", body("final=1", ""), refused(15, 4)),
+    ("a byte after final", body("final=1") + b"x", refused(15, 4)),
+    # 16.
+    ("65,536 bytes", FULL, EMPTY),
+    ("65,537 bytes", FULL + b"x", refused(16, 1)),
+    ("16 before all else", b"x" * 65537, refused(16, 1)),
+    ("65,536 bytes without a line", b"x" * 65536, refused(15, 1)),
+]
+
+HOSTS = [
+    ("just enough listing bytes", J1, len(J1_LISTING), 64 * len(J1_LISTING)),
+    ("more than enough", J1, 65536, 64 * len(J1_LISTING)),
+    ("one byte short", J1, len(J1_LISTING) - 1, 64 * 1 + 17),
+    ("no listing bytes", J1, 0, 64 * 1 + 17),
+    ("a refusal needs none", b"", 0, 64 * 1 + 15),
+    ("17 comes last", J1 + b"x", 0, 64 * 13 + 15),
+    ("16", b"x" * 65537, 65536, 64 * 1 + 16),
+    ("12 at line 5", body("in=0", "out=", "final=1"), 65536, 64 * 5 + 12),
+]

@@ -1,0 +1,317 @@
+//! The reference model as a program. Standard input and output; FORMAT.md stands in oracle/.
+//!
+//!   reference runs              runs in the oracle's format, printed again with the model's answers
+//!   reference job               a job, answered as the program answers it
+//!   reference host LENT         a job, answered as the host's call does with LENT listing bytes: the
+//!                               returned number on a line, then the listing
+//!   reference random KIND SEED COUNT    call lists, KIND session, guide, session-refused, guide-refused
+//!   reference exhaustive KIND           all short call lists, KIND session or guide
+//!   reference jobs SEED COUNT           jobs with the model's answers (jobs.rs says how they look)
+//!
+//! Status 2 and a message on standard error: a malformed line or a wrong use.
+
+mod generate;
+mod jobs;
+mod model;
+
+use model::{Code, Entry, Guide, Lent, Location, Session, Summary, Window, SPANS};
+use std::fmt::{Display, Write as _};
+use std::io::{Read, Write};
+use std::process::exit;
+
+fn main() {
+    let arguments: Vec<String> = std::env::args().skip(1).collect();
+    let words: Vec<&str> = arguments.iter().map(|word| word.as_str()).collect();
+    let mut out = std::io::BufWriter::with_capacity(1 << 16, std::io::stdout());
+    match words[..] {
+        ["runs"] => answer_runs(&mut out),
+        ["job"] => put(&mut out, &model::program(&read_input())),
+        ["host", lent] => {
+            let (returned, listing) = model::host(&read_input(), plain(lent) as usize);
+            put(&mut out, format!("{returned}\n").as_bytes());
+            put(&mut out, &listing);
+        }
+        ["random", kind, seed, count] => {
+            generate::random(kind, plain(seed), plain(count), &mut |run| put(&mut out, run))
+        }
+        ["jobs", seed, count] => {
+            jobs::cases(plain(seed), plain(count), &mut |case| put(&mut out, case))
+        }
+        ["exhaustive", kind] => generate::exhaustive(kind, &mut |run| put(&mut out, run)),
+        _ => fail("use: runs | job | host LENT | random KIND SEED COUNT | exhaustive KIND | jobs SEED COUNT"),
+    }
+    let _ = out.flush();
+}
+
+fn fail(message: &str) -> ! {
+    eprintln!("reference: {message}");
+    exit(2)
+}
+
+fn plain(word: &str) -> u64 {
+    word.parse().unwrap_or_else(|_| fail(&format!("`{word}` is no number")))
+}
+
+fn read_input() -> Vec<u8> {
+    let mut input = Vec::new();
+    if let Err(error) = std::io::stdin().read_to_end(&mut input) {
+        fail(&format!("the input can't be read: {error}"));
+    }
+    input
+}
+
+fn put(out: &mut impl Write, bytes: &[u8]) {
+    if out.write_all(bytes).is_err() {
+        exit(1)
+    }
+}
+
+// ---- Runs
+
+/// What a run opened, or the code with which that was refused.
+enum Opened {
+    Session(Session, Option<Summary>),
+    Guide(Guide, Vec<Location>),
+    Refused(Code),
+}
+
+struct Run {
+    opened: Opened,
+    traced: bool,
+    calls: usize,
+    /// The index and code of each refused call.
+    refused: Vec<(usize, Code)>,
+}
+
+fn answer_runs(out: &mut impl Write) {
+    let input = String::from_utf8(read_input()).unwrap_or_else(|_| fail("the input is no text"));
+    let mut run: Option<Run> = None;
+    let mut text = String::new();
+    for (i, line) in input.lines().enumerate() {
+        if line.starts_with('=') {
+            continue;
+        }
+        let comment = line.is_empty() || line.starts_with('#');
+        if line != "end" {
+            let _ = writeln!(text, "{line}");
+        }
+        if !comment {
+            let done = answer_line(line, &mut run, &mut text);
+            done.unwrap_or_else(|message| fail(&format!("line {}: {message}", i + 1)));
+        }
+        put(out, text.as_bytes());
+        text.clear();
+    }
+    if run.is_some() {
+        fail("the last run has no `end`");
+    }
+}
+
+fn answer_line(line: &str, run: &mut Option<Run>, text: &mut String) -> Result<(), String> {
+    let words: Vec<&str> = line.split(' ').collect();
+    match (run.as_mut(), &words[..]) {
+        (None, _) => *run = Some(open(&words)?),
+        (Some(open), ["trace"]) if open.calls == 0 => open.traced = true,
+        (Some(open), ["end"]) => {
+            for answer in end(open) {
+                let _ = writeln!(text, "= {answer}");
+            }
+            text.push_str("end\n");
+            *run = None;
+        }
+        (Some(open), _) => {
+            let (code, answer) = call(&mut open.opened, &words)?;
+            if code != 0 {
+                open.refused.push((open.calls, code));
+            }
+            open.calls += 1;
+            if open.traced && !matches!(open.opened, Opened::Refused(_)) {
+                let _ = writeln!(text, "= at {code} {answer}");
+            }
+        }
+    }
+    Ok(())
+}
+
+fn open(words: &[&str]) -> Result<Run, String> {
+    let opened = match words {
+        ["session", p, v, w @ ..] if w.len() <= 1 => {
+            let (p, v) = (number(p)?, number(v)?);
+            let pool = w.first().map_or(Ok(u64::MAX), |w| number(w))?;
+            match Session::open(p, v, &Lent::for_session(p, v, pool)) {
+                Ok(session) => Opened::Session(session, None),
+                Err(code) => Opened::Refused(code),
+            }
+        }
+        ["guide", p, v] => {
+            let (p, v) = (number(p)?, number(v)?);
+            let lent = Lent::for_session(p, v, 0);
+            match Guide::open(p, v, lent.spans, lent.order, lent.tally) {
+                Ok(guide) => Opened::Guide(guide, Vec::new()),
+                Err(code) => Opened::Refused(code),
+            }
+        }
+        _ => return Err(format!("`{}` opens no run", words.join(" "))),
+    };
+    Ok(Run { opened, traced: false, calls: 0, refused: Vec::new() })
+}
+
+/// Makes a call and says how things stand after it.
+fn call(opened: &mut Opened, words: &[&str]) -> Result<(Code, String), String> {
+    match opened {
+        Opened::Session(session, summary) => {
+            let code = match words {
+                ["set", place] => session.set(number(place)?),
+                ["add", inputs, outputs] => session.add(&list(inputs)?, &list(outputs)?),
+                ["flush"] => session.flush(),
+                ["final"] => match session.final_flush() {
+                    Ok(given) => {
+                        *summary = Some(given);
+                        0
+                    }
+                    Err(code) => code,
+                },
+                _ => return Err(format!("`{}` is no call of a session", words.join(" "))),
+            };
+            let length = session.window.order.len();
+            Ok((code, format!("{length} {} {}", mark(session), window(&session.window))))
+        }
+        Opened::Guide(guide, locations) => {
+            let (code, location) = match words {
+                ["push", value, added, accepted, after] => {
+                    let (value, added, accepted) =
+                        (number(value)?, number(added)?, number(accepted)?);
+                    match guide.push(value, added, accepted, location(after)?) {
+                        Ok(location) => {
+                            locations.push(location);
+                            (0, pair(&location))
+                        }
+                        Err(code) => (code, "-".to_owned()),
+                    }
+                }
+                ["flush"] => (guide.flush(), "-".to_owned()),
+                _ => return Err(format!("`{}` is no call of the guide", words.join(" "))),
+            };
+            let length = guide.window.order.len();
+            Ok((code, format!("{location} {length} {}", window(&guide.window))))
+        }
+        Opened::Refused(_) => Ok((0, String::new())),
+    }
+}
+
+/// The answers before `end`.
+fn end(run: &Run) -> Vec<String> {
+    let refused = line("refused", run.refused.iter().map(|(call, code)| format!("{call},{code}")));
+    match &run.opened {
+        Opened::Session(session, summary) => {
+            let window = &session.window;
+            let mut answers = vec![refused, order(window), rows(session), places(session)];
+            answers.push(format!("mark {}", mark(session)));
+            answers.push(waiting(session));
+            answers.extend(held(window));
+            if let Some(summary) = summary {
+                answers.push(format!("final {} {}", session.rows.len(), session.leading));
+                answers.push(format!("average {}", summary.average));
+                answers.push(format!("median {}", summary.median));
+                answers.push(counts("low", &summary.low));
+                answers.push(counts("thousands", &summary.thousands));
+            }
+            answers
+        }
+        Opened::Guide(guide, locations) => {
+            let locations = line("locations", locations.iter().map(pair));
+            let mut answers = vec![refused, locations, order(&guide.window)];
+            answers.extend(held(&guide.window));
+            answers
+        }
+        Opened::Refused(code) => vec![format!("refused open,{code}")],
+    }
+}
+
+// ---- Words of the format
+
+fn line<T: Display>(word: &str, items: impl Iterator<Item = T>) -> String {
+    let mut text = word.to_owned();
+    for item in items {
+        let _ = write!(text, " {item}");
+    }
+    text
+}
+
+fn pair(location: &Location) -> String {
+    format!("{},{}", location.span, location.position)
+}
+
+fn mark(session: &Session) -> String {
+    match session.leading {
+        0 => "-".to_owned(),
+        leading => (leading - 1).to_string(),
+    }
+}
+
+fn window(window: &Window) -> String {
+    let filled = (0..SPANS).rev().find(|&i| !window.spans[i].is_empty()).map_or(0, |i| i + 1);
+    line(&window.first.to_string(), window.spans[..filled].iter().map(|span| span.len()))
+}
+
+fn order(window: &Window) -> String {
+    line("order", window.order.iter().map(|entry| {
+        let Entry { value, added, accepted, parallelism } = entry;
+        format!("{value},{added},{accepted},{parallelism}")
+    }))
+}
+
+fn rows(session: &Session) -> String {
+    line("rows", session.rows.iter().map(|row| {
+        let model::Row { added, accepted, written, index, parallelism } = row;
+        format!("{added},{accepted},{written},{index},{parallelism}")
+    }))
+}
+
+fn places(session: &Session) -> String {
+    let tracked = session.places.iter().enumerate().filter(|(_, p)| p.mark != model::UNTRACKED);
+    line("places", tracked.map(|(number, place)| {
+        format!("{number},{},{}", place.mark, pair(&place.location))
+    }))
+}
+
+fn waiting(session: &Session) -> String {
+    line("waiting", session.waiting.iter().map(|(place, registrations)| {
+        registrations.iter().fold(place.to_string(), |text, number| format!("{text},{number}"))
+    }))
+}
+
+/// The tally, the window and its entries.
+fn held(shown: &Window) -> [String; 3] {
+    let entries = shown.spans.iter().flatten();
+    [
+        counts("tally", &shown.tally),
+        format!("window {}", window(shown)),
+        line("held", entries.map(|e| format!("{},{},{}", e.value, e.added, e.accepted))),
+    ]
+}
+
+fn counts(word: &str, counts: &[u64]) -> String {
+    let some = counts.iter().enumerate().filter(|(_, count)| **count != 0);
+    line(word, some.map(|(i, count)| format!("{i},{count}")))
+}
+
+fn number(word: &str) -> Result<u64, String> {
+    let digits = !word.is_empty() && word.bytes().all(|byte| byte.is_ascii_digit());
+    digits.then(|| word.parse().ok()).flatten().ok_or(format!("`{word}` is no number"))
+}
+
+fn list(word: &str) -> Result<Vec<u64>, String> {
+    match word {
+        "-" => Ok(Vec::new()),
+        _ => word.split(',').map(number).collect(),
+    }
+}
+
+fn location(word: &str) -> Result<Option<Location>, String> {
+    if word == "-" {
+        return Ok(None);
+    }
+    let (span, position) = word.split_once(',').ok_or(format!("`{word}` is no location"))?;
+    Ok(Some(Location { span: number(span)?, position: number(position)? }))
+}

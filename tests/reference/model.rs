@@ -1,0 +1,756 @@
+//! The reference model: document 01's clerk as a plain program, written from the paper alone. It is
+//! fed P, V, W and the calls, keeps everything in growing lists, and is meant to be read beside the
+//! paper, paragraph by paragraph: the records, the guide, the registrar and sorter, the checks, the
+//! summary, the job. Tests hold other programs to it, and hold it to the Rust where the two are
+//! compared. All arithmetic is in 64 bits, far from any limit.
+
+use std::collections::BTreeMap;
+
+// ---- The records
+
+/// The spans of the window.
+pub const SPANS: usize = 32;
+/// The greatest P and V.
+pub const MOST_PARALLELISM: u64 = 64_999;
+pub const MOST_PLACES: u64 = 16_777_216;
+
+/// A place's marks.
+pub const UNTRACKED: u16 = 0;
+pub const WRITTEN: u16 = 32_768;
+pub const SET: u16 = 49_152;
+
+/// The number of a refusal, 1 to 17.
+pub type Code = u64;
+
+/// Ordered by span, then position.
+#[derive(Clone, Copy, PartialEq, Eq, PartialOrd, Ord, Default)]
+pub struct Location {
+    pub span: u64,
+    pub position: u64,
+}
+
+/// An entry of the order, or of the window before its parallelism is known.
+#[derive(Clone, Copy)]
+pub struct Entry {
+    pub value: u64,
+    pub added: u64,
+    pub accepted: u64,
+    pub parallelism: u64,
+}
+
+/// A record row; written is filled at the end of the add, the rest when the entry is appended.
+#[derive(Clone, Copy, Default)]
+pub struct Row {
+    pub added: u64,
+    pub accepted: u64,
+    pub written: u64,
+    pub index: u64,
+    pub parallelism: u64,
+}
+
+// ---- Guide
+
+/// Where a value goes: into span i of the window, or into the last of n spans that are opened.
+enum Target {
+    Span(usize),
+    Open(usize),
+}
+
+/// The window with its entries, and what it has released: order and tally.
+pub struct Window {
+    parallelism: u64,
+    /// Span 0's number; the others follow by ones.
+    pub first: u64,
+    pub spans: Vec<Vec<Entry>>,
+    pub order: Vec<Entry>,
+    pub tally: Vec<u64>,
+}
+
+impl Window {
+    fn new(parallelism: u64) -> Self {
+        Self {
+            parallelism,
+            first: 0,
+            spans: vec![Vec::new(); SPANS],
+            order: Vec::new(),
+            tally: vec![0; parallelism as usize + 1],
+        }
+    }
+
+    /// The last span's number.
+    fn last(&self) -> u64 {
+        self.first + SPANS as u64 - 1
+    }
+
+    fn length(&self, i: usize) -> u64 {
+        self.spans[i].len() as u64
+    }
+
+    /// Whether an entry with this location is in the window.
+    fn holds(&self, location: Location) -> bool {
+        self.first <= location.span
+            && location.span <= self.last()
+            && location.position < self.length((location.span - self.first) as usize)
+    }
+
+    fn target(&self, after: Option<Location>) -> Target {
+        let after = match after {
+            Some(after) if after.span >= self.first => after,
+            // Absent, or before the window: span 1, even where that is full.
+            _ => return Target::Span(1),
+        };
+        let d = (after.span - self.first) as usize;
+        if d == SPANS - 1 {
+            return Target::Open(2);
+        }
+        let begin = if after.position > self.length(d + 1) { d + 2 } else { d + 1 };
+        for i in begin..SPANS {
+            if self.length(i) < self.parallelism {
+                return Target::Span(i);
+            }
+        }
+        Target::Open(1)
+    }
+
+    /// Places a value and says where it went. The entry's parallelism is worked out on release.
+    fn place(&mut self, entry: Entry, after: Option<Location>) -> Location {
+        match self.target(after) {
+            Target::Span(i) => {
+                let location =
+                    Location { span: self.first + i as u64, position: self.length(i) };
+                self.spans[i].push(entry);
+                // Whichever span filled, it is span 0 that is released.
+                if self.length(i) >= self.parallelism {
+                    self.release(1);
+                }
+                location
+            }
+            Target::Open(n) => {
+                let location = Location { span: self.last() + n as u64, position: 0 };
+                self.release(n);
+                self.spans[SPANS - 1].push(entry);
+                location
+            }
+        }
+    }
+
+    /// Releases spans 0 to n-1: parallelism from the lengths of the old window, then the entries
+    /// are appended, then the window rotates.
+    fn release(&mut self, n: usize) {
+        for i in 0..n {
+            let a = self.length(i);
+            let next = if i + 1 < SPANS { Some(self.length(i + 1)) } else { None };
+            for q in 0..a {
+                let mut entry = self.spans[i][q as usize];
+                entry.parallelism = width(self.parallelism, a, next, q);
+                self.tally[entry.parallelism as usize] += 1;
+                self.order.push(entry);
+            }
+        }
+        self.spans.drain(..n);
+        self.spans.resize_with(SPANS, Vec::new);
+        self.first += n as u64;
+    }
+
+    fn flush(&mut self) {
+        self.release(SPANS);
+    }
+}
+
+/// The parallelism of the entry at position q of a span with a entries, the next having b; there is
+/// no next one for span 31.
+fn width(p: u64, a: u64, next: Option<u64>, q: u64) -> u64 {
+    let b = match next {
+        Some(b) => b,
+        None => return a - q,
+    };
+    match (a >= p, b >= p) {
+        (true, true) => p,
+        (true, false) if q < b => p,
+        // P - q + b, but at least 1; q can pass P + b.
+        (true, false) => std::cmp::max((p + b).saturating_sub(q), 1),
+        (false, true) => a,
+        (false, false) => std::cmp::min(a, b + a - q),
+    }
+}
+
+// ---- Opening
+
+/// The lengths of what is lent at an opening.
+#[derive(Clone, Copy)]
+pub struct Lent {
+    pub spans: u64,
+    pub order: u64,
+    pub rows: u64,
+    pub places: u64,
+    pub waiting: u64,
+    pub tally: u64,
+    pub pool: u64,
+}
+
+impl Lent {
+    /// Just enough for a session of P and V, with a pool of W numbers.
+    pub fn for_session(p: u64, v: u64, w: u64) -> Self {
+        let spans = (SPANS as u64).saturating_mul(p.saturating_add(1));
+        Self {
+            spans,
+            order: v,
+            rows: v,
+            places: v,
+            waiting: v.saturating_mul(4),
+            tally: p.saturating_add(1),
+            pool: w,
+        }
+    }
+}
+
+/// Checks 1 and 2 of a session.
+fn check_opening(p: u64, v: u64, lent: &Lent) -> Code {
+    if check_range(p, v) != 0 {
+        return 1;
+    }
+    let needed = Lent::for_session(p, v, lent.pool);
+    let enough = lent.spans >= needed.spans
+        && lent.order >= needed.order
+        && lent.rows >= needed.rows
+        && lent.places >= needed.places
+        && lent.waiting >= needed.waiting
+        && lent.tally >= needed.tally;
+    if enough { 0 } else { 2 }
+}
+
+fn check_range(p: u64, v: u64) -> Code {
+    let within = (1..=MOST_PARALLELISM).contains(&p) && (1..=MOST_PLACES).contains(&v);
+    if within { 0 } else { 1 }
+}
+
+// ---- Registrar and sorter
+
+#[derive(Clone, Copy)]
+pub struct Place {
+    pub mark: u16,
+    pub location: Location,
+    /// An output of a registration that waits.
+    promised: bool,
+}
+
+struct Registration {
+    inputs: Vec<u64>,
+    outputs: Vec<u64>,
+}
+
+pub struct Session {
+    places_count: u64,
+    pool: u64,
+    pub window: Window,
+    pub places: Vec<Place>,
+    /// The high mark plus 1, or 0 where there is none: places below are all tracked.
+    pub leading: u64,
+    /// The accepted adds.
+    registrations: Vec<Registration>,
+    /// One for each accepted add; the rows past them are zeros.
+    pub rows: Vec<Row>,
+    /// Those who wait, under their greatest inputs, in the order in which they came.
+    pub waiting: BTreeMap<u64, Vec<u64>>,
+    /// How many adds have ended.
+    ended: u64,
+    /// The list numbers of all accepted adds.
+    list_numbers: u64,
+    plain_flushes: u64,
+    pub closed: bool,
+}
+
+impl Session {
+    pub fn open(p: u64, v: u64, lent: &Lent) -> Result<Self, Code> {
+        match check_opening(p, v, lent) {
+            0 => {}
+            code => return Err(code),
+        }
+        let place = Place { mark: UNTRACKED, location: Location::default(), promised: false };
+        Ok(Self {
+            places_count: v,
+            pool: lent.pool,
+            window: Window::new(p),
+            places: vec![place; v as usize],
+            leading: 0,
+            registrations: Vec::new(),
+            rows: Vec::new(),
+            waiting: BTreeMap::new(),
+            ended: 0,
+            list_numbers: 0,
+            plain_flushes: 0,
+            closed: false,
+        })
+    }
+
+    // The calls. Each meets its checks first; a refused one changes nothing.
+
+    pub fn set(&mut self, place: u64) -> Code {
+        let code = self.check_set(place);
+        if code != 0 {
+            return code;
+        }
+        self.places[place as usize].mark = SET;
+        // Each with all that it sets off before the next.
+        for registration in self.advance() {
+            self.place_all(registration);
+        }
+        0
+    }
+
+    pub fn add(&mut self, inputs: &[u64], outputs: &[u64]) -> Code {
+        let code = self.check_add(inputs, outputs);
+        if code != 0 {
+            return code;
+        }
+        let number = self.registrations.len() as u64;
+        self.list_numbers += (inputs.len() + outputs.len()) as u64;
+        self.registrations
+            .push(Registration { inputs: inputs.to_vec(), outputs: outputs.to_vec() });
+        self.rows.push(Row::default());
+        match inputs.iter().max() {
+            Some(&greatest) if greatest >= self.leading => {
+                self.waiting.entry(greatest).or_default().push(number);
+                for &output in outputs {
+                    self.places[output as usize].promised = true;
+                }
+            }
+            _ => self.place_all(number),
+        }
+        // At the end of the add, also for one that waits.
+        self.rows[number as usize].written = self.window.order.len() as u64;
+        self.ended += 1;
+        0
+    }
+
+    pub fn flush(&mut self) -> Code {
+        if self.closed {
+            return 7;
+        }
+        if self.plain_flushes == 65_535 {
+            return 11;
+        }
+        self.plain_flushes += 1;
+        self.release_all();
+        0
+    }
+
+    pub fn final_flush(&mut self) -> Result<Summary, Code> {
+        if self.closed {
+            return Err(7);
+        }
+        if !self.waiting.is_empty() {
+            return Err(12);
+        }
+        self.release_all();
+        self.closed = true;
+        Ok(Summary::of(&self.window.tally))
+    }
+
+    // The checks, in the paper's order. Each goes over all places of the call before the next.
+
+    fn check_set(&self, place: u64) -> Code {
+        if self.closed {
+            7
+        } else if is_flagged(place) {
+            4
+        } else if place >= self.places_count {
+            5
+        } else if self.is_taken(place) {
+            8
+        } else {
+            0
+        }
+    }
+
+    fn check_add(&self, inputs: &[u64], outputs: &[u64]) -> Code {
+        let places = || inputs.iter().chain(outputs);
+        if self.closed {
+            7
+        } else if inputs.len() > 65_535 || outputs.len() > 65_535 {
+            3
+        } else if places().any(|&place| is_flagged(place)) {
+            4
+        } else if places().any(|&place| place >= self.places_count) {
+            5
+        } else if has_twice(outputs) {
+            6
+        } else if outputs.iter().any(|&place| self.is_taken(place)) {
+            8
+        } else if self.registrations.len() as u64 == self.places_count {
+            9
+        } else if self.list_numbers + (inputs.len() + outputs.len()) as u64 > self.pool {
+            10
+        } else {
+            0
+        }
+    }
+
+    /// Already set, written, or promised by a waiting registration.
+    fn is_taken(&self, place: u64) -> bool {
+        let place = &self.places[place as usize];
+        place.mark != UNTRACKED || place.promised
+    }
+
+    // Placing.
+
+    /// Places a registration and all that it sets off: those who come off are pushed on a stack, and
+    /// the last is taken first.
+    fn place_all(&mut self, registration: u64) {
+        let mut stack = vec![registration];
+        while let Some(next) = stack.pop() {
+            stack.extend(self.place_one(next));
+        }
+    }
+
+    /// Places one registration, tracks its outputs and says who comes off.
+    fn place_one(&mut self, number: u64) -> Vec<u64> {
+        let Registration { inputs, outputs } = &self.registrations[number as usize];
+        let after = inputs.iter().map(|&input| self.places[input as usize].location).max();
+        let entry =
+            Entry { value: number, added: number, accepted: self.ended, parallelism: 0 };
+        let appended_before = self.window.order.len();
+        let location = self.window.place(entry, after);
+        for &output in outputs {
+            self.places[output as usize] = Place { mark: WRITTEN, location, promised: false };
+        }
+        self.fill_rows(appended_before);
+        self.advance()
+    }
+
+    /// Moves the mark, and takes off those who now are at or below it: by ascending place, then by
+    /// registration.
+    fn advance(&mut self) -> Vec<u64> {
+        while self.leading < self.places_count
+            && self.places[self.leading as usize].mark != UNTRACKED
+        {
+            self.leading += 1;
+        }
+        let above = self.waiting.split_off(&self.leading);
+        let off = std::mem::replace(&mut self.waiting, above);
+        off.into_values().flatten().collect()
+    }
+
+    /// Fills the rows of the entries appended since the order had this length.
+    fn fill_rows(&mut self, from: usize) {
+        for index in from..self.window.order.len() {
+            let entry = self.window.order[index];
+            let row = &mut self.rows[entry.added as usize];
+            row.added = entry.added;
+            row.accepted = entry.accepted;
+            row.index = index as u64;
+            row.parallelism = entry.parallelism;
+        }
+    }
+
+    /// What flush and final have in common: all 32 spans are released, and the row of the latest
+    /// registration, if any, takes the order's length.
+    fn release_all(&mut self) {
+        let appended_before = self.window.order.len();
+        self.window.flush();
+        self.fill_rows(appended_before);
+        if let Some(row) = self.rows.last_mut() {
+            row.written = self.window.order.len() as u64;
+        }
+    }
+}
+
+/// Whether a place has bit 62 (witness) or 63 (placeholder).
+fn is_flagged(place: u64) -> bool {
+    place >> 62 != 0
+}
+
+fn has_twice(places: &[u64]) -> bool {
+    let mut sorted = places.to_vec();
+    sorted.sort_unstable();
+    sorted.windows(2).any(|pair| pair[0] == pair[1])
+}
+
+// ---- The guide alone
+
+pub struct Guide {
+    places_count: u64,
+    pub window: Window,
+    pushes: u64,
+}
+
+impl Guide {
+    pub fn open(p: u64, v: u64, spans: u64, order: u64, tally: u64) -> Result<Self, Code> {
+        if check_range(p, v) != 0 {
+            return Err(1);
+        }
+        if spans < SPANS as u64 * (p + 1) || order < v || tally < p + 1 {
+            return Err(2);
+        }
+        Ok(Self { places_count: v, window: Window::new(p), pushes: 0 })
+    }
+
+    pub fn push(
+        &mut self,
+        value: u64,
+        added: u64,
+        accepted: u64,
+        after: Option<Location>,
+    ) -> Result<Location, Code> {
+        if self.pushes == self.places_count || self.is_worn() {
+            return Err(14);
+        }
+        if let Some(after) = after {
+            let unknown = after != Location::default()
+                && after.span >= self.window.first
+                && !self.window.holds(after);
+            if unknown {
+                return Err(13);
+            }
+        }
+        self.pushes += 1;
+        Ok(self.window.place(Entry { value, added, accepted, parallelism: 0 }, after))
+    }
+
+    pub fn flush(&mut self) -> Code {
+        if self.is_worn() {
+            return 14;
+        }
+        self.window.flush();
+        0
+    }
+
+    /// Whether the span numbers are used up: 14's second half.
+    fn is_worn(&self) -> bool {
+        self.window.last() >= 4_294_967_264
+    }
+}
+
+// ---- Summary
+
+/// What final gives beside its number.
+pub struct Summary {
+    /// The bits of the average in binary32.
+    pub average: u32,
+    pub median: u64,
+    pub low: [u64; 128],
+    pub thousands: [u64; 65],
+}
+
+impl Summary {
+    fn of(tally: &[u64]) -> Self {
+        let sum: u64 = tally.iter().sum();
+        let mut running = 0;
+        let median = tally.iter().position(|count| {
+            running += count;
+            2 * running >= sum
+        });
+        let mut summary = Self {
+            average: quotient_bits(sum, 65_000),
+            median: median.unwrap_or(0) as u64,
+            low: [0; 128],
+            thousands: [0; 65],
+        };
+        for (parallelism, &count) in tally.iter().enumerate() {
+            if parallelism < summary.low.len() {
+                summary.low[parallelism] = count;
+            }
+            summary.thousands[parallelism / 1000] += count;
+        }
+        summary
+    }
+}
+
+/// The bits of a / b in binary32, rounded once, to the nearest and at a tie to the even one. By whole
+/// numbers only, for quotients in the range of normal numbers, and 0.
+fn quotient_bits(a: u64, b: u64) -> u32 {
+    if a == 0 {
+        return 0;
+    }
+    // The scaled quotient has 24 bits: 2^23 <= floor(a * 2^scale / b) < 2^24.
+    let (a, b) = (a as u128, b as u128);
+    let scaled = |scale: i32| match scale >= 0 {
+        true => (a << scale, b),
+        false => (a, b << -scale),
+    };
+    let quotient = |scale: i32| scaled(scale).0 / scaled(scale).1;
+    let mut scale = 60;
+    while quotient(scale) >= 1 << 24 {
+        scale -= 1;
+    }
+    let (numerator, denominator) = scaled(scale);
+    let (mut significand, rest) = (numerator / denominator, numerator % denominator);
+    if 2 * rest > denominator || (2 * rest == denominator && significand % 2 == 1) {
+        significand += 1;
+    }
+    // A carry out of the significand lands in the exponent, as it should.
+    let exponent = (127 + 23 - scale) as u32;
+    (exponent << 23) + (significand as u32 - (1 << 23))
+}
+
+// ---- Job and listing
+
+/// What program and host lend: P to 64, V to 512, and a pool of 4,096 numbers.
+const JOB_PARALLELISM: u64 = 64;
+const JOB_PLACES: u64 = 512;
+const JOB_POOL: u64 = 4_096;
+const JOB_BYTES: usize = 65_536;
+/// The listing bytes that the program lends.
+pub const LISTING_BYTES: usize = 65_536;
+
+/// A refused job: the number and the line.
+pub struct Refusal {
+    pub code: Code,
+    pub line: u64,
+}
+
+/// The lines of a job, each ended by byte 10; what comes after the last byte 10 is no line.
+struct Lines<'a> {
+    rest: &'a [u8],
+    /// The number of the line that comes next.
+    next: u64,
+}
+
+impl<'a> Lines<'a> {
+    /// The next line without its byte 10; where there is none, the refusal of a missing line.
+    fn take(&mut self) -> Result<&'a [u8], Refusal> {
+        match self.rest.iter().position(|&byte| byte == 10) {
+            Some(end) => {
+                let line = &self.rest[..end];
+                self.rest = &self.rest[end + 1..];
+                self.next += 1;
+                Ok(line)
+            }
+            None => Err(Refusal { code: 15, line: self.next }),
+        }
+    }
+
+    /// A refusal at the line that was taken last.
+    fn refuse(&self, code: Code) -> Refusal {
+        Refusal { code, line: self.next - 1 }
+    }
+
+    /// Nothing, or the refusal at the line that was taken last.
+    fn demand(&self, code: Code) -> Result<(), Refusal> {
+        if code == 0 { Ok(()) } else { Err(self.refuse(code)) }
+    }
+
+    /// The value of a line `key=value` that must come next.
+    fn take_value(&mut self, key: &str) -> Result<&'a [u8], Refusal> {
+        let line = self.take()?;
+        value_of(line, key).ok_or_else(|| self.refuse(15))
+    }
+}
+
+/// Runs a job and gives its listing. `lent` is the count of lent listing bytes.
+pub fn run_job(job: &[u8], lent: usize) -> Result<Vec<u8>, Refusal> {
+    if job.len() > JOB_BYTES {
+        return Err(Refusal { code: 16, line: 1 });
+    }
+    let mut lines = Lines { rest: job, next: 1 };
+    let mut session = open_job(&mut lines)?;
+    let summary = loop {
+        let line = lines.take()?;
+        if let Some(summary) = run_line(line, &mut lines, &mut session)? {
+            break summary;
+        }
+    };
+    if !lines.rest.is_empty() {
+        return Err(Refusal { code: 15, line: lines.next });
+    }
+    let listing = list(&session, &summary);
+    if listing.len() > lent {
+        return Err(Refusal { code: 17, line: 1 });
+    }
+    Ok(listing)
+}
+
+/// The two head lines. Opening is judged once both are well formed.
+fn open_job(lines: &mut Lines) -> Result<Session, Refusal> {
+    let mut head = |key| -> Result<u64, Refusal> {
+        let value = lines.take_value(key)?;
+        number(value).ok_or_else(|| lines.refuse(15))
+    };
+    let p = head("parallelism")?;
+    let v = head("places")?;
+    let lent = Lent::for_session(JOB_PARALLELISM, JOB_PLACES, JOB_POOL);
+    Session::open(p, v, &lent).map_err(|code| lines.refuse(code))
+}
+
+/// Runs one line after the head (with its `out=` line, for an add); final's gives the summary.
+fn run_line(
+    line: &[u8],
+    lines: &mut Lines,
+    session: &mut Session,
+) -> Result<Option<Summary>, Refusal> {
+    let malformed = |lines: &Lines| lines.refuse(15);
+    if let Some(value) = value_of(line, "set") {
+        let place = number(value).ok_or_else(|| malformed(lines))?;
+        lines.demand(session.set(place))?;
+    } else if let Some(value) = value_of(line, "in") {
+        let inputs = numbers(value).ok_or_else(|| malformed(lines))?;
+        let value = lines.take_value("out")?;
+        let outputs = numbers(value).ok_or_else(|| malformed(lines))?;
+        lines.demand(session.add(&inputs, &outputs))?;
+    } else if line == b"flush=1" {
+        lines.demand(session.flush())?;
+    } else if line == b"final=1" {
+        return session.final_flush().map(Some).map_err(|code| lines.refuse(code));
+    } else {
+        return Err(malformed(lines));
+    }
+    Ok(None)
+}
+
+fn value_of<'a>(line: &'a [u8], key: &str) -> Option<&'a [u8]> {
+    line.strip_prefix(key.as_bytes())?.strip_prefix(b"=")
+}
+
+/// A number of at most 20 digits in 64 bits, with no leading zero but 0 itself.
+fn number(text: &[u8]) -> Option<u64> {
+    let digits = text.iter().all(|byte| byte.is_ascii_digit());
+    if text.is_empty() || text.len() > 20 || !digits || (text[0] == b'0' && text.len() > 1) {
+        return None;
+    }
+    let value = text.iter().fold(0u128, |value, digit| 10 * value + (digit - b'0') as u128);
+    u64::try_from(value).ok()
+}
+
+/// Numbers divided by single commas, or nothing.
+fn numbers(text: &[u8]) -> Option<Vec<u64>> {
+    if text.is_empty() {
+        return Some(Vec::new());
+    }
+    text.split(|&byte| byte == b',').map(number).collect()
+}
+
+fn list(session: &Session, summary: &Summary) -> Vec<u8> {
+    let order = &session.window.order;
+    let floor = order.iter().map(|entry| entry.parallelism).min().unwrap_or(0);
+    let mut text = format!(
+        "status=0\nentries={}\nplaces={}\nfloor={floor}\nmedian={}\n",
+        order.len(),
+        session.leading,
+        summary.median
+    );
+    for (index, entry) in order.iter().enumerate() {
+        let Entry { added, accepted, parallelism, .. } = entry;
+        let written = session.rows[*added as usize].written;
+        text += &format!(
+            "order={index} added={added} accepted={accepted} \
+             parallelism={parallelism} written={written}\n"
+        );
+    }
+    text.into_bytes()
+}
+
+/// What the program prints.
+pub fn program(job: &[u8]) -> Vec<u8> {
+    match run_job(job, LISTING_BYTES) {
+        Ok(listing) => listing,
+        Err(Refusal { code, line }) => format!("status={code}\nline={line}\n").into_bytes(),
+    }
+}
+
+/// What the host's call returns, and the listing where the job is accepted.
+pub fn host(job: &[u8], lent: usize) -> (u64, Vec<u8>) {
+    match run_job(job, lent) {
+        Ok(listing) => (64 * listing.len() as u64, listing),
+        Err(Refusal { code, line }) => (64 * line + code, Vec::new()),
+    }
+}

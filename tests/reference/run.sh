@@ -1,0 +1,56 @@
+#!/bin/bash
+# Tests the reference model: against the kept sample and the hand-worked cases, and, where the Rust is
+# at hand, against the oracle on all short call lists and on REFERENCE_RUNS random sessions (default
+# 30000) and half as many random guides. The seed is REFERENCE_SEED (default 1).
+set -euo pipefail
+cd "$(dirname "$0")/../.."
+
+runs=${REFERENCE_RUNS:-30000} seed=${REFERENCE_SEED:-1}
+work=target/reference
+fail() { echo "tests/reference/run.sh: $*" >&2; exit 1; }
+
+mkdir -p $work
+rustc --edition 2021 -O -o $work/reference tests/reference/main.rs
+reference=$work/reference
+
+for sample in placements sessions guides; do
+  $reference runs <oracle/sample/$sample.txt | diff oracle/sample/$sample.txt - >$work/difference ||
+    { head -n 20 $work/difference; fail "the model and the kept sample differ in $sample.txt"; }
+done
+echo "model: the kept sample's sessions and guides: no difference"
+
+python3 tests/reference/check.py runs $reference runs
+python3 tests/reference/check.py jobs $reference job
+python3 tests/reference/check.py host $reference host
+
+if [ ! -d "${ORACLE_SOURCE:-../shared/docs/src}" ]; then
+  echo "model: no Rust source at ${ORACLE_SOURCE:-../shared/docs/src}, so the model is NOT compared with the Rust"
+  exit 0
+fi
+[ -x target/oracle/oracle ] || oracle/build.sh
+
+# compare NAME GENERATE..: the lists that `reference GENERATE..` writes, by oracle and model.
+compare() {
+  local name=$1 count
+  shift
+  $reference "$@" >$work/$name.runs
+  target/oracle/oracle <$work/$name.runs >$work/$name.oracle || fail "$name: the oracle's status is $?"
+  $reference runs <$work/$name.runs >$work/$name.model || fail "$name: the model's status is $?"
+  cmp $work/$name.oracle $work/$name.model || fail "$name: oracle and model differ (files in $work)"
+  count=$(grep -cx end $work/$name.model)
+  [ "$count" -gt 0 ] || fail "$name: no runs"
+  rm $work/$name.{runs,oracle,model}
+  echo "model against the Rust: $name: $count lists, no difference"
+}
+
+# Two at a time: random sessions beside all the rest.
+trap 'kill $(jobs -p) 2>/dev/null || true' EXIT
+compare sessions random session "$seed" "$runs" &
+sessions=$!
+compare short-sessions exhaustive session
+compare short-guides exhaustive guide
+compare guides random guide "$seed" $((runs / 2))
+wait $sessions || fail "sessions: failed"
+
+$reference jobs "$seed" 2000 >$work/random.cases
+python3 tests/reference/listings.py $work/random.cases target/oracle/oracle
