@@ -1,0 +1,60 @@
+-- Laws of the copying loop: what is copied when nothing is, one entry more, and the length. Assumes nothing.
+use mathlib.Core.Path.{_≡_, refl, sym, ap, _∙_}
+use mathlib.Core.List.{List, [], _∷_, _++_, append-assoc}
+use Prim.Native.Nat.{ℕ, zero, suc, _+_, _-_, _≤_, _<_}
+use native.Mathlib.Numerals.{add-one}
+use native.Mathlib.Omega.{arith}
+use lib.ListN.{length, take, drop, set, getD, length-append, length-drop}
+use lib.Seq.{drop-cons, length-take-le, set-at}
+use Rattle.order_entries.specs.declared.OrderInfo.{OrderInfo}
+use Rattle.order_entries.specs.Flat.{entry-of}
+use Rattle.order_entries.specs.Copied.{entries, copied}
+
+entries-length : (f : List ℕ) (k n : ℕ) → length (entries f k n) ≡ n
+unfolding entries
+entries-length f k zero = refl
+entries-length f k (suc n) = ap suc (entries-length f (suc k) n)
+
+entries-more : (f : List ℕ) (k n : ℕ) → entries f k (suc n) ≡ entries f k n ++ (entry-of f (k + n) ∷ [])
+unfolding entries
+entries-more f k zero = ap (λ m. entry-of f m ∷ []) (omega arith)
+entries-more f k (suc n) = ap (λ l. entry-of f k ∷ l) (entries-more f (suc k) n ∙ ap (λ m. entries f (suc k) n ++ (entry-of f m ∷ [])) (omega arith))
+
+take-drop : (o : List OrderInfo) (n : ℕ) → take n o ++ drop n o ≡ o
+take-drop o zero = refl
+take-drop [] (suc n) = refl
+take-drop (x ∷ o) (suc n) = ap (λ l. x ∷ l) (take-drop o n)
+
+pub copied-none : (o : List OrderInfo) (f : List ℕ) (from : ℕ) → copied o f from from ≡ o
+unfolding copied entries
+copied-none o f from = let e : from - from ≡ 0 = omega arith in rw e (take-drop o from)
+
+module _ (o : List OrderInfo) (f : List ℕ) (from k : ℕ) (lo : from ≤ k) where
+  -- what stands before place k is k entries long
+  before : k ≤ length o → length (take from o ++ entries f from (k - from)) ≡ k
+  before h = length-append (take from o) (entries f from (k - from)) ∙ let a = length-take-le from o (omega arith) in let b = entries-length f from (k - from) in omega arith
+
+  pub copied-length : k ≤ length o → length (copied o f from k) ≡ length o
+  unfolding copied
+  copied-length h =
+      let a = length-append (take from o) (entries f from (k - from) ++ drop k o) in
+      let b = length-append (entries f from (k - from)) (drop k o) in
+      let c = length-append (take from o) (entries f from (k - from)) in
+      let d = before h in
+      let e = length-drop k o in
+      omega arith
+
+  pub copied-more : k < length o → set (copied o f from k) k (entry-of f k) ≡ copied o f from (k + 1)
+  unfolding copied
+  copied-more h =
+      ap (λ l. set l k (entry-of f k)) (sym (append-assoc (take from o) (entries f from (k - from)) (drop k o)))
+      ∙ ap (λ l. set ((take from o ++ entries f from (k - from)) ++ l) k (entry-of f k)) (drop-cons o k (entry-of f k) h)
+      ∙ set-at (take from o ++ entries f from (k - from)) (getD o k (entry-of f k)) (drop (suc k) o) (entry-of f k) k (before (omega arith))
+      ∙ append-assoc (take from o) (entries f from (k - from)) (entry-of f k ∷ drop (suc k) o)
+      ∙ ap (λ l. take from o ++ l) (sym (append-assoc (entries f from (k - from)) (entry-of f k ∷ []) (drop (suc k) o)) ∙ ap (λ l. l ++ drop (suc k) o) (sym more) ∙ ap (λ n. entries f from (k + 1 - from) ++ drop n o) (sym (add-one k)))
+    where
+      more : entries f from (k + 1 - from) ≡ entries f from (k - from) ++ (entry-of f k ∷ [])
+      more =
+          let e : k + 1 - from ≡ suc (k - from) = omega arith in
+          let d : from + (k - from) ≡ k = omega arith in
+          rw e (entries-more f from (k - from) ∙ ap (λ m. entries f from (k - from) ++ (entry-of f m ∷ [])) d)
