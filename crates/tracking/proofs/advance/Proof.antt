@@ -1,14 +1,13 @@
 -- What remains to be done keeps the answer: the run from the place reached is the run from 0. Assumes nothing.
-use Rattle.rules.specs.Model.{run-from}
-use Rattle.tracking.specs.Tracking.{tracked-in, nz}
-use Rattle.tracking.specs.Loops.{run-begins, run-most, run-more, run-stops, run-ends, nz-no, nz-yes}
 use denote.Ref.{now}
-use lib.ListN.{length, getD, set, length-set}
-use Prim.Native.Nat.{ℕ, _+_, _*_, _-_, _≤_, _<_}
-use mathlib.Core.Logic.{⊎-elim}
-use mathlib.Core.Path.{_≡_, refl, sym, ap, _∙_}
+use lib.ListN.{getD}
+use Prim.Native.Nat.{_-_, _≤_}
+use mathlib.Core.Path.{_≡_, sym, _∙_}
 use borrow.Author.Needs.{needs}
 use native.Mathlib.Omega.{arith}
+use Rattle.rules.specs.Model.{run-from}
+use Rattle.tracking.specs.Tracking.{tracked-in}
+use Rattle.tracking.specs.Loops.{run-begins, run-most, run-more, run-stops, run-ends, nz-no, nz-yes}
 use Rattle.tracking.proofs.advance.Statement.{statement}
 use Rattle.tracking.proofs.advance.Tie as tie
 

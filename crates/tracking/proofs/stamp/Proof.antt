@@ -1,14 +1,13 @@
 -- What remains to be done keeps the answer: both lists stamped at the places not yet looked at. Assumes nothing.
-use Rattle.lists.specs.Part.{part}
-use Rattle.tracking.specs.Tracking.{stamped}
-use Rattle.tracking.specs.Loops.{to-stamp, stamp-begins, stamp-turn, stamp-ends}
 use denote.Ref.{now}
-use lib.ListN.{length, getD, set, length-set}
-use Prim.Native.Nat.{ℕ, _+_, _*_, _-_, _≤_, _<_}
-use mathlib.Core.Logic.{⊎-elim}
+use lib.ListN.{length, set, length-set}
+use Prim.Native.Nat.{_+_, _-_, _≤_}
 use mathlib.Core.Path.{_≡_, refl, sym, ap, _∙_}
 use borrow.Author.Needs.{needs}
 use native.Mathlib.Omega.{arith}
+use Rattle.lists.specs.Part.{part}
+use Rattle.tracking.specs.Tracking.{stamped}
+use Rattle.tracking.specs.Loops.{to-stamp, stamp-begins, stamp-turn, stamp-ends}
 use Rattle.tracking.proofs.stamp.Statement.{statement}
 use Rattle.tracking.proofs.stamp.Tie as tie
 

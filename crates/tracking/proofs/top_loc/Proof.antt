@@ -1,14 +1,14 @@
 -- What remains to be done keeps the answer: the greatest of `m` and of the locations of the places not yet looked at. Assumes nothing.
+use denote.Ref.{now}
+use lib.ListN.{getD}
+use Prim.Native.Nat.{_+_, _-_, _≤_}
+use mathlib.Core.Logic.{⊎-elim}
+use mathlib.Core.Path.{_≡_, sym, ap, _∙_}
+use borrow.Author.Needs.{needs}
+use native.Mathlib.Omega.{arith}
 use Rattle.lists.specs.Part.{part}
 use Rattle.tracking.specs.Tracking.{peak}
 use Rattle.tracking.specs.Loops.{to-peak, peak-begins, peak-less, peak-more, peak-ends}
-use denote.Ref.{now}
-use lib.ListN.{length, getD, set, length-set}
-use Prim.Native.Nat.{ℕ, _+_, _*_, _-_, _≤_, _<_}
-use mathlib.Core.Logic.{⊎-elim}
-use mathlib.Core.Path.{_≡_, refl, sym, ap, _∙_}
-use borrow.Author.Needs.{needs}
-use native.Mathlib.Omega.{arith}
 use Rattle.tracking.proofs.top_loc.Statement.{statement}
 use Rattle.tracking.proofs.top_loc.Tie as tie
 

@@ -1,0 +1,84 @@
+-- What is left to be turned round, from the places below p, gives the same as the chains of all places from lo to hi. Assumes nothing.
+use Prim.Native.Nat.{ℕ, _*_, _≤_}
+use denote.Ref.{now}
+use mathlib.Core.Path.{_≡_, refl, _∙_}
+use mathlib.Core.List.{List}
+use lib.ListN.{length}
+use borrow.Author.Needs.{needs}
+use native.Mathlib.Omega.{arith}
+use Rattle.registrar.specs.Delayed.{newest}
+use Rattle.registrar.specs.Keeps.{advancing-places, set-advances}
+use Rattle.registrar.specs.Loops.{Places, Going, going-start, going-next, going-chain, going-chained, going-in, going-long, going-end}
+use Rattle.registrar.proofs.advance_set.Statement.{statement}
+use Rattle.registrar.proofs.advance_set.Tie as tie
+
+abbrev Inv-loop : tie.InvT-loop
+Inv-loop w₀ v lo hi p₀ top₀ w p top = (lo ≤ p) × (length w ≡ length w₀) × ((ch : ℕ → List ℕ) → Places w₀ v lo hi ch → Going w₀ v lo hi 0 ch w p top)
+
+abbrev μ-loop : tie.MeasureT-loop
+μ-loop w₀ v lo hi p₀ top₀ w p top = p
+
+-- in a turn: what is going on, at the chains of the caller's delayed registrations
+chains : (c : tie.In-loop Inv-loop μ-loop) → ℕ → List ℕ
+chains c = λ q. newest q (c .before .before .before .pre .ps)
+
+going : (c : tie.In-loop Inv-loop μ-loop)
+    → Going (now (c .before .before .before .args .w)) (c .before .before .before .args .v) (c .before .before .before .args .lo) (c .before .before .before .args .hi) 0 (chains c) (c .before .loop .w) (c .before .loop .p) (c .before .loop .top)
+unfolding chains
+going c = let s = c .before .before .before in let a = s .args in c .before .loop .inv .2 (chains c) (advancing-places (now (a .w)) (a .v) (a .lo) (a .hi) 0 (s .pre))
+
+inside : (c : tie.In-loop Inv-loop μ-loop) → (c .before .loop .p ≤ c .before .before .before .args .v) × (4 * c .before .before .before .args .v ≤ length (c .before .loop .w))
+inside c = (going-in _ _ _ _ _ _ _ _ _ (going c) (c .loop-test .taken), going-long _ _ _ _ _ _ _ _ _ (going c) (c .loop-test .taken))
+
+loop-holds : tie.Need-loop-holds Inv-loop μ-loop
+loop-holds c = (c .before .pre .order, refl, λ ch s. going-start _ _ _ _ _ ch (c .before .pre .order) s)
+
+sub-p : tie.Need-sub-p Inv-loop μ-loop
+sub-p c = search needs
+
+mul-head : tie.Need-mul-head Inv-loop μ-loop
+mul-head c = omega (arith, inside c, c .before .loop .inv .1)
+
+slice-read-head : tie.Need-slice-read-head Inv-loop μ-loop
+slice-read-head c = omega (arith, inside (c .before))
+
+turn-onto-requires : tie.Need-turn-onto-requires Inv-loop μ-loop
+turn-onto-requires c κs = going-chained _ _ _ _ _ _ _ _ _ (going (c .before .before)) (c .before .before .loop-test .taken)
+
+loop-less : tie.Need-loop-less Inv-loop μ-loop
+loop-less c = search needs
+
+loop-again : tie.Need-loop-again Inv-loop μ-loop
+loop-again c = (
+  omega (arith, c .before .before .before .before .before .loop-test .taken),
+  c .before .before .turn-onto .kept .0 ∙ c .before .before .before .before .before .before .loop .inv .1,
+  λ ch s.
+      let g = c .before .before .before .before .before .before .loop .inv .2 ch s in
+      let e = c .before .before .turn-onto .ensures .turned (ch _) (going-chain _ _ _ _ _ ch _ _ _ g (c .before .before .before .before .before .loop-test .taken)) in
+      going-next _ _ _ _ _ ch _ _ _ g (c .before .before .before .before .before .loop-test .taken) _ _ (e .1) (e .0),
+)
+
+same-length : tie.Need-same-length Inv-loop μ-loop
+same-length c = c .before .loop .inv .1
+
+returns : tie.Need-returns Inv-loop μ-loop
+returns c =
+    let s = c .before .before .before in
+    let a = s .args in
+    set-advances (now (a .w)) (a .v) (a .lo) (a .hi) (s .pre) _ _ (λ ch p. going-end _ _ _ _ _ ch _ _ _ (c .before .loop .inv .2 ch p) (c .loop-test .left))
+
+pub advance-set-spec : {M : Type 1} → statement M
+advance-set-spec =
+    tie.close
+    (tie.spec
+    Inv-loop
+    μ-loop
+    loop-holds
+    sub-p
+    mul-head
+    slice-read-head
+    turn-onto-requires
+    loop-less
+    loop-again
+    same-length
+    returns)

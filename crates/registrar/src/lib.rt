@@ -1,0 +1,112 @@
+// Delayed registrations (document 01: those that wait), in a chain for each place, newest first, and the stack of those that came off.
+// The first quarter of the storage holds a head link for each place, the second a link for each registration; chains and stack share
+// the registrations' links. A link is 0 for none, else the registration plus 1. The other two quarters are not touched.
+ghost use mathlib.Core.Path.{_≡_};
+ghost use mathlib.Core.List.{List};
+ghost use Prim.Native.Nat.{ℕ, _+_, _*_, _-_, _≤_, _<_};
+ghost use lib.ListN.{length, getD};
+ghost use Rattle.registrar.specs.Delayed.{Chain, Chained, Joins, Stacks, Turns, Splices, Oldest, Advancing, AdvancesSet, AdvancesPlaced};
+
+// Registration r joins those that wait under place p.
+pub fn delay(w: &mut [u64], v: usize, p: usize, r: usize)
+    requires { ⌜ (p < v) × (r < v) × (4 * v ≤ length (now w)) ⌝ }
+    ensures { λ _. ⌜ Joins (now (w .entry)) v p r (now (w .exit)) ⌝ }
+{
+    let head = w[p];
+    w[v + r] = head;
+    w[p] = (r + 1) as u64;
+}
+
+// Registration r is put on the stack whose top link is `top`; the new top link.
+pub fn stack(w: &mut [u64], v: usize, r: usize, top: u64) -> u64
+    requires { ⌜ (r < v) × (4 * v ≤ length (now w)) ⌝ }
+    ensures { λ t. ⌜ Stacks (now (w .entry)) v r top t (now (w .exit)) ⌝ }
+{
+    w[v + r] = top;
+    (r + 1) as u64
+}
+
+// The link under registration r: the stack's top link once r is taken off it.
+pub fn next(w: &[u64], v: usize, r: usize) -> u64
+    requires { ⌜ (r < v) × (4 * v ≤ length (now w)) ⌝ }
+    ensures { λ t. ⌜ t ≡ getD (now (w .entry)) (v + r) 0 ⌝ }
+{
+    w[v + r]
+}
+
+// Turns the chain at link `from` round onto the stack whose top link is `onto`; the new top link. Registrations descend along a chain,
+// so the loop ends.
+fn turn_onto(w: &mut [u64], v: usize, from: u64, onto: u64) -> u64
+    requires { ⌜ Chained (now w) v from ⌝ }
+    ensures { λ r. ⌜ Turns (now (w .entry)) v from onto r (now (w .exit)) ⌝ }
+{
+    let mut h = from;
+    let mut top = onto;
+    while h != 0 {
+        let at = v + (h - 1) as usize;
+        let next = w[at];
+        w[at] = top;
+        top = h;
+        h = next;
+    }
+    top
+}
+
+// Takes the chains of the places from lo to hi off, onto an empty stack, so that the lowest place's oldest is on top: the order after a
+// set. The places are walked downward.
+pub fn advance_set(w: &mut [u64], v: usize, lo: usize, hi: usize) -> u64
+    requires { ⌜ Advancing (now w) v lo hi 0 ⌝ }
+    ensures { λ r. ⌜ AdvancesSet (now (w .entry)) v lo hi r (now (w .exit)) ⌝ }
+{
+    let mut p = hi;
+    let mut top: u64 = 0;
+    while p > lo {
+        p -= 1;
+        let head = w[p];
+        top = turn_onto(w, v, head, top);
+    }
+    top
+}
+
+// The oldest registration of the chain at link `from`, which is not empty.
+fn oldest(w: &[u64], v: usize, from: u64) -> usize
+    requires { ⌜ (Chained (now w) v from) × (0 < from) ⌝ }
+    ensures { λ r. ⌜ Oldest (now (w .entry)) v from r ⌝ }
+{
+    let mut r = (from - 1) as usize;
+    let mut next = w[v + r];
+    while next != 0 {
+        r = (next - 1) as usize;
+        next = w[v + r];
+    }
+    r
+}
+
+// Puts the chain at link `from` as it is on the stack whose top link is `onto`; the new top link.
+fn splice(w: &mut [u64], v: usize, from: u64, onto: u64) -> u64
+    requires { ⌜ Chained (now w) v from ⌝ }
+    ensures { λ r. ⌜ Splices (now (w .entry)) v from onto r (now (w .exit)) ⌝ }
+{
+    if from == 0 {
+        return onto;
+    }
+    let last = oldest(w, v, from);
+    w[v + last] = onto;
+    from
+}
+
+// Takes the chains of the places from lo to hi off, onto the stack whose top link is `top`, so that the highest place's newest is on top:
+// the order after a placing. The places are walked upward.
+pub fn advance_placed(w: &mut [u64], v: usize, lo: usize, hi: usize, top: u64) -> u64
+    requires { ⌜ Advancing (now w) v lo hi top ⌝ }
+    ensures { λ r. ⌜ AdvancesPlaced (now (w .entry)) v lo hi top r (now (w .exit)) ⌝ }
+{
+    let mut p = lo;
+    let mut t = top;
+    while p < hi {
+        let head = w[p];
+        t = splice(w, v, head, t);
+        p += 1;
+    }
+    t
+}
