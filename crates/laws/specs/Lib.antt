@@ -1,5 +1,4 @@
 -- Theorems about the definitions of `rules`.
-pub mod Vectors
 pub mod Width
 pub mod History
 pub mod Together

@@ -8,3 +8,6 @@ pub mod Summary
 pub mod Job
 pub mod Listing
 pub mod Encoding
+pub mod Placements
+pub mod Sessions
+pub mod Listings
