@@ -7,17 +7,19 @@
 #   oracle/build.sh              target/oracle/oracle: optimised, as a release build
 #   oracle/build.sh --checked    target/oracle/oracle-checked: overflow and debug assertions on
 #   oracle/build.sh --hashed     target/oracle/oracle-hashed: the registrar with its own HashMap
+#   oracle/build.sh --as-given   shows that the guide does not compile as it is given
 set -euo pipefail
 cd "$(dirname "$0")/.."
 
 source=${ORACLE_SOURCE:-../shared/docs/src}
 fail() { echo "oracle/build.sh: $*" >&2; exit 1; }
 
-name=oracle flags=(-C opt-level=3 -C debug-assertions=off -C overflow-checks=off) ordered=yes
+name=oracle flags=(-C opt-level=3 -C debug-assertions=off -C overflow-checks=off) ordered=yes mended=yes
 case "${1:-}" in
   '') ;;
   --checked) name=oracle-checked flags=(-C opt-level=3 -C debug-assertions=on -C overflow-checks=on) ;;
   --hashed) name=oracle-hashed ordered=no ;;
+  --as-given) name=oracle-as-given mended=no ;;
   *) fail "unknown option $1" ;;
 esac
 command -v rustc >/dev/null || fail "rustc is missing"
@@ -25,8 +27,15 @@ command -v rustc >/dev/null || fail "rustc is missing"
 (cd "$source" && sha256sum --check --quiet) <oracle/source.sha256 ||
   fail "the Rust at $source is not the commit that the oracle was written for"
 
+# What was built from the same files by the same compiler is kept.
+stamp=$(cat oracle/build.sh oracle/source.sha256 oracle/shims/*.rs oracle/driver/*.rs <(rustc -vV) | sha256sum)
+if [ -x "target/oracle/$name" ] && [ "$(cat "target/oracle/$name.stamp" 2>/dev/null)" = "$stamp" ]; then
+  echo "oracle/build.sh: target/oracle/$name is ready"
+  exit 0
+fi
+
 tree=target/oracle/tree-$name
-rm -rf "$tree"
+rm -rf "$tree" "target/oracle/$name"
 mkdir -p "$tree"/{cs/traits,field,dag/resolvers/mt/sorters}
 
 # edit FILE COUNT OLD NEW: in FILE, the COUNT lines that are OLD become NEW.
@@ -47,7 +56,9 @@ done
 # The guide does not compile as given (E0392: Cfg of SpansGuide stands in no field). Readers of its
 # private fields are appended.
 cat "$source/src/dag/guide.rs" oracle/shims/guide_accessors.rs >"$tree/dag/guide.rs"
-edit dag/guide.rs 1 '    phantom: PhantomData<F>,' '    phantom: PhantomData<(F, Cfg)>,'
+if [ $mended = yes ]; then
+  edit dag/guide.rs 1 '    phantom: PhantomData<F>,' '    phantom: PhantomData<(F, Cfg)>,'
+fi
 
 # The registrar walks its HashMap in no fixed order; the ordered copy takes the places ascending.
 cp "$source/src/dag/resolvers/mt/registrar.rs" "$tree/dag/resolvers/mt/registrar.rs"
@@ -91,4 +102,5 @@ for crate in smallvec itertools; do
 done
 compile --crate-name oracle --extern smallvec="$tree/libsmallvec.rlib" \
   --extern itertools="$tree/libitertools.rlib" -o "target/oracle/$name" "$tree/main.rs"
-echo "oracle/build.sh: built target/oracle/$name"
+echo "$stamp" >"target/oracle/$name.stamp"
+echo "oracle/build.sh: target/oracle/$name is ready"

@@ -27,7 +27,7 @@ if [ ! -d "${ORACLE_SOURCE:-../shared/docs/src}" ]; then
   echo "model: no Rust source at ${ORACLE_SOURCE:-../shared/docs/src}, so the model is NOT compared with the Rust"
   exit 0
 fi
-[ -x target/oracle/oracle ] || oracle/build.sh
+oracle/build.sh
 
 # compare NAME GENERATE..: the lists that `reference GENERATE..` writes, by oracle and model.
 compare() {
