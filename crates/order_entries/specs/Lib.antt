@@ -1,4 +1,5 @@
--- The order as structs beside the flat order: definitions that the promises cite, and the law of the copying loop.
+-- The order as structs beside the flat order: definitions that the promises cite, the laws of the copying loop, and what the copying keeps.
 pub mod Flat
 pub mod Copied
 pub mod Loop
+pub mod Mirror

@@ -31,7 +31,7 @@ copied-none o f from = let e : from - from ≡ 0 = omega arith in rw e (take-dro
 
 module _ (o : List OrderInfo) (f : List ℕ) (from k : ℕ) (lo : from ≤ k) where
   -- what stands before place k is k entries long
-  before : k ≤ length o → length (take from o ++ entries f from (k - from)) ≡ k
+  pub before : k ≤ length o → length (take from o ++ entries f from (k - from)) ≡ k
   before h = length-append (take from o) (entries f from (k - from)) ∙ let a = length-take-le from o (omega arith) in let b = entries-length f from (k - from) in omega arith
 
   pub copied-length : k ≤ length o → length (copied o f from k) ≡ length o

@@ -1,0 +1,61 @@
+-- A slice of structs that is kept beside the session's flat order: `Mirrors` says that its first n structs are the order's n entries, and
+-- `mirrors-more` that copying the new entries after a call keeps it so. The flat order stands for `rules`' order by `order-of`.
+-- Assumes nothing.
+use mathlib.Core.Path.{_≡_, refl, sym, ap, _∙_}
+use mathlib.Core.List.{List, [], _∷_, _++_, map, append-assoc, map-append}
+use Prim.Native.Nat.{ℕ, zero, suc, _+_, _-_, _≤_}
+use native.Mathlib.Omega.{arith}
+use lib.ListN.{length, take, drop}
+use lib.Seq.{take-at}
+use Rattle.rules.specs.Guide.{Entry}
+use Rattle.entries.specs.Entries.{row, entry-at, entry-of as stored-entry, item-of}
+use Rattle.buffer.specs.View.{order-of}
+use Rattle.order_entries.specs.declared.OrderInfo.{OrderInfo}
+use Rattle.order_entries.specs.Flat.{entry-of}
+use Rattle.order_entries.specs.Copied.{entries, copied}
+use Rattle.order_entries.specs.Loop.{before, copied-length}
+
+-- the order's entry that a struct stands for
+unfoldable pub entry : OrderInfo → Entry
+entry e = record { item = record { value = e .value; added = e .added; accepted = e .accepted }; parallelism = e .parallelism }
+
+-- the first n structs are the n entries of the flat order
+pub record Mirrors (o : List OrderInfo) (flat : List ℕ) (n : ℕ) : Type 0 where
+  pub room : n ≤ length o
+  pub same : map entry (take n o) ≡ order-of flat n
+
+pub mirrors-none : (o : List OrderInfo) (flat : List ℕ) → Mirrors o flat 0
+unfolding order-of
+mirrors-none o flat = record { room = omega arith; same = refl }
+
+-- entries copied are those that the flat order stands for
+entries-are : (f : List ℕ) (k n : ℕ) → map entry (entries f k n) ≡ map stored-entry (row f k n)
+unfolding entries entry stored-entry item-of
+entries-are f k zero = refl
+entries-are f k (suc n) = ap (λ l. entry (entry-of f k) ∷ l) (entries-are f (suc k) n)
+
+row-split : (f : List ℕ) (k n m : ℕ) → row f k (n + m) ≡ row f k n ++ row f (k + n) m
+row-split f k zero m = let e : zero + m ≡ m = omega arith in let d : k + zero ≡ k = omega arith in rw (e, d)
+row-split f k (suc n) m =
+    let e : suc n + m ≡ suc (n + m) = omega arith in
+    let d : k + suc n ≡ suc k + n = omega arith in
+    rw (e, d) (ap (λ l. entry-at f k ∷ l) (row-split f (suc k) n m))
+
+-- after a call that left the n entries as they were and wrote entries up to m
+pub mirrors-more : (o : List OrderInfo) (flat flat′ : List ℕ) (n m : ℕ) → Mirrors o flat n → order-of flat′ n ≡ order-of flat n → n ≤ m → m ≤ length o
+    → Mirrors (copied o flat′ n m) flat′ m
+unfolding order-of copied
+mirrors-more o flat flat′ n m k e h room =
+    record { room = omega (arith, copied-length o flat′ n m h room); same = first ∙ parts }
+  where
+    first : map entry (take m (take n o ++ (entries flat′ n (m - n) ++ drop m o))) ≡ map entry (take n o) ++ map entry (entries flat′ n (m - n))
+    first =
+        ap (λ l. map entry (take m l)) (sym (append-assoc (take n o) (entries flat′ n (m - n)) (drop m o)))
+        ∙ ap (map entry) (take-at (take n o ++ entries flat′ n (m - n)) (drop m o) m (before o flat′ n m h room)) ∙ map-append entry (take n o) (entries flat′ n (m - n))
+
+    parts : map entry (take n o) ++ map entry (entries flat′ n (m - n)) ≡ order-of flat′ m
+    parts =
+        let d : n + (m - n) ≡ m = omega arith in
+        let z : 0 + n ≡ n = omega arith in
+        ap (λ l. l ++ map entry (entries flat′ n (m - n))) (k .same ∙ sym e) ∙ ap (λ l. order-of flat′ n ++ l) (entries-are flat′ n (m - n))
+        ∙ sym (map-append stored-entry (row flat′ 0 n) (row flat′ n (m - n))) ∙ ap (map stored-entry) (sym (ap (λ j. row flat′ 0 j) (sym d) ∙ row-split flat′ 0 n (m - n) ∙ ap (λ j. row flat′ 0 n ++ row flat′ j (m - n)) z))
