@@ -14,10 +14,10 @@ cd "$(dirname "$0")/.."
 source=${ORACLE_SOURCE:-../shared/docs/src}
 fail() { echo "oracle/build.sh: $*" >&2; exit 1; }
 
-name=oracle flags=(-C opt-level=3 -C debug-assertions=off -C overflow-checks=off) ordered=yes mended=yes
+name=oracle checks=off ordered=yes mended=yes
 case "${1:-}" in
   '') ;;
-  --checked) name=oracle-checked flags=(-C opt-level=3 -C debug-assertions=on -C overflow-checks=on) ;;
+  --checked) name=oracle-checked checks=on ;;
   --hashed) name=oracle-hashed ordered=no ;;
   --as-given) name=oracle-as-given mended=no ;;
   *) fail "unknown option $1" ;;
@@ -28,8 +28,9 @@ command -v rustc >/dev/null || fail "rustc is missing"
   fail "the Rust at $source is not the commit that the oracle was written for"
 
 # What was built from the same files by the same compiler is kept.
-stamp=$(cat oracle/build.sh oracle/source.sha256 oracle/shims/*.rs oracle/driver/*.rs <(rustc -vV) | sha256sum)
-if [ -x "target/oracle/$name" ] && [ "$(cat "target/oracle/$name.stamp" 2>/dev/null)" = "$stamp" ]; then
+stamp=$({ cat oracle/build.sh oracle/source.sha256 oracle/{shims,driver}/*.rs; rustc -vV; } | sha256sum)
+kept=$(cat "target/oracle/$name.stamp" 2>/dev/null) || true
+if [ -x "target/oracle/$name" ] && [ "$kept" = "$stamp" ]; then
   echo "oracle/build.sh: target/oracle/$name is ready"
   exit 0
 fi
@@ -43,7 +44,8 @@ edit() {
   local found
   found=$(grep -cxF -- "$3" "$tree/$1") || true
   [ "$found" = "$2" ] || fail "$1: expected $2 lines '$3', found $found"
-  OLD=$3 NEW=$4 awk '$0 == ENVIRON["OLD"] { $0 = ENVIRON["NEW"] } { print }' "$tree/$1" >"$tree/edited"
+  OLD=$3 NEW=$4 awk '$0 == ENVIRON["OLD"] { $0 = ENVIRON["NEW"] } { print }' \
+    "$tree/$1" >"$tree/edited"
   mv "$tree/edited" "$tree/$1"
 }
 
@@ -73,9 +75,10 @@ edit config.rs 1 'use derivative::*;' ''
 edit config.rs 11 '#[derive(Derivative)]' ''
 edit config.rs 11 '#[derivative(Clone, Copy, Debug)]' '#[derive(Clone, Copy, Debug)]'
 
-# Of cs/mod.rs Place, Variable and Witness; of cs/traits/cs.rs the destination buffer and the witness
-# source; of utils.rs the two extension traits.
-{ cat oracle/shims/cs_head.rs; sed -n '32,214p;405,417p' "$source/src/cs/mod.rs"; } >"$tree/cs/mod.rs"
+# Of cs/mod.rs Place, Variable and Witness; of cs/traits/cs.rs the destination buffer and the
+# witness source; of utils.rs the two extension traits.
+{ cat oracle/shims/cs_head.rs; sed -n '32,214p;405,417p' "$source/src/cs/mod.rs"; } \
+  >"$tree/cs/mod.rs"
 edit cs/mod.rs 3 '#[derive(Derivative, serde::Serialize, serde::Deserialize)]' ''
 edit cs/mod.rs 1 '#[derivative(Clone, Copy, PartialEq, Eq, Hash)]' \
   '#[derive(Clone, Copy, PartialEq, Eq, Hash)]'
@@ -96,7 +99,10 @@ cp oracle/driver/main.rs "$tree/main.rs"
 
 # The Rust is written for a nightly compiler; its warnings are not ours to mend.
 export RUSTC_BOOTSTRAP=1
-compile() { rustc --edition 2021 --cap-lints allow "${flags[@]}" "$@"; }
+compile() {
+  rustc --edition 2021 --cap-lints allow -C opt-level=3 \
+    -C debug-assertions=$checks -C overflow-checks=$checks "$@"
+}
 for crate in smallvec itertools; do
   compile --crate-type rlib --crate-name $crate -o "$tree/lib$crate.rlib" oracle/shims/$crate.rs
 done

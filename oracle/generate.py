@@ -1,5 +1,5 @@
 #!/usr/bin/env python3
-"""Writes the runs of the kept sample, without answers (FORMAT.md), into the folder that it is given.
+"""Writes the runs of the kept sample, without answers (FORMAT.md), into the folder that is named.
 
     oracle/build.sh
     python3 oracle/generate.py target/oracle/runs
@@ -250,7 +250,8 @@ def sessions(numbers):
         if shape == 0:
             yield chain(numbers, parallelism, 25 + numbers.below(20), traced)
         elif shape == 1:
-            yield broad_chain(numbers, parallelism, 6 + numbers.below(12), 1 + numbers.below(5), traced)
+            steps, breadth = 6 + numbers.below(12), 1 + numbers.below(5)
+            yield broad_chain(numbers, parallelism, steps, breadth, traced)
         elif shape == 2:
             yield ascending(numbers, parallelism, size, traced)
         elif shape == 3:

@@ -1,5 +1,5 @@
 #!/bin/bash
-# Runs every test folder's own run.sh. Each says what it did and ends with a non-zero status on failure.
+# Runs every test folder's own run.sh. Each says what it did; on failure its status is not 0.
 set -euo pipefail
 cd "$(dirname "$0")/.."
 

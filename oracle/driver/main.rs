@@ -21,7 +21,12 @@ use dag::resolvers::runs::{Guide, Run, Session, Spans};
 pub enum Call {
     Set(u64),
     Add(Vec<u64>, Vec<u64>),
-    Push { value: u32, added: u32, accepted: u32, after: Option<(u32, u32)> },
+    Push {
+        value: u32,
+        added: u32,
+        accepted: u32,
+        after: Option<(u32, u32)>,
+    },
     Acquire(Option<u32>),
     Flush,
     Final,
@@ -95,9 +100,10 @@ fn is_comment(line: &str) -> bool {
 fn answer_run(text: &Text, out: &mut impl Write) -> bool {
     let mut answers: Vec<(usize, String)> = Vec::new();
     let made = std::panic::catch_unwind(std::panic::AssertUnwindSafe(|| match text.open {
-        Open::Session { parallelism, places } => {
-            make_calls(Session::new(parallelism, places), text, &mut answers)
-        }
+        Open::Session {
+            parallelism,
+            places,
+        } => make_calls(Session::new(parallelism, places), text, &mut answers),
         Open::Guide { parallelism } => make_calls(Guide::new(parallelism), text, &mut answers),
         Open::Spans { parallelism } => make_calls(Spans::new(parallelism), text, &mut answers),
     }));
@@ -146,7 +152,12 @@ fn read_run<'a>(
     lines: &mut impl Iterator<Item = (usize, &'a str)>,
 ) -> Result<Text<'a>, Problem> {
     let open = read_open(opening).map_err(|message| (number, message))?;
-    let mut text = Text { lines: vec![opening], open, traced: false, calls: Vec::new() };
+    let mut text = Text {
+        lines: vec![opening],
+        open,
+        traced: false,
+        calls: Vec::new(),
+    };
     let mut closed = false;
     for (number, line) in lines {
         if is_answer(line) {
@@ -162,8 +173,7 @@ fn read_run<'a>(
             "trace" => return Err((number, "`trace` stands before the first call".to_owned())),
             _ if closed => return Err((number, "a call after `final`".to_owned())),
             _ => {
-                let call =
-                    read_call(&text.open, line).map_err(|message| (number, message))?;
+                let call = read_call(&text.open, line).map_err(|message| (number, message))?;
                 closed = matches!(call, Call::Final);
                 text.calls.push((text.lines.len() - 1, call));
             }
@@ -179,13 +189,20 @@ fn read_open(line: &str) -> Result<Open, String> {
             if let Some(w) = words.get(3) {
                 number(w, 0, u64::MAX)?;
             }
-            Ok(Open::Session { parallelism: parallelism(p)?, places: places(v)? })
+            Ok(Open::Session {
+                parallelism: parallelism(p)?,
+                places: places(v)?,
+            })
         }
         ["guide", p, v] => {
             places(v)?;
-            Ok(Open::Guide { parallelism: parallelism(p)? })
+            Ok(Open::Guide {
+                parallelism: parallelism(p)?,
+            })
         }
-        ["spans", p] => Ok(Open::Spans { parallelism: parallelism(p)? }),
+        ["spans", p] => Ok(Open::Spans {
+            parallelism: parallelism(p)?,
+        }),
         _ => Err(format!(
             "`{}` opens no run: `session P V`, `session P V W`, `guide P V` or `spans P` expected",
             shortened(line)
@@ -237,12 +254,18 @@ fn list(word: &str) -> Result<Vec<u64>, String> {
     if word == "-" {
         return Ok(Vec::new());
     }
-    word.split(',').map(|item| number(item, 0, u64::MAX)).collect()
+    word.split(',')
+        .map(|item| number(item, 0, u64::MAX))
+        .collect()
 }
 
 fn number(word: &str, least: u64, most: u64) -> Result<u64, String> {
     let plain = !word.is_empty() && word.bytes().all(|byte| byte.is_ascii_digit());
-    let value = if plain { word.parse::<u64>().ok() } else { None };
+    let value = if plain {
+        word.parse::<u64>().ok()
+    } else {
+        None
+    };
     match value {
         Some(value) if least <= value && value <= most => Ok(value),
         Some(_) => Err(format!("{word} is not in {least}..{most}")),

@@ -42,8 +42,10 @@ pub struct Session {
 
 impl Session {
     pub fn new(parallelism: u32, places: usize) -> Self {
-        let options =
-            CircuitResolverOpts { max_variables: places, desired_parallelism: parallelism };
+        let options = CircuitResolverOpts {
+            max_variables: places,
+            desired_parallelism: parallelism,
+        };
         let comms = Arc::new(ResolverComms {
             exec_order_buffer_hint: AtomicIsize::new(0),
             registration_complete: AtomicBool::new(false),
@@ -52,14 +54,22 @@ impl Session {
         });
         let (sorter, common) =
             LiveRecordingResolverSorter::new((options, NullRecordWriter()), comms, &[]);
-        Self { sorter, common, given: Vec::new(), closed: false }
+        Self {
+            sorter,
+            common,
+            given: Vec::new(),
+            closed: false,
+        }
     }
 
     /// The registration behind a resolver index, once its lists have come back as they were given.
     fn registration(&self, index: ResolverIx) -> u32 {
         let resolver = unsafe { self.common.resolvers.u_deref().get(index) };
         let (inputs, outputs) = &self.given[resolver.added_at() as usize];
-        assert!(resolver.inputs() == inputs && resolver.outputs() == outputs, "a list was changed");
+        assert!(
+            resolver.inputs() == inputs && resolver.outputs() == outputs,
+            "a list was changed"
+        );
         resolver.added_at()
     }
 
@@ -73,13 +83,30 @@ impl Session {
     fn rows(&mut self) -> String {
         let rows = sorter_playback::rows(self.sorter.retrieve_sequence());
         let (rows, beyond) = rows.split_at(self.given.len());
-        let untouched =
-            sorter_playback::Row { added: 0, accepted: 0, written: 0, index: 0, parallelism: 0 };
-        assert!(beyond.iter().all(|row| *row == untouched), "a row of no registration was written");
-        line("rows", rows.iter().map(|row| {
-            let sorter_playback::Row { added, accepted, written, index, parallelism } = row;
-            format!("{added},{accepted},{written},{index},{parallelism}")
-        }))
+        let untouched = sorter_playback::Row {
+            added: 0,
+            accepted: 0,
+            written: 0,
+            index: 0,
+            parallelism: 0,
+        };
+        assert!(
+            beyond.iter().all(|row| *row == untouched),
+            "a row of no registration was written"
+        );
+        line(
+            "rows",
+            rows.iter().map(|row| {
+                let sorter_playback::Row {
+                    added,
+                    accepted,
+                    written,
+                    index,
+                    parallelism,
+                } = row;
+                format!("{added},{accepted},{written},{index},{parallelism}")
+            }),
+        )
     }
 
     fn places(&self) -> String {
@@ -97,19 +124,28 @@ impl Session {
     fn waiting(&self) -> String {
         let mut chains: Vec<_> = self.sorter.registrar.peek_vars().iter().collect();
         chains.sort_by_key(|(place, _)| place.0);
-        line("waiting", chains.iter().map(|(place, indices)| {
-            let registrations = indices.iter().map(|index| self.registration(*index).to_string());
-            format!("{},{}", place.0, registrations.collect::<Vec<_>>().join(","))
-        }))
+        line(
+            "waiting",
+            chains.iter().map(|(place, indices)| {
+                let registrations = indices
+                    .iter()
+                    .map(|index| self.registration(*index).to_string());
+                format!(
+                    "{},{}",
+                    place.0,
+                    registrations.collect::<Vec<_>>().join(",")
+                )
+            }),
+        )
     }
 }
 
 impl Run for Session {
     fn call(&mut self, call: &Call) -> String {
         match call {
-            Call::Set(place) => {
-                self.sorter.set_value(Place(*place), Element::from_u64_unchecked(1))
-            }
+            Call::Set(place) => self
+                .sorter
+                .set_value(Place(*place), Element::from_u64_unchecked(1)),
             Call::Add(inputs, outputs) => {
                 let places = |list: &[u64]| list.iter().map(|n| Place(*n)).collect::<Vec<_>>();
                 let (inputs, outputs) = (places(inputs), places(outputs));
@@ -131,9 +167,12 @@ impl Run for Session {
     fn end(mut self) -> Vec<String> {
         let order = self.common.exec_order.lock().unwrap().items.clone();
         let mut answers = vec![
-            line("order", order.iter().map(|item| {
-                entry(self.registration(item.value), &item.metadata)
-            })),
+            line(
+                "order",
+                order
+                    .iter()
+                    .map(|item| entry(self.registration(item.value), &item.metadata)),
+            ),
             self.rows(),
             self.places(),
             format!("mark {}", self.mark()),
@@ -155,7 +194,10 @@ impl Run for Session {
             answers.push(format!("median {}", stats.median()));
             answers.push(counts("low", stats.low()));
             answers.push(counts("thousands", &stats.parallelism));
-            assert!(stats.low().len() == 128 && stats.parallelism.len() == 65, "summary lengths");
+            assert!(
+                stats.low().len() == 128 && stats.parallelism.len() == 65,
+                "summary lengths"
+            );
         }
         answers
     }
@@ -171,7 +213,11 @@ pub struct Guide {
 
 impl Guide {
     pub fn new(parallelism: u32) -> Self {
-        Self { guide: BufferGuide::new(parallelism), order: Vec::new(), locations: Vec::new() }
+        Self {
+            guide: BufferGuide::new(parallelism),
+            order: Vec::new(),
+            locations: Vec::new(),
+        }
     }
 
     /// Appends what the order holds, as the sorter does.
@@ -185,7 +231,12 @@ impl Guide {
 impl Run for Guide {
     fn call(&mut self, call: &Call) -> String {
         let location = match call {
-            Call::Push { value, added, accepted, after } => {
+            Call::Push {
+                value,
+                added,
+                accepted,
+                after,
+            } => {
                 let after = after
                     .map(|(span, position)| GuideLoc::from((span as u64) << 32 | position as u64));
                 let (location, order) = self.guide.push(*value, after, *added, *accepted);
@@ -204,10 +255,18 @@ impl Run for Guide {
 
     fn end(self) -> Vec<String> {
         vec![
-            line("locations", self.locations.iter().map(|location| {
-                format!("{},{}", location.span(), location.position())
-            })),
-            line("order", self.order.iter().map(|item| entry(item.value, &item.metadata))),
+            line(
+                "locations",
+                self.locations
+                    .iter()
+                    .map(|location| format!("{},{}", location.span(), location.position())),
+            ),
+            line(
+                "order",
+                self.order
+                    .iter()
+                    .map(|item| entry(item.value, &item.metadata)),
+            ),
             tally(&self.guide),
             format!("window {}", window(&self.guide)),
             held(&self.guide, |value| value),
@@ -248,7 +307,10 @@ impl Run for Spans {
                 answer
             }
             Call::Finalize => {
-                self.jumps.push(line("jumps", self.guide.finalize().iter().map(|j| pair(*j))));
+                self.jumps.push(line(
+                    "jumps",
+                    self.guide.finalize().iter().map(|j| pair(*j)),
+                ));
                 "-".to_owned()
             }
             _ => unreachable!("no call of the older guide"),
@@ -260,9 +322,13 @@ impl Run for Spans {
         let mut answers = vec![line("acquired", self.acquired.iter())];
         answers.extend(self.jumps);
         answers.push(format!("reached {}", u32::from(self.guide.end)));
-        answers.push(line("spans", self.guide.window().iter().map(|(origin, next)| {
-            format!("{},{}", u32::from(*origin), u32::from(*next))
-        })));
+        answers.push(line(
+            "spans",
+            self.guide
+                .window()
+                .iter()
+                .map(|(origin, next)| format!("{},{}", u32::from(*origin), u32::from(*next))),
+        ));
         answers
     }
 }
@@ -286,15 +352,26 @@ fn entry(value: u32, metadata: &GuideMetadata) -> String {
 /// The first span number and the lengths up to the last that is not 0. The other 31 numbers follow
 /// the first by ones, which is looked at here.
 fn window<T: Copy + std::fmt::Debug>(guide: &BufferGuide<T, Element, Config>) -> String {
-    let spans: Vec<(u32, usize)> =
-        guide.window().map(|(number, entries)| (number, entries.len())).collect();
+    let spans: Vec<(u32, usize)> = guide
+        .window()
+        .map(|(number, entries)| (number, entries.len()))
+        .collect();
     let first = spans[0].0;
     assert!(spans.len() == 32, "the window has 32 spans");
     for (i, (number, _)) in spans.iter().enumerate() {
-        assert!(*number == first + i as u32, "span numbers follow each other");
+        assert!(
+            *number == first + i as u32,
+            "span numbers follow each other"
+        );
     }
-    let filled = spans.iter().rposition(|(_, length)| *length > 0).map_or(0, |i| i + 1);
-    line(&first.to_string(), spans[..filled].iter().map(|(_, length)| length))
+    let filled = spans
+        .iter()
+        .rposition(|(_, length)| *length > 0)
+        .map_or(0, |i| i + 1);
+    line(
+        &first.to_string(),
+        spans[..filled].iter().map(|(_, length)| length),
+    )
 }
 
 /// The window's entries, span by span; their parallelism is not yet known.
@@ -303,10 +380,13 @@ fn held<T: Copy + std::fmt::Debug>(
     number: impl Fn(T) -> u32,
 ) -> String {
     let entries = guide.window().flat_map(|(_, entries)| entries);
-    line("held", entries.map(|item| {
-        let (added, accepted) = (item.metadata.added_at(), item.metadata.accepted_at());
-        format!("{},{added},{accepted}", number(item.value))
-    }))
+    line(
+        "held",
+        entries.map(|item| {
+            let (added, accepted) = (item.metadata.added_at(), item.metadata.accepted_at());
+            format!("{},{added},{accepted}", number(item.value))
+        }),
+    )
 }
 
 fn tally<T>(guide: &BufferGuide<T, Element, Config>) -> String {

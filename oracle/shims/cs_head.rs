@@ -11,4 +11,3 @@ impl Ord for Place {
         self.0.cmp(&other.0)
     }
 }
-

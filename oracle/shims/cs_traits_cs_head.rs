@@ -3,4 +3,3 @@
 use crate::dag::WitnessSource;
 use crate::field::SmallField;
 use crate::log;
-

@@ -1,4 +1,3 @@
-
 // What follows is appended by the oracle's build: it only reads what is private above.
 
 impl GuideLoc {
@@ -35,6 +34,9 @@ impl GuideStats {
 impl<F: SmallField, Cfg: CSResolverConfig> SpansGuide<F, Cfg> {
     /// Each span's origin and next position, in the window's order.
     pub(crate) fn window(&self) -> Vec<(OrderIx, OrderIx)> {
-        self.spans.iter().map(|span| (span.origin.index, span.next.index)).collect()
+        self.spans
+            .iter()
+            .map(|span| (span.origin.index, span.next.index))
+            .collect()
     }
 }

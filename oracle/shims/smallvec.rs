@@ -18,7 +18,10 @@ pub struct SmallVec<A: Array> {
 
 impl<A: Array> SmallVec<A> {
     pub fn new() -> Self {
-        Self { items: Vec::new(), phantom: PhantomData }
+        Self {
+            items: Vec::new(),
+            phantom: PhantomData,
+        }
     }
 
     pub fn push(&mut self, item: A::Item) {

@@ -13,6 +13,8 @@ FILE is told from a command by its ending, .cases. Prints the count, or what dif
 import subprocess
 import sys
 
+sys.dont_write_bytecode = True  # a test leaves nothing beside the sources
+
 import cases
 
 

@@ -27,13 +27,25 @@ pub fn exhaustive(kind: &str, sink: &mut Sink) {
     match kind {
         "session" => {
             for p in 1..=2 {
-                let opening = Opening { p, v: 3, w: None, traced: true, refused: false };
+                let opening = Opening {
+                    p,
+                    v: 3,
+                    w: None,
+                    traced: true,
+                    refused: false,
+                };
                 all_sessions(&SessionLines::new(opening), 0, 4, sink);
             }
         }
         "guide" => {
             for p in 1..=3 {
-                let opening = Opening { p, v: 64, w: None, traced: true, refused: false };
+                let opening = Opening {
+                    p,
+                    v: 64,
+                    w: None,
+                    traced: true,
+                    refused: false,
+                };
                 all_guides(&GuideLines::new(opening), 0, 6, sink);
             }
         }
@@ -81,7 +93,9 @@ impl Numbers {
         if self.chance(90) {
             1 + self.below(8)
         } else {
-            self.choice(&[9, 12, 16, 31, 64, 127, 128, 129, 999, 1000, 5000, 32_768, 64_999])
+            self.choice(&[
+                9, 12, 16, 31, 64, 127, 128, 129, 999, 1000, 5000, 32_768, 64_999,
+            ])
         }
     }
 }
@@ -107,12 +121,24 @@ struct SessionLines {
 
 impl SessionLines {
     fn new(opening: Opening) -> Self {
-        let Opening { p, v, w, traced, .. } = opening;
+        let Opening {
+            p, v, w, traced, ..
+        } = opening;
         let session = Session::open(p, v, &Lent::for_session(p, v, w.unwrap_or(u64::MAX)));
-        let Ok(session) = session else { crate::fail("the opening was refused") };
+        let Ok(session) = session else {
+            crate::fail("the opening was refused")
+        };
         let w = w.map_or(String::new(), |w| format!(" {w}"));
-        let text = format!("session {p} {v}{w}\n{}", if traced { "trace\n" } else { "" });
-        Self { opening, session, calls: Vec::new(), text }
+        let text = format!(
+            "session {p} {v}{w}\n{}",
+            if traced { "trace\n" } else { "" }
+        );
+        Self {
+            opening,
+            session,
+            calls: Vec::new(),
+            text,
+        }
     }
 
     /// The same session once more, by making its calls again.
@@ -133,9 +159,10 @@ impl SessionLines {
                 format!("add {} {}\n", list_text(inputs), list_text(outputs)),
             ),
             Call::Flush => (self.session.flush(), "flush\n".to_owned()),
-            Call::Final => {
-                (self.session.final_flush().err().unwrap_or(0), "final\n".to_owned())
-            }
+            Call::Final => (
+                self.session.final_flush().err().unwrap_or(0),
+                "final\n".to_owned(),
+            ),
         };
         if code == 0 || self.opening.refused {
             self.calls.push(call);
@@ -156,7 +183,11 @@ impl SessionLines {
 fn list_text(list: &[u64]) -> String {
     match list {
         [] => "-".to_owned(),
-        _ => list.iter().map(|n| n.to_string()).collect::<Vec<_>>().join(","),
+        _ => list
+            .iter()
+            .map(|n| n.to_string())
+            .collect::<Vec<_>>()
+            .join(","),
     }
 }
 
@@ -167,8 +198,13 @@ fn random_session(numbers: &mut Numbers, refused: bool) -> String {
         _ => 2 + numbers.below(40),
     };
     let w = refused.then(|| numbers.below(4 * v));
-    let opening =
-        Opening { p: numbers.parallelism(), v, w, traced: numbers.chance(50), refused };
+    let opening = Opening {
+        p: numbers.parallelism(),
+        v,
+        w,
+        traced: numbers.chance(50),
+        refused,
+    };
     let mut run = SessionLines::new(opening);
     // How this run looks: percentages of sets, flushes and absent inputs, and where places lie. With
     // inputs below outputs nothing waits for ever once the gaps are set.
@@ -197,7 +233,11 @@ fn random_session(numbers: &mut Numbers, refused: bool) -> String {
         while !numbers.chance(if inputs.is_empty() { absent } else { 50 }) {
             let close = front.saturating_sub(1 + numbers.below(reach));
             let bound = if below { front.max(1) } else { v };
-            inputs.push(if numbers.chance(near) { close } else { numbers.below(bound) });
+            inputs.push(if numbers.chance(near) {
+                close
+            } else {
+                numbers.below(bound)
+            });
         }
         if below && front == 0 {
             inputs.clear();
@@ -210,7 +250,11 @@ fn random_session(numbers: &mut Numbers, refused: bool) -> String {
     }
     if numbers.chance(85) {
         for place in 0..v {
-            run.try_call(Call::Set(if direction == 1 { v - 1 - place } else { place }));
+            run.try_call(Call::Set(if direction == 1 {
+                v - 1 - place
+            } else {
+                place
+            }));
         }
     }
     run.end()
@@ -219,10 +263,28 @@ fn random_session(numbers: &mut Numbers, refused: bool) -> String {
 /// A call that is likely to be refused: far places, flagged places, outputs twice, an early final.
 fn wrong_call(numbers: &mut Numbers, v: u64) -> Call {
     let list = |numbers: &mut Numbers| -> Vec<u64> {
-        let far = [v, v + 1, v - 1, 0, (1 << 48) - 1, 1 << 48, 1 << 62, 1 << 63, u64::MAX];
+        let far = [
+            v,
+            v + 1,
+            v - 1,
+            0,
+            (1 << 48) - 1,
+            1 << 48,
+            1 << 62,
+            1 << 63,
+            u64::MAX,
+        ];
         let length = numbers.below(4);
         let near = numbers.below(v);
-        (0..length).map(|_| if numbers.chance(60) { near } else { numbers.choice(&far) }).collect()
+        (0..length)
+            .map(|_| {
+                if numbers.chance(60) {
+                    near
+                } else {
+                    numbers.choice(&far)
+                }
+            })
+            .collect()
     };
     match numbers.below(10) {
         0 => Call::Final,
@@ -284,7 +346,13 @@ impl GuideLines {
             crate::fail("the opening was refused")
         };
         let text = format!("guide {p} {v}\n{}", if traced { "trace\n" } else { "" });
-        Self { opening, guide, steps: Vec::new(), given: Vec::new(), text }
+        Self {
+            opening,
+            guide,
+            steps: Vec::new(),
+            given: Vec::new(),
+            text,
+        }
     }
 
     fn again(&self) -> Self {
@@ -305,7 +373,10 @@ impl GuideLines {
                     None => "-".to_owned(),
                 };
                 self.given.extend(location.ok());
-                (location.is_ok(), format!("push {value} {added} {accepted} {after}\n"))
+                (
+                    location.is_ok(),
+                    format!("push {value} {added} {accepted} {after}\n"),
+                )
             }
             Step::Flush => (self.guide.flush() == 0, "flush\n".to_owned()),
         };
@@ -318,11 +389,19 @@ impl GuideLines {
 
 fn random_guide(numbers: &mut Numbers, refused: bool) -> String {
     let v = if refused { 1 + numbers.below(90) } else { 400 };
-    let opening =
-        Opening { p: numbers.parallelism(), v, w: None, traced: numbers.chance(50), refused };
+    let opening = Opening {
+        p: numbers.parallelism(),
+        v,
+        w: None,
+        traced: numbers.chance(50),
+        refused,
+    };
     let mut run = GuideLines::new(opening);
     let bound = numbers.choice(&[10, 1 << 32]);
-    let (flushes, absent) = (numbers.choice(&[0, 1, 5, 20]), numbers.choice(&[1, 5, 20, 60]));
+    let (flushes, absent) = (
+        numbers.choice(&[0, 1, 5, 20]),
+        numbers.choice(&[1, 5, 20, 60]),
+    );
     let recent = numbers.choice(&[30, 80, 100]);
     let reach = numbers.choice(&[1, 2, 4, 12]);
     for _ in 0..10 + numbers.below(90) {
@@ -335,7 +414,10 @@ fn random_guide(numbers: &mut Numbers, refused: bool) -> String {
         } else if refused && numbers.chance(20) {
             // Somewhere in or near the window, held or not.
             let span = run.guide.window.first + numbers.below(34);
-            Some(Location { span, position: numbers.below(4) })
+            Some(Location {
+                span,
+                position: numbers.below(4),
+            })
         } else if numbers.chance(recent) {
             Some(run.given[(count - 1 - numbers.below(reach.min(count))) as usize])
         } else if numbers.chance(50) {
@@ -346,8 +428,11 @@ fn random_guide(numbers: &mut Numbers, refused: bool) -> String {
         } else {
             Some(Location::default())
         };
-        let (value, added, accepted) =
-            (numbers.below(bound), numbers.below(bound), numbers.below(bound));
+        let (value, added, accepted) = (
+            numbers.below(bound),
+            numbers.below(bound),
+            numbers.below(bound),
+        );
         run.try_step(Step::Push(value, added, accepted, after));
     }
     if numbers.chance(70) {
@@ -368,7 +453,9 @@ fn all_guides(run: &GuideLines, made: usize, depth: usize, sink: &mut Sink) {
     let mut afters = vec![None, Some(Location::default())];
     afters.extend(run.given.iter().map(|location| Some(*location)));
     let number = made as u64;
-    let pushes = afters.into_iter().map(|after| Step::Push(number, number, number, after));
+    let pushes = afters
+        .into_iter()
+        .map(|after| Step::Push(number, number, number, after));
     for step in pushes.chain([Step::Flush]) {
         let mut next = run.again();
         next.try_step(step);

@@ -25,8 +25,11 @@ pub fn cases(seed: u64, count: u64, sink: &mut dyn FnMut(&[u8])) {
             false => out.len().saturating_sub(numbers.below(3) as usize) + 1,
         };
         let (returned, _) = host(&job, lent);
-        let text =
-            format!("job {}\nout {}\nhost {lent} {returned}\n", escaped(&job), escaped(&out));
+        let text = format!(
+            "job {}\nout {}\nhost {lent} {returned}\n",
+            escaped(&job),
+            escaped(&out)
+        );
         sink(text.as_bytes());
     }
 }
@@ -52,7 +55,11 @@ fn random_job(numbers: &mut Numbers) -> Vec<u8> {
         1 => 1 + numbers.below(3),
         _ => 4 + numbers.below(60),
     };
-    let p = if numbers.chance(80) { 1 + numbers.below(8) } else { 1 + numbers.below(64) };
+    let p = if numbers.chance(80) {
+        1 + numbers.below(8)
+    } else {
+        1 + numbers.below(64)
+    };
     let mut text = format!("parallelism={p}\nplaces={v}\n");
     let ascending = numbers.chance(60);
     let mut free: Vec<u64> = (0..v).rev().collect();
@@ -79,7 +86,9 @@ fn random_job(numbers: &mut Numbers) -> Vec<u8> {
         let bound = if numbers.chance(98) { bound } else { v };
         let inputs: Vec<u64> = match bound {
             0 => vec![],
-            _ => (0..numbers.below(4)).map(|_| numbers.below(bound)).collect(),
+            _ => (0..numbers.below(4))
+                .map(|_| numbers.below(bound))
+                .collect(),
         };
         text += &format!("in={}\nout={}\n", list(&inputs), list(&outputs));
     }
@@ -94,7 +103,11 @@ fn random_job(numbers: &mut Numbers) -> Vec<u8> {
 }
 
 fn list(places: &[u64]) -> String {
-    places.iter().map(|place| place.to_string()).collect::<Vec<_>>().join(",")
+    places
+        .iter()
+        .map(|place| place.to_string())
+        .collect::<Vec<_>>()
+        .join(",")
 }
 
 /// Spoils a job in one place: a byte or a line lost, doubled or changed, or the end cut off.
@@ -103,9 +116,17 @@ fn damage(numbers: &mut Numbers, job: &mut Vec<u8>) {
         return;
     }
     let at = numbers.below(job.len() as u64) as usize;
-    let line_start = job[..at].iter().rposition(|&byte| byte == 10).map_or(0, |i| i + 1);
-    let line_end = job[at..].iter().position(|&byte| byte == 10).map_or(job.len(), |i| at + i + 1);
-    let bytes = [b'0', b'1', b'9', b',', b'=', b'\n', b' ', b'\r', b'-', 0, 255];
+    let line_start = job[..at]
+        .iter()
+        .rposition(|&byte| byte == 10)
+        .map_or(0, |i| i + 1);
+    let line_end = job[at..]
+        .iter()
+        .position(|&byte| byte == 10)
+        .map_or(job.len(), |i| at + i + 1);
+    let bytes = [
+        b'0', b'1', b'9', b',', b'=', b'\n', b' ', b'\r', b'-', 0, 255,
+    ];
     match numbers.below(9) {
         0 => drop(job.remove(at)),
         1 => job.insert(at, numbers.choice(&bytes)),
@@ -118,20 +139,35 @@ fn damage(numbers: &mut Numbers, job: &mut Vec<u8>) {
         5 => job.truncate(at),
         6 => {
             let lines: [&[u8]; 10] = [
-                b"set=0\n", b"set=18446744073709551615\n", b"set=18446744073709551616\n",
-                b"set=4611686018427387904\n", b"in=0\nout=1,1\n", b"in=\nout=600\n",
-                b"flush=1\n", b"final=1\n", b"in=1\n", b"\n",
+                b"set=0\n",
+                b"set=18446744073709551615\n",
+                b"set=18446744073709551616\n",
+                b"set=4611686018427387904\n",
+                b"in=0\nout=1,1\n",
+                b"in=\nout=600\n",
+                b"flush=1\n",
+                b"final=1\n",
+                b"in=1\n",
+                b"\n",
             ];
             let line = numbers.choice(&lines);
             job.splice(line_start..line_start, line.iter().copied());
         }
         7 => {
             let heads: [&[u8]; 8] = [
-                b"parallelism=0\n", b"parallelism=65\n", b"parallelism=64\n",
-                b"parallelism=64999\n", b"parallelism=65000\n", b"parallelism=01\n",
-                b"parallelism=99999999999999999999\n", b"places=1\n",
+                b"parallelism=0\n",
+                b"parallelism=65\n",
+                b"parallelism=64\n",
+                b"parallelism=64999\n",
+                b"parallelism=65000\n",
+                b"parallelism=01\n",
+                b"parallelism=99999999999999999999\n",
+                b"places=1\n",
             ];
-            let end = job.iter().position(|&byte| byte == 10).map_or(job.len(), |i| i + 1);
+            let end = job
+                .iter()
+                .position(|&byte| byte == 10)
+                .map_or(job.len(), |i| i + 1);
             job.splice(..end, numbers.choice(&heads).iter().copied());
         }
         _ => {

@@ -4,9 +4,10 @@
 //!   reference job               a job, answered as the program answers it
 //!   reference host LENT         a job, answered as the host's call does with LENT listing bytes: the
 //!                               returned number on a line, then the listing
-//!   reference random KIND SEED COUNT    call lists, KIND session, guide, session-refused, guide-refused
-//!   reference exhaustive KIND           all short call lists, KIND session or guide
-//!   reference jobs SEED COUNT           jobs with the model's answers (jobs.rs says how they look)
+//!   reference random KIND SEED COUNT
+//!                               random runs, KIND session, guide, session-refused, guide-refused
+//!   reference exhaustive KIND   all short runs, KIND session or guide
+//!   reference jobs SEED COUNT   jobs with the model's answers (jobs.rs says how they look)
 //!
 //! Status 2 and a message on standard error: a malformed line or a wrong use.
 
@@ -49,7 +50,8 @@ fn fail(message: &str) -> ! {
 }
 
 fn plain(word: &str) -> u64 {
-    word.parse().unwrap_or_else(|_| fail(&format!("`{word}` is no number")))
+    word.parse()
+        .unwrap_or_else(|_| fail(&format!("`{word}` is no number")))
 }
 
 fn read_input() -> Vec<u8> {
@@ -153,7 +155,12 @@ fn open(words: &[&str]) -> Result<Run, String> {
         }
         _ => return Err(format!("`{}` opens no run", words.join(" "))),
     };
-    Ok(Run { opened, traced: false, calls: 0, refused: Vec::new() })
+    Ok(Run {
+        opened,
+        traced: false,
+        calls: 0,
+        refused: Vec::new(),
+    })
 }
 
 /// Makes a call and says how things stand after it.
@@ -174,7 +181,10 @@ fn call(opened: &mut Opened, words: &[&str]) -> Result<(Code, String), String> {
                 _ => return Err(format!("`{}` is no call of a session", words.join(" "))),
             };
             let length = session.window.order.len();
-            Ok((code, format!("{length} {} {}", mark(session), window(&session.window))))
+            Ok((
+                code,
+                format!("{length} {} {}", mark(session), window(&session.window)),
+            ))
         }
         Opened::Guide(guide, locations) => {
             let (code, location) = match words {
@@ -193,7 +203,10 @@ fn call(opened: &mut Opened, words: &[&str]) -> Result<(Code, String), String> {
                 _ => return Err(format!("`{}` is no call of the guide", words.join(" "))),
             };
             let length = guide.window.order.len();
-            Ok((code, format!("{location} {length} {}", window(&guide.window))))
+            Ok((
+                code,
+                format!("{location} {length} {}", window(&guide.window)),
+            ))
         }
         Opened::Refused(_) => Ok((0, String::new())),
     }
@@ -201,7 +214,12 @@ fn call(opened: &mut Opened, words: &[&str]) -> Result<(Code, String), String> {
 
 /// The answers before `end`.
 fn end(run: &Run) -> Vec<String> {
-    let refused = line("refused", run.refused.iter().map(|(call, code)| format!("{call},{code}")));
+    let refused = line(
+        "refused",
+        run.refused
+            .iter()
+            .map(|(call, code)| format!("{call},{code}")),
+    );
     match &run.opened {
         Opened::Session(session, summary) => {
             let window = &session.window;
@@ -250,35 +268,68 @@ fn mark(session: &Session) -> String {
 }
 
 fn window(window: &Window) -> String {
-    let filled = (0..SPANS).rev().find(|&i| !window.spans[i].is_empty()).map_or(0, |i| i + 1);
-    line(&window.first.to_string(), window.spans[..filled].iter().map(|span| span.len()))
+    let filled = (0..SPANS)
+        .rev()
+        .find(|&i| !window.spans[i].is_empty())
+        .map_or(0, |i| i + 1);
+    line(
+        &window.first.to_string(),
+        window.spans[..filled].iter().map(|span| span.len()),
+    )
 }
 
 fn order(window: &Window) -> String {
-    line("order", window.order.iter().map(|entry| {
-        let Entry { value, added, accepted, parallelism } = entry;
-        format!("{value},{added},{accepted},{parallelism}")
-    }))
+    line(
+        "order",
+        window.order.iter().map(|entry| {
+            let Entry {
+                value,
+                added,
+                accepted,
+                parallelism,
+            } = entry;
+            format!("{value},{added},{accepted},{parallelism}")
+        }),
+    )
 }
 
 fn rows(session: &Session) -> String {
-    line("rows", session.rows.iter().map(|row| {
-        let model::Row { added, accepted, written, index, parallelism } = row;
-        format!("{added},{accepted},{written},{index},{parallelism}")
-    }))
+    line(
+        "rows",
+        session.rows.iter().map(|row| {
+            let model::Row {
+                added,
+                accepted,
+                written,
+                index,
+                parallelism,
+            } = row;
+            format!("{added},{accepted},{written},{index},{parallelism}")
+        }),
+    )
 }
 
 fn places(session: &Session) -> String {
-    let tracked = session.places.iter().enumerate().filter(|(_, p)| p.mark != model::UNTRACKED);
-    line("places", tracked.map(|(number, place)| {
-        format!("{number},{},{}", place.mark, pair(&place.location))
-    }))
+    let tracked = session
+        .places
+        .iter()
+        .enumerate()
+        .filter(|(_, p)| p.mark != model::UNTRACKED);
+    line(
+        "places",
+        tracked.map(|(number, place)| format!("{number},{},{}", place.mark, pair(&place.location))),
+    )
 }
 
 fn waiting(session: &Session) -> String {
-    line("waiting", session.waiting.iter().map(|(place, registrations)| {
-        registrations.iter().fold(place.to_string(), |text, number| format!("{text},{number}"))
-    }))
+    line(
+        "waiting",
+        session.waiting.iter().map(|(place, registrations)| {
+            registrations
+                .iter()
+                .fold(place.to_string(), |text, number| format!("{text},{number}"))
+        }),
+    )
 }
 
 /// The tally, the window and its entries.
@@ -287,7 +338,10 @@ fn held(shown: &Window) -> [String; 3] {
     [
         counts("tally", &shown.tally),
         format!("window {}", window(shown)),
-        line("held", entries.map(|e| format!("{},{},{}", e.value, e.added, e.accepted))),
+        line(
+            "held",
+            entries.map(|e| format!("{},{},{}", e.value, e.added, e.accepted)),
+        ),
     ]
 }
 
@@ -298,7 +352,10 @@ fn counts(word: &str, counts: &[u64]) -> String {
 
 fn number(word: &str) -> Result<u64, String> {
     let digits = !word.is_empty() && word.bytes().all(|byte| byte.is_ascii_digit());
-    digits.then(|| word.parse().ok()).flatten().ok_or(format!("`{word}` is no number"))
+    digits
+        .then(|| word.parse().ok())
+        .flatten()
+        .ok_or(format!("`{word}` is no number"))
 }
 
 fn list(word: &str) -> Result<Vec<u64>, String> {
@@ -312,6 +369,11 @@ fn location(word: &str) -> Result<Option<Location>, String> {
     if word == "-" {
         return Ok(None);
     }
-    let (span, position) = word.split_once(',').ok_or(format!("`{word}` is no location"))?;
-    Ok(Some(Location { span: number(span)?, position: number(position)? }))
+    let (span, position) = word
+        .split_once(',')
+        .ok_or(format!("`{word}` is no location"))?;
+    Ok(Some(Location {
+        span: number(span)?,
+        position: number(position)?,
+    }))
 }

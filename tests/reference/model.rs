@@ -103,7 +103,11 @@ impl Window {
         if d == SPANS - 1 {
             return Target::Open(2);
         }
-        let begin = if after.position > self.length(d + 1) { d + 2 } else { d + 1 };
+        let begin = if after.position > self.length(d + 1) {
+            d + 2
+        } else {
+            d + 1
+        };
         for i in begin..SPANS {
             if self.length(i) < self.parallelism {
                 return Target::Span(i);
@@ -116,8 +120,10 @@ impl Window {
     fn place(&mut self, entry: Entry, after: Option<Location>) -> Location {
         match self.target(after) {
             Target::Span(i) => {
-                let location =
-                    Location { span: self.first + i as u64, position: self.length(i) };
+                let location = Location {
+                    span: self.first + i as u64,
+                    position: self.length(i),
+                };
                 self.spans[i].push(entry);
                 // Whichever span filled, it is span 0 that is released.
                 if self.length(i) >= self.parallelism {
@@ -126,7 +132,10 @@ impl Window {
                 location
             }
             Target::Open(n) => {
-                let location = Location { span: self.last() + n as u64, position: 0 };
+                let location = Location {
+                    span: self.last() + n as u64,
+                    position: 0,
+                };
                 self.release(n);
                 self.spans[SPANS - 1].push(entry);
                 location
@@ -139,7 +148,11 @@ impl Window {
     fn release(&mut self, n: usize) {
         for i in 0..n {
             let a = self.length(i);
-            let next = if i + 1 < SPANS { Some(self.length(i + 1)) } else { None };
+            let next = if i + 1 < SPANS {
+                Some(self.length(i + 1))
+            } else {
+                None
+            };
             for q in 0..a {
                 let mut entry = self.spans[i][q as usize];
                 entry.parallelism = width(self.parallelism, a, next, q);
@@ -216,12 +229,20 @@ fn check_opening(p: u64, v: u64, lent: &Lent) -> Code {
         && lent.places >= needed.places
         && lent.waiting >= needed.waiting
         && lent.tally >= needed.tally;
-    if enough { 0 } else { 2 }
+    if enough {
+        0
+    } else {
+        2
+    }
 }
 
 fn check_range(p: u64, v: u64) -> Code {
     let within = (1..=MOST_PARALLELISM).contains(&p) && (1..=MOST_PLACES).contains(&v);
-    if within { 0 } else { 1 }
+    if within {
+        0
+    } else {
+        1
+    }
 }
 
 // ---- Registrar and sorter
@@ -266,7 +287,11 @@ impl Session {
             0 => {}
             code => return Err(code),
         }
-        let place = Place { mark: UNTRACKED, location: Location::default(), promised: false };
+        let place = Place {
+            mark: UNTRACKED,
+            location: Location::default(),
+            promised: false,
+        };
         Ok(Self {
             places_count: v,
             pool: lent.pool,
@@ -305,8 +330,10 @@ impl Session {
         }
         let number = self.registrations.len() as u64;
         self.list_numbers += (inputs.len() + outputs.len()) as u64;
-        self.registrations
-            .push(Registration { inputs: inputs.to_vec(), outputs: outputs.to_vec() });
+        self.registrations.push(Registration {
+            inputs: inputs.to_vec(),
+            outputs: outputs.to_vec(),
+        });
         self.rows.push(Row::default());
         match inputs.iter().max() {
             Some(&greatest) if greatest >= self.leading => {
@@ -406,13 +433,24 @@ impl Session {
     /// Places one registration, tracks its outputs and says who comes off.
     fn place_one(&mut self, number: u64) -> Vec<u64> {
         let Registration { inputs, outputs } = &self.registrations[number as usize];
-        let after = inputs.iter().map(|&input| self.places[input as usize].location).max();
-        let entry =
-            Entry { value: number, added: number, accepted: self.ended, parallelism: 0 };
+        let after = inputs
+            .iter()
+            .map(|&input| self.places[input as usize].location)
+            .max();
+        let entry = Entry {
+            value: number,
+            added: number,
+            accepted: self.ended,
+            parallelism: 0,
+        };
         let appended_before = self.window.order.len();
         let location = self.window.place(entry, after);
         for &output in outputs {
-            self.places[output as usize] = Place { mark: WRITTEN, location, promised: false };
+            self.places[output as usize] = Place {
+                mark: WRITTEN,
+                location,
+                promised: false,
+            };
         }
         self.fill_rows(appended_before);
         self.advance()
@@ -482,7 +520,11 @@ impl Guide {
         if spans < SPANS as u64 * (p + 1) || order < v || tally < p + 1 {
             return Err(2);
         }
-        Ok(Self { places_count: v, window: Window::new(p), pushes: 0 })
+        Ok(Self {
+            places_count: v,
+            window: Window::new(p),
+            pushes: 0,
+        })
     }
 
     pub fn push(
@@ -504,7 +546,15 @@ impl Guide {
             }
         }
         self.pushes += 1;
-        Ok(self.window.place(Entry { value, added, accepted, parallelism: 0 }, after))
+        Ok(self.window.place(
+            Entry {
+                value,
+                added,
+                accepted,
+                parallelism: 0,
+            },
+            after,
+        ))
     }
 
     pub fn flush(&mut self) -> Code {
@@ -616,18 +666,28 @@ impl<'a> Lines<'a> {
                 self.next += 1;
                 Ok(line)
             }
-            None => Err(Refusal { code: 15, line: self.next }),
+            None => Err(Refusal {
+                code: 15,
+                line: self.next,
+            }),
         }
     }
 
     /// A refusal at the line that was taken last.
     fn refuse(&self, code: Code) -> Refusal {
-        Refusal { code, line: self.next - 1 }
+        Refusal {
+            code,
+            line: self.next - 1,
+        }
     }
 
     /// Nothing, or the refusal at the line that was taken last.
     fn demand(&self, code: Code) -> Result<(), Refusal> {
-        if code == 0 { Ok(()) } else { Err(self.refuse(code)) }
+        if code == 0 {
+            Ok(())
+        } else {
+            Err(self.refuse(code))
+        }
     }
 
     /// The value of a line `key=value` that must come next.
@@ -651,7 +711,10 @@ pub fn run_job(job: &[u8], lent: usize) -> Result<Vec<u8>, Refusal> {
         }
     };
     if !lines.rest.is_empty() {
-        return Err(Refusal { code: 15, line: lines.next });
+        return Err(Refusal {
+            code: 15,
+            line: lines.next,
+        });
     }
     let listing = list(&session, &summary);
     if listing.len() > lent {
@@ -690,7 +753,10 @@ fn run_line(
     } else if line == b"flush=1" {
         lines.demand(session.flush())?;
     } else if line == b"final=1" {
-        return session.final_flush().map(Some).map_err(|code| lines.refuse(code));
+        return session
+            .final_flush()
+            .map(Some)
+            .map_err(|code| lines.refuse(code));
     } else {
         return Err(malformed(lines));
     }
@@ -707,7 +773,9 @@ fn number(text: &[u8]) -> Option<u64> {
     if text.is_empty() || text.len() > 20 || !digits || (text[0] == b'0' && text.len() > 1) {
         return None;
     }
-    let value = text.iter().fold(0u128, |value, digit| 10 * value + (digit - b'0') as u128);
+    let value = text
+        .iter()
+        .fold(0u128, |value, digit| 10 * value + (digit - b'0') as u128);
     u64::try_from(value).ok()
 }
 
@@ -721,7 +789,11 @@ fn numbers(text: &[u8]) -> Option<Vec<u64>> {
 
 fn list(session: &Session, summary: &Summary) -> Vec<u8> {
     let order = &session.window.order;
-    let floor = order.iter().map(|entry| entry.parallelism).min().unwrap_or(0);
+    let floor = order
+        .iter()
+        .map(|entry| entry.parallelism)
+        .min()
+        .unwrap_or(0);
     let mut text = format!(
         "status=0\nentries={}\nplaces={}\nfloor={floor}\nmedian={}\n",
         order.len(),
@@ -729,7 +801,12 @@ fn list(session: &Session, summary: &Summary) -> Vec<u8> {
         summary.median
     );
     for (index, entry) in order.iter().enumerate() {
-        let Entry { added, accepted, parallelism, .. } = entry;
+        let Entry {
+            added,
+            accepted,
+            parallelism,
+            ..
+        } = entry;
         let written = session.rows[*added as usize].written;
         text += &format!(
             "order={index} added={added} accepted={accepted} \

@@ -24,7 +24,7 @@ python3 tests/reference/check.py jobs $reference job
 python3 tests/reference/check.py host $reference host
 
 if [ ! -d "${ORACLE_SOURCE:-../shared/docs/src}" ]; then
-  echo "model: no Rust source at ${ORACLE_SOURCE:-../shared/docs/src}, so the model is NOT compared with the Rust"
+  echo "model: no Rust source at ${ORACLE_SOURCE:-../shared/docs/src}: NOT compared with the Rust"
   exit 0
 fi
 oracle/build.sh
@@ -34,8 +34,8 @@ compare() {
   local name=$1 count
   shift
   $reference "$@" >$work/$name.runs
-  target/oracle/oracle <$work/$name.runs >$work/$name.oracle || fail "$name: the oracle's status is $?"
-  $reference runs <$work/$name.runs >$work/$name.model || fail "$name: the model's status is $?"
+  target/oracle/oracle <$work/$name.runs >$work/$name.oracle || fail "$name: the oracle failed"
+  $reference runs <$work/$name.runs >$work/$name.model || fail "$name: the model failed"
   cmp $work/$name.oracle $work/$name.model || fail "$name: oracle and model differ (files in $work)"
   count=$(grep -cx end $work/$name.model)
   [ "$count" -gt 0 ] || fail "$name: no runs"
