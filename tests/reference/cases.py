@@ -2,7 +2,9 @@
 
 RUNS are call lists in the format of oracle/FORMAT.md with the refusals expected: the number of each
 call that is refused, calls counted from 0; the key "open" stands for the opening. JOBS are jobs with
-the program's output. HOSTS are jobs with the lent listing length and the number returned.
+the program's output. HOSTS are jobs with the lent listing length and the number returned. PLACEMENTS
+are the figures of document 01 ("Placements worked through") for the runs of that name in the kept
+sample oracle/sample/placements.txt: the answer line, its first tuples to skip, and what follows.
 """
 
 FLAGGED = 1 << 62
@@ -224,4 +226,26 @@ HOSTS = [
     ("17 comes last", J1 + b"x", 0, 64 * 13 + 15),
     ("16", b"x" * 65537, 65536, 64 * 1 + 16),
     ("12 at line 5", body("in=0", "out=", "final=1"), 65536, 64 * 5 + 12),
+]
+
+# Of an order the last number of each tuple is the parallelism; for R1 to R3 the registrations count.
+PLACEMENTS = [
+    ("G1", "locations", 0, "1,0"),
+    ("G1", "window", 0, "1 1"),
+    ("G2", "locations", 1, "2,0"),
+    ("G3", "locations", 2, "3,0"),
+    ("G4", "locations", 3, "2,1"),
+    ("G5", "locations", 30, "31,0 33,0"),
+    ("G5", "parallelism", 0, " ".join(["1"] * 32)),
+    ("W1", "parallelism", 1, "4 4 4 3 2 2 1"),
+    ("W2", "parallelism", 1, "4 3 2 1 1"),
+    ("W3", "parallelism", 0, "3 3 3 4 3 2 1"),
+    ("W4", "parallelism", 0, "3 3 2 1"),
+    ("W5", "parallelism", 0, "4 4 4 4 4 3 2 1"),
+    ("W6", "parallelism", 30, "3 2 1"),
+    ("R1", "registrations", 0, "1 0"),
+    ("R2", "registrations", 0, "2 0 1"),
+    ("R3", "registrations", 0, "0"),
+    ("J1", "registrations", 0, "0 2 1 3"),
+    ("J1", "parallelism", 0, "2 2 2 1"),
 ]

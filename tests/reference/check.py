@@ -2,6 +2,7 @@
 """Holds a command to the hand-worked cases (cases.py), or to a file of cases that
 `reference jobs` wrote.
 
+    check.py placements              the kept sample has the figures that document 01 works through
     check.py runs COMMAND..          the command answers runs, as `reference runs` does
     check.py jobs [FILE] COMMAND..   the command reads a job and prints what the program prints
     check.py host [FILE] COMMAND..   the command, given the listing length as its last argument, reads
@@ -38,6 +39,30 @@ def read_cases(path):
         job, out, host = (line.partition(" ")[2] for line in lines[i : i + 3])
         lent, returned = map(int, host.split())
         yield f"{path}:{i + 1}", unescaped(job), unescaped(out), lent, returned
+
+
+def sample_answers(path):
+    """The answers of each named run in a sample file: name, then word, then the rest of the line."""
+    answers, name = {}, None
+    with open(path, encoding="ascii") as file:
+        for line in file.read().splitlines():
+            if line.startswith("# "):
+                name = line[2:].partition(":")[0]
+                answers[name] = {}
+            elif line.startswith("= ") and not line.startswith("= at "):
+                word, _, rest = line[2:].partition(" ")
+                answers[name][word] = rest.split()
+    for lines in answers.values():
+        entries = [entry.split(",") for entry in lines.get("order", [])]
+        lines["registrations"] = [entry[0] for entry in entries]
+        lines["parallelism"] = [entry[3] for entry in entries]
+    return answers
+
+
+def check_placements():
+    answers = sample_answers("oracle/sample/placements.txt")
+    for name, word, skipped, wanted in cases.PLACEMENTS:
+        yield f"{name}: {word}", wanted, " ".join(answers[name][word][skipped:])
 
 
 def check_runs(command):
@@ -89,11 +114,12 @@ def check_host(path, command):
 
 
 def main():
-    if len(sys.argv) < 3:
+    kind, *command = sys.argv[1:] or [""]
+    if not command and kind != "placements":
         sys.exit(__doc__)
-    kind, *command = sys.argv[1:]
-    path = command.pop(0) if command[0].endswith(".cases") else None
+    path = command.pop(0) if command and command[0].endswith(".cases") else None
     checks = {
+        "placements": check_placements,
         "runs": lambda: check_runs(command),
         "jobs": lambda: check_jobs(path, command),
         "host": lambda: check_host(path, command),

@@ -19,6 +19,7 @@ for sample in placements sessions guides; do
 done
 echo "model: the kept sample's sessions and guides: no difference"
 
+python3 tests/reference/check.py placements
 python3 tests/reference/check.py runs $reference runs
 python3 tests/reference/check.py jobs $reference job
 python3 tests/reference/check.py host $reference host
