@@ -2,7 +2,7 @@
 use mathlib.Core.Path.{_≡_, refl, sym, ap, _∙_}
 use mathlib.Core.List.{List, [], _∷_, _++_}
 use Prim.Native.Nat.{ℕ, zero, suc, _+_, _*_, _-_, _≤_, _<_}
-use native.Mathlib.Nat.{add-zero, suc-add}
+use native.Mathlib.Nat.{zero-add, add-zero, suc-add}
 use native.Mathlib.Omega.{arith}
 use lib.ListN.{length, set, getD, length-set}
 use lib.Seq.{sets-eq, getD-set-same, getD-set-other}
@@ -79,3 +79,20 @@ appended-elsewhere o n (e ∷ es) j h (inl x) =
 appended-elsewhere o n (e ∷ es) j h (inr x) =
     let l = over-length o n e (omega arith) in
     appended-elsewhere (over o (4 * n) (numbers e)) (suc n) es j (omega arith) (inr (omega arith)) ∙ over-elsewhere o n e j (omega arith) (inr (omega arith))
+
+-- a row in two parts
+pub row-add : (s : List ℕ) (k m n : ℕ) → row s k (m + n) ≡ row s k m ++ row s (k + m) n
+row-add s k zero n = rw (zero-add, add-zero)
+row-add s k (suc m) n =
+    let e : k + suc m ≡ suc k + m = omega arith in
+    ap (λ t. row s k t) (suc-add m n) ∙ rw e (ap (λ t. entry-at s k ∷ t) (row-add s (suc k) m n))
+
+-- rows of two lists that agree below their end
+pub row-same : (s s′ : List ℕ) (k m : ℕ) → ((j : ℕ) → j < 4 * (k + m) → getD s′ j 0 ≡ getD s j 0) → row s′ k m ≡ row s k m
+row-same s s′ k zero h = refl
+row-same s s′ k (suc m) h =
+    let f0 = h (4 * k) (omega arith) in
+    let f1 = h (4 * k + 1) (omega arith) in
+    let f2 = h (4 * k + 2) (omega arith) in
+    let f3 = h (4 * k + 3) (omega arith) in
+    rw (f0, f1, f2, f3, row-same s s′ (suc k) m (λ j x. h j (omega arith)))

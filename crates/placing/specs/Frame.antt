@@ -1,10 +1,13 @@
 -- What a step of the guide leaves alone in its storage. `Frame` is reflexive and transitive, so that a caller composes it over any number
 -- of steps. Assumes nothing.
-use mathlib.Core.Path.{_≡_, refl, _∙_}
-use mathlib.Core.List.{List}
+use mathlib.Core.Path.{_≡_, refl, ap, _∙_}
+use mathlib.Core.List.{List, map}
 use Prim.Native.Nat.{ℕ, _+_, _*_, _≤_, _<_}
 use native.Mathlib.Omega.{arith}
 use lib.ListN.{length, getD}
+use Rattle.entries.specs.Entries.{entry-of}
+use Rattle.entries.specs.Stored.{row-same}
+use Rattle.buffer.specs.View.{order-of}
 
 -- with P = p, and n entries in the order before and n′ after: lengths stay; spans beyond their 32 · (p + 1) entries are untouched; so are
 -- the order's first n entries and all not yet appended, and the tally beyond its p + 1 counts
@@ -43,3 +46,8 @@ frame-trans f g =
       order-beyond = λ j h. g .order-beyond j h ∙ f .order-beyond j (omega (arith, g .grows));
       tally-beyond = λ x h. g .tally-beyond x h ∙ f .tally-beyond x h;
     }
+
+-- the order as it was is the beginning of the order as it is
+pub frame-order : {p n n′ : ℕ} {s o t s′ o′ t′ : List ℕ} → Frame p n n′ s o t s′ o′ t′ → order-of o′ n ≡ order-of o n
+unfolding order-of
+frame-order {n = n} {o = o} {o′ = o′} f = ap (λ l. map entry-of l) (row-same o o′ 0 n (λ j h. f .order-kept j (omega arith)))

@@ -4,7 +4,6 @@ use mathlib.Core.Path.{_≡_, refl, sym, ap, _∙_}
 use mathlib.Core.List.{List, [], _∷_, _++_, map}
 use mathlib.Core.Logic.{inl, inr}
 use Prim.Native.Nat.{ℕ, zero, suc, _+_, _*_, _≤_, _<_}
-use native.Mathlib.Nat.{add-zero, zero-add, suc-add}
 use native.Mathlib.Omega.{arith}
 use lib.ListN.{length, getD, take, drop, length-map, replicate, getD-replicate}
 use lib.Seq.{drop-at, getD-take}
@@ -12,7 +11,7 @@ use Rattle.rules.specs.Guide.{parallelism, tallied, tally}
 use Rattle.laws.specs.Width.{width-flat, width-le}
 use Rattle.entries.specs.declared.Entry.{Entry}
 use Rattle.entries.specs.Entries.{row, entry-at, annotated, appended, entry-of}
-use Rattle.entries.specs.Stored.{over-elsewhere, appended-elsewhere, over-length}
+use Rattle.entries.specs.Stored.{row-add, over-elsewhere, appended-elsewhere, over-length}
 use Rattle.buffer.specs.declared.Guide.{Guide}
 use Rattle.buffer.specs.View.{order-of, Laid}
 use Rattle.buffer.specs.Rows.{most-at, row-length, row-ends}
@@ -30,12 +29,6 @@ pub record Stands (g : Guide) (s o t : List ℕ) : Type 0 where
   pub tally-is : take (g .p + 1) t ≡ tally (g .p) (order-of o (g .written))
 
 -- lists
-row-add : (s : List ℕ) (k m n : ℕ) → row s k (m + n) ≡ row s k m ++ row s (k + m) n
-row-add s k zero n = rw (zero-add, add-zero)
-row-add s k (suc m) n =
-    let e : k + suc m ≡ suc k + m = omega arith in
-    ap (λ t. row s k t) (suc-add m n) ∙ rw e (ap (λ t. entry-at s k ∷ t) (row-add s (suc k) m n))
-
 appended-tail : (o : List ℕ) (n : ℕ) (es : List Entry) → 4 * (n + length es) ≤ length o → row (appended o n es) n (length es) ≡ es
 appended-tail o n es h =
     let o1 = appended o n es in
