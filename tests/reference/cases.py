@@ -1,4 +1,5 @@
-"""Cases worked out by hand from document 01. Each has a sentence, what is fed, and what must come.
+"""Cases worked out by hand from document 01, with the points that it leaves open read as
+docs/DECISIONS.md settles them. Each has a sentence, what is fed, and what must come.
 
 RUNS are call lists in the format of oracle/FORMAT.md with the refusals expected: the number of each
 call that is refused, calls counted from 0; the key "open" stands for the opening. JOBS are jobs with

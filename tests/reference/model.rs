@@ -1,8 +1,8 @@
-//! The reference model: document 01's clerk as a plain program, written from the paper alone. It is
-//! fed P, V, W and the calls, keeps everything in growing lists, and is meant to be read beside the
-//! paper, paragraph by paragraph: the records, the guide, the registrar and sorter, the checks, the
-//! summary, the job. Tests hold other programs to it, and hold it to the Rust where the two are
-//! compared. All arithmetic is in 64 bits, far from any limit.
+//! The reference model: document 01's clerk as a plain program, fed only P, V, W and the calls. It
+//! follows the paper and is meant to be read beside it, paragraph by paragraph: the records, the
+//! guide, the registrar and sorter, the checks, the summary, the job; everything is kept in growing
+//! lists. It shares no code with the Rust or with what is tested by it. All arithmetic is in 64 bits,
+//! far from any limit.
 
 use std::collections::BTreeMap;
 
