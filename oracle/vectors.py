@@ -1,0 +1,207 @@
+#!/usr/bin/env python3
+"""Writes recorded runs of the oracle as specifications that the checker computes (crate `vectors`).
+
+    python3 oracle/vectors.py
+
+Reads oracle/sample (FORMAT.md) and writes crates/vectors/specs/Runs1.antt, Runs2.antt, ..: of each shape
+of session in the sample the smallest runs with a trace and without, and the smallest runs of the guide
+alone. Each file ends in a
+theorem: what the definitions of `rules` give after the run's calls is what the oracle answered. Nothing
+is left to chance: from the same sample come the same files.
+"""
+
+import os
+
+HERE = os.path.dirname(os.path.abspath(__file__))
+SAMPLE = os.path.join(HERE, "sample")
+SPECS = os.path.join(HERE, os.pardir, "crates", "vectors", "specs")
+PER_SHAPE = 4
+GUIDES = 8
+CALLS = 60
+A_FILE = 20
+
+
+def runs(name):
+    """The runs of a file of the sample: the comment above, and the run's lines."""
+    comment, lines = "", []
+    with open(os.path.join(SAMPLE, name)) as text:
+        for line in text:
+            line = line.rstrip("\n")
+            if line.startswith("#"):
+                comment = line[2:]
+            elif line:
+                lines.append(line)
+                if line == "end":
+                    yield comment, lines
+                    lines = []
+
+
+def calls_of(lines):
+    return [line for line in lines[1:] if not line.startswith("=") and line not in ("trace", "end")]
+
+
+def answers_of(lines):
+    answers = {}
+    for line in lines:
+        if line.startswith("= ") and not line.startswith("= at "):
+            word, _, rest = line[2:].partition(" ")
+            answers[word] = [[None if x == "-" else int(x) for x in tuple_.split(",")] for tuple_ in rest.split()]
+    return answers
+
+
+def numbers(text):
+    return [] if text == "-" else [int(x) for x in text.split(",")]
+
+
+def cons(items):
+    return " ∷ ".join(list(items) + ["[]"])
+
+
+def listed(xs):
+    return "[]" if not xs else "(" + cons(str(x) for x in xs) + ")"
+
+
+def nested(xss):
+    return "[]" if not xss else "(" + cons(listed(xs) for xs in xss) + ")"
+
+
+def call(line):
+    words = line.split()
+    if words[0] == "set":
+        return f"set {words[1]}"
+    if words[0] == "add":
+        return f"add {listed(numbers(words[1]))} {listed(numbers(words[2]))}"
+    return words[0]
+
+
+def request(line):
+    words = line.split()
+    if words[0] == "push":
+        after = numbers(words[4])
+        where = "none" if not after else f"(at {after[0]} {after[1]})"
+        return f"push {where} (item {words[1]} {words[2]} {words[3]})"
+    return "flush"
+
+
+def filled(pairs, length):
+    counts = [0] * length
+    for index, count in pairs:
+        counts[index] = count
+    return counts
+
+
+def trace(lines):
+    """After each call: its number, what a push returned, the order's length, a session's mark, the window."""
+    for line in lines:
+        if line.startswith("= at "):
+            words = line.split()[2:]
+            if lines[0].startswith("session"):
+                words[2] = "0" if words[2] == "-" else str(int(words[2]) + 1)
+            yield [int(x) for word in words if word != "-" for x in word.split(",")]
+
+
+def compared(name, lines, got, tables):
+    if lines[1] == "trace":
+        got, tables = "traced-" + got, [list(trace(lines))] + tables
+    else:
+        got = "after-" + got
+    return "\n".join([
+        f"    -- {name}",
+        "    record {",
+        f"      got = {got};",
+        "      want = " + cons(nested(table) for table in tables) + ";",
+        "    }",
+    ])
+
+
+def session(name, lines):
+    _, p, v = lines[0].split()[:3]
+    a = answers_of(lines)
+    waiting = [[tuple_[0], reg] for tuple_ in a["waiting"] for reg in tuple_[1:]]
+    summary = a["final"] + a["median"] if "final" in a else []
+    tables = [a["order"], a["rows"], a["places"], waiting, [filled(a["tally"], int(p) + 1)], a["held"], summary]
+    return compared(name, lines, f"calls {p} {v} ({cons(call(c) for c in calls_of(lines))})", tables)
+
+
+def guide(name, lines):
+    _, p, v = lines[0].split()
+    a = answers_of(lines)
+    tables = [a["order"], [filled(a["tally"], int(p) + 1)], a["held"]]
+    return compared(name, lines, f"requests {p} {v} ({cons(request(c) for c in calls_of(lines))})", tables)
+
+
+def chosen_sessions():
+    """Of each shape the smallest."""
+    shapes = {}
+    for name, lines in list(runs("placements.txt")) + list(runs("sessions.txt")):
+        if lines[0].startswith("session") and len(calls_of(lines)) <= CALLS:
+            shapes.setdefault((name, lines[1] == "trace"), []).append(lines)
+    for (name, _), group in shapes.items():
+        for lines in sorted(group, key=lambda x: len(calls_of(x)))[:PER_SHAPE]:
+            yield session(name, lines)
+
+
+def chosen_guides():
+    for traced in (True, False):
+        small = [(name, lines) for name, lines in runs("guides.txt") if int(lines[0].split()[1]) <= 64 and (lines[1] == "trace") == traced]
+        for name, lines in sorted(small, key=lambda x: len(calls_of(x[1])))[:GUIDES]:
+            yield guide("the guide alone: " + name, lines)
+
+
+# what the theorem computes with, by module of `rules` and of this crate
+RULES = {
+    "Guide": "parallelism parallelism-by last-parallelism annotate released fresh release flush seek found begin choose put settle apply place tallied tally",
+    "Model": "initial member marked tracked run-from watermark greatest ready loc-of later top after spotted reg-of place-one due left queue keep push off rest with-set with-add cascade settle-all do-set do-add with-record note-add note-flush note-final with-flush do-flush do-final",
+    "Checks": "verdict any repeats written-by taken pooled check-closed check-places check-set check-add check-flush check-final",
+    "Calls": "checks answer apply-call chosen step run",
+    "Alone": "alone holds stray worn check-push check-flush-alone requests reply location serve serve-step serve-all",
+    "Summary": "sum median-from median",
+}
+SHOWN = "at item keep-zero trimmed window entry held-item joined row-from rows-from place-row places-from traced summary after-calls traced-calls where-to served after-requests traced-requests"
+OTHER = {"Guide": {"flush": "flush-guide"}, "Model": {"push": "push-stack"}}
+
+TOP = """\
+-- Recorded runs of the Rust, written by oracle/vectors.py: what the definitions give after each is what the oracle answered. Assumes nothing.
+use mathlib.Core.Path.{_≡_, refl}
+use mathlib.Core.List.{List, [], _∷_, map}
+use mathlib.Core.Option.{none}
+use Prim.Native.Nat.{ℕ}
+"""
+
+END = """
+-- each run's two sides are the same
+pub agree : map (λ r. r .got) runs ≡ map (λ r. r .want) runs
+unfolding runs %s
+agree = refl
+"""
+
+
+def head(constructors):
+    lines = [TOP]
+    for module, names in RULES.items():
+        other = OTHER.get(module, {})
+        words = [f"{name} as {other[name]}" if name in other else name for name in names.split()] + constructors.get(module, [])
+        lines.append(f"use Rattle.rules.specs.{module}.{{{', '.join(words)}}}\n")
+    lines.append(f"use Rattle.vectors.specs.Shown.{{Compared, {', '.join(SHOWN.split())}}}\n\npub runs : List Compared\nruns =\n")
+    return "".join(lines)
+
+
+def unfolded():
+    return " ".join(OTHER.get(module, {}).get(name, name) for module, names in RULES.items() for name in names.split()) + " " + SHOWN
+
+
+def main():
+    sessions, guides = list(chosen_sessions()), list(chosen_guides())
+    parts = [(sessions[i:i + A_FILE], {"Calls": ["set", "add", "flush", "final"]}) for i in range(0, len(sessions), A_FILE)]
+    parts += [(guides[i:i + A_FILE], {"Alone": ["push", "flush"]}) for i in range(0, len(guides), A_FILE)]
+    for number, (texts, constructors) in enumerate(parts, 1):
+        with open(os.path.join(SPECS, f"Runs{number}.antt"), "w") as out:
+            out.write(head(constructors) + "\n".join(text.replace("    record {", "    ∷ record {") if i else text for i, text in enumerate(texts)) + "\n    ∷ []\n" + END % unfolded())
+    with open(os.path.join(SPECS, "Lib.antt"), "w") as out:
+        out.write("-- Recorded runs of the Rust, computed from the definitions of `rules`.\npub mod Shown\n")
+        out.writelines(f"pub mod Runs{number}\n" for number in range(1, len(parts) + 1))
+    print(f"{len(sessions)} sessions and {len(guides)} runs of the guide alone in {len(parts)} files")
+
+
+if __name__ == "__main__":
+    main()
