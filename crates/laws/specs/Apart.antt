@@ -14,7 +14,8 @@ use Rattle.laws.specs.ModelBase.{In, or-cases, bool-cases, member-in, in
 use Rattle.laws.specs.Accepted.{set-passed, add-passed}
 use Rattle.laws.specs.History.{lt-or-le}
 use Rattle.laws.specs.GuideInv.{eq-or-ne}
-use Rattle.laws.specs.ModelInv.{Inv, reg-of-old, reg-of-new, reg-of-beyond}
+use Rattle.laws.specs.ModelInv.{Inv}
+use Rattle.laws.specs.CallInv.{reg-of-old, reg-of-new, reg-of-beyond}
 use Rattle.laws.specs.Kept.{Kept, kept}
 
 written-in : (i : ℕ) (l : List Reg) (r : ℕ) (d : Reg) → d .outs ≡ [] → In i ((getD l r d) .outs) → written-by i l ≡ true

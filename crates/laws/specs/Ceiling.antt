@@ -12,7 +12,8 @@ use Rattle.rules.specs.Guide.{Item, fresh, release, flush as flush-guide}
 use Rattle.laws.specs.Place.{Step, place-step}
 use Rattle.rules.specs.Model.{with-record, Reg, Pending, Model, reg-of, after, place-one, keep, queue, push, off, rest, with-set, with-add, with-flush, initial}
 use Rattle.rules.specs.Calls.{Call, flush, final, answer, checks, run}
-use Rattle.laws.specs.ModelInv.{Inv, push-length, off-rest}
+use Rattle.laws.specs.ModelInv.{Inv}
+use Rattle.laws.specs.CascadeInv.{push-length, off-rest}
 use Rattle.laws.specs.Accepted.{final-passed}
 use Rattle.laws.specs.Kept.{Kept, kept}
 

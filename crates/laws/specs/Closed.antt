@@ -14,7 +14,8 @@ use Rattle.laws.specs.Place.{Step, place-step}
 use Rattle.rules.specs.Model.{with-record, Reg, Pending, Model, watermark, ready, greatest, reg-of, after, place-one, keep, queue, push, off, rest, with-set, with-add, with-flush, initial}
 use Rattle.rules.specs.Calls.{Call, set, add, flush, final, checks, answer, run}
 use Rattle.rules.specs.Checks.{check-set, check-add, check-flush, check-final, check-closed, Check, verdict, check-places}
-use Rattle.laws.specs.ModelInv.{Inv, run-inv, initial-inv}
+use Rattle.laws.specs.ModelInv.{Inv}
+use Rattle.laws.specs.CallInv.{run-inv, initial-inv}
 use Rattle.laws.specs.Accepted.{set-passed, add-passed, flush-passed, final-passed}
 use Rattle.laws.specs.Kept.{Kept, kept, run-kept, run-noted, initial-noted}
 use Rattle.laws.specs.Balance.{hsum, hsum-append, hsum-empties}

@@ -13,7 +13,9 @@ use borrow.Author.Tests.{eqb-true}
 use Rattle.rules.specs.Model.{Recorded, with-record, note-add, note-flush, note-final, do-flush, do-final, Reg, Pending, Model, watermark, greatest, ready, place-one, keep, queue, push, off, rest, with-set, with-add, with-flush, cascade, settle-all, do-set, do-add, initial}
 use Rattle.rules.specs.Calls.{chosen, Call, set, add, flush, final, apply-call, answer, step, run}
 use Rattle.laws.specs.ModelBase.{In, bool-cases}
-use Rattle.laws.specs.ModelInv.{Inv, place-one-inv, off-inv, with-set-inv, with-add-inv, add-inv, flush-inv, record-inv, initial-inv, step-inv, add-stack, push-from, push-length, off-rest, place-pending}
+use Rattle.laws.specs.ModelInv.{Inv, place-one-inv, record-inv}
+use Rattle.laws.specs.CascadeInv.{off-inv, push-from, push-length, off-rest, place-pending}
+use Rattle.laws.specs.CallInv.{with-set-inv, with-add-inv, add-inv, flush-inv, initial-inv, step-inv, add-stack}
 
 -- what a call may store in the record: a row for each accepted registration, with the written that it had or the order's length
 pub record Notes (N : ℕ) (k : Model) (d : Recorded) : Type 0 where

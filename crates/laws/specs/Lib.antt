@@ -6,6 +6,8 @@ pub mod GuideInv
 pub mod Place
 pub mod ModelBase
 pub mod ModelInv
+pub mod CascadeInv
+pub mod CallInv
 pub mod Kept
 pub mod Accepted
 pub mod Balance

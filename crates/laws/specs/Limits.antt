@@ -12,7 +12,7 @@ use Rattle.rules.specs.Checks.{repeats, pooled}
 use Rattle.laws.specs.ModelBase.{In}
 use Rattle.laws.specs.History.{lt-or-le}
 use Rattle.laws.specs.GuideInv.{eq-or-ne}
-use Rattle.laws.specs.ModelInv.{reg-of-old, reg-of-new}
+use Rattle.laws.specs.CallInv.{reg-of-old, reg-of-new}
 use Rattle.laws.specs.Accepted.{AddPassed, set-passed, add-passed, flush-passed}
 use Rattle.laws.specs.Kept.{Kept, kept}
 

@@ -10,7 +10,9 @@ use lib.ListN.{length}
 use Rattle.rules.specs.Guide.{fresh}
 use Rattle.rules.specs.Model.{Recorded, with-record, Model, watermark, ready, greatest, place-one, keep, queue, push, off, rest, with-set, with-add, with-flush, settle-all, initial}
 use Rattle.rules.specs.Calls.{Call, set, add, flush, final, answer, step, run}
-use Rattle.laws.specs.ModelInv.{Inv, place-one-inv, off-inv, with-set-inv, queued-inv, flush-inv, record-inv, initial-inv, add-stack, push-from}
+use Rattle.laws.specs.ModelInv.{Inv, place-one-inv, record-inv}
+use Rattle.laws.specs.CascadeInv.{off-inv, push-from}
+use Rattle.laws.specs.CallInv.{with-set-inv, queued-inv, flush-inv, initial-inv, add-stack}
 use Rattle.laws.specs.Kept.{Kept, every, equivalent, settle-kept, step-kept, step-noted, initial-noted}
 use Rattle.laws.specs.Balance.{Balance, balance-kept, balance-initial}
 use Rattle.laws.specs.Apart.{Apart, apart-kept, apart-initial}

@@ -12,7 +12,9 @@ use Rattle.rules.specs.Model.{Recorded, with-record, Reg, Pending, Model, water
 use Rattle.rules.specs.Calls.{Call, set, add, answer, run}
 use Rattle.laws.specs.ModelBase.{In, bool-cases, tracked-cases, tracked-of, marked-append}
 use Rattle.laws.specs.History.{lt-or-le}
-use Rattle.laws.specs.ModelInv.{Inv, reg-of-old, reg-of-new, left-from, queue-from}
+use Rattle.laws.specs.ModelInv.{Inv}
+use Rattle.laws.specs.CascadeInv.{left-from}
+use Rattle.laws.specs.CallInv.{reg-of-old, reg-of-new, queue-from}
 use Rattle.laws.specs.Kept.{Kept, kept}
 
 run-ge : (t : ℕ → Bool) (f n : ℕ) → n ≤ run-from t f n
