@@ -1,15 +1,16 @@
--- What an accepted call has passed: each check of its list, as a fact.
-use mathlib.Core.Path.{_≡_, refl, sym, ap, _∙_}
-use mathlib.Core.List.{List, [], _∷_, _++_, List·Memᴰ, List·Memᴰ·head, List·Memᴰ·tail, List·Memᴰ·not-nil, List·Memᴰ·cases-cons, Memᴰ·append-left, Memᴰ·append-right}
+-- What an accepted call has passed: each check of its list (document 01, "Refused by the input, refused by the state"), as a fact.
+-- A record for each of the four calls; the other invariants take from it what they need.
+use mathlib.Core.Path.{_≡_, refl, sym}
+use mathlib.Core.List.{List, [], _∷_, _++_, List·Memᴰ·head, List·Memᴰ·not-nil, List·Memᴰ·cases-cons, Memᴰ·append-left, Memᴰ·append-right}
 use mathlib.Core.Logic.{_⊎_, inl, inr, _≢_}
 use mathlib.Core.Bool.{Bool, true, false, _||_, false≢true}
-use Prim.Native.Nat.{ℕ, zero, suc, _+_, _≤_, _<_}
+use Prim.Native.Nat.{ℕ, _+_, _≤_, _<_}
 use native.Mathlib.Omega.{arith}
 use lib.ListN.{length}
 use lib.Dec.{leb, ltb}
 use borrow.Author.Tests.{ltb-false, leb-false}
 use Rattle.rules.specs.Model.{Model}
-use Rattle.rules.specs.Calls.{Call, set, add, flush, final, checks, answer}
+use Rattle.rules.specs.Calls.{set, add, flush, final, checks, answer}
 use Rattle.rules.specs.Checks.{Check, verdict, any, repeats, taken, pooled, check-set, check-add, check-flush, check-final, check-closed, check-places}
 use Rattle.laws.specs.ModelBase.{In, bool-cases}
 
@@ -22,6 +23,7 @@ verdict-head c cs h n = go (bool-cases (c .fails))
     go (inl e) = absurd (n (rw (e, verdict) at h))
     go (inr e) = (e, rw (e, verdict) at h)
 
+-- a test that fails on a whole list fails on each
 pub any-false : (t : ℕ → Bool) (l : List ℕ) (i : ℕ) → any t l ≡ false → In i l → t i ≡ false
 unfolding any
 any-false t [] i h y = absurd (List·Memᴰ·not-nil y)
@@ -36,6 +38,7 @@ pub or-false : (a b : Bool) → (a || b) ≡ false → (a ≡ false) × (b ≡ f
 or-false true b h = absurd (false≢true (sym h))
 or-false false b h = (refl, h)
 
+-- what each call has passed where its number is 0
 pub record SetPassed (N x : ℕ) (k : Model) : Type 0 where
   pub not-closed : k .closed ≡ false
   pub inside : x < N
@@ -74,7 +77,6 @@ unfolding answer checks check-set check-add check-flush check-final check-closed
 add-passed N W ins outs k h =
     let a = verdict-head _ _ h (omega arith) in
     let b = verdict-head _ _ (a .1) (omega arith) in
-    let few = or-false _ _ (b .0) in
     let c = verdict-head _ _ (b .1) (omega arith) in
     let d = verdict-head _ _ (c .1) (omega arith) in
     let e = verdict-head _ _ (d .1) (omega arith) in
@@ -83,8 +85,8 @@ add-passed N W ins outs k h =
     let m = verdict-head _ _ (g .1) (omega arith) in
     record {
       not-closed = a .0;
-      ins-few = ltb-false 65535 (length ins) (few .0);
-      outs-few = ltb-false 65535 (length outs) (few .1);
+      ins-few = ltb-false 65535 (length ins) (or-false (ltb 65535 (length ins)) (ltb 65535 (length outs)) (b .0) .0);
+      outs-few = ltb-false 65535 (length outs) (or-false (ltb 65535 (length ins)) (ltb 65535 (length outs)) (b .0) .1);
       ins-inside = λ i y. leb-false N i (any-false (λ x. leb N x) (ins ++ outs) i (d .0) (Memᴰ·append-left outs y));
       outs-inside = λ i y. leb-false N i (any-false (λ x. leb N x) (ins ++ outs) i (d .0) (Memᴰ·append-right ins y));
       once = e .0;

@@ -1,23 +1,22 @@
 -- The guide alone: what holds of it after every list of requests. The window's invariant is the session's; the accepted pushes are
 -- what is written and held; parallelisms are from 1 to P; span numbers fit 32 bits by refusal 14.
-use mathlib.Core.Path.{_≡_, refl, sym, ap, _∙_}
+use mathlib.Core.Path.{_≡_, refl}
 use mathlib.Core.List.{List, [], _∷_, _++_}
-use mathlib.Core.Bool.{Bool, true, false}
+use mathlib.Core.Bool.{true, false}
 use mathlib.Core.Logic.{_⊎_, inl, inr}
 use mathlib.Core.Option.{Option}
-use Prim.Native.Nat.{ℕ, zero, suc, _+_, _≤_, _<_}
+use Prim.Native.Nat.{ℕ, _+_, _≤_, _<_}
 use native.Mathlib.Omega.{arith}
-use lib.ListN.{length, take, replicate}
+use lib.ListN.{length, take}
 use lib.Dec.{eqb, leb}
 use borrow.Author.Tests.{eqb-true, leb-false}
-use Rattle.rules.specs.Guide.{Loc, Item, Guide, fresh, flush as flush-guide, release, released, Placed, place, held}
+use Rattle.rules.specs.Guide.{Loc, Item, Guide, fresh, flush as flush-guide, release, released, place, held}
 use Rattle.rules.specs.Calls.{chosen}
 use Rattle.rules.specs.Alone.{Alone, alone, Request, push, flush, check-push, check-flush-alone, worn, requests, reply, serve, serve-step, serve-all}
-use Rattle.laws.specs.History.{len}
 use Rattle.laws.specs.GuideInv.{Core, Later, flush-core, release-later, len-empties}
-use Rattle.laws.specs.Place.{Step, place-step}
+use Rattle.laws.specs.Place.{place-step}
 use Rattle.laws.specs.ModelBase.{bool-cases}
-use Rattle.laws.specs.Balance.{wsum, hsum, hsum-empties, step-sum, flush-sum}
+use Rattle.laws.specs.Balance.{step-sum, flush-sum}
 use Rattle.laws.specs.Once.{wsum-one, hsum-one}
 use Rattle.laws.specs.Accepted.{verdict-head, or-false}
 use Rattle.laws.specs.Order.{order-nth, bounds}

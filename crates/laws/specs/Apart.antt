@@ -1,20 +1,19 @@
--- A place is set once or written by one registration.
-use mathlib.Core.Path.{_≡_, refl, sym, ap, _∙_}
-use mathlib.Core.List.{List, [], _∷_, _++_, List·Memᴰ, List·Memᴰ·head, List·Memᴰ·tail, List·Memᴰ·not-nil, List·Memᴰ·cases-cons}
+-- A place is set once or written by one registration: sets and the outputs of accepted adds never meet, nor do the outputs of two.
+-- Checks 6 and 8 keep it so.
+use mathlib.Core.Path.{_≡_, refl, sym, _∙_}
+use mathlib.Core.List.{List, [], _∷_, List·Memᴰ·not-nil, List·Memᴰ·cases-cons}
 use mathlib.Core.Logic.{_⊎_, inl, inr, _≢_}
-use mathlib.Core.Bool.{Bool, true, false, _||_, or-true, false≢true}
-use Prim.Native.Nat.{ℕ, zero, suc, _+_, _≤_, _<_}
+use mathlib.Core.Bool.{true, false, or-true, false≢true}
+use Prim.Native.Nat.{ℕ, zero, suc, _≤_, _<_}
 use native.Mathlib.Omega.{arith}
-use lib.ListN.{length, getD, length-append, List·getD-append, List·getD-eq-default}
-use lib.Seq.{getD-append-seam}
-use Rattle.rules.specs.Model.{with-record, Reg, Pending, Model, watermark, ready, greatest, member, reg-of, place-one, keep, queue, push, off, rest, with-set, with-add, with-flush, initial}
-use Rattle.rules.specs.Calls.{Call, set, add, checks, answer, run}
-use Rattle.rules.specs.Checks.{check-set, check-add, check-flush, check-final, check-closed, written-by, taken, Check, verdict, any, check-places}
-use Rattle.laws.specs.ModelBase.{In, or-cases, bool-cases, member-in, in-member}
+use lib.ListN.{length, getD}
+use Rattle.rules.specs.Model.{with-record, Reg, Model, member, reg-of, place-one, keep, rest, with-set, with-add, with-flush, initial}
+use Rattle.rules.specs.Calls.{Call, run}
+use Rattle.rules.specs.Checks.{written-by, taken}
+use Rattle.laws.specs.ModelBase.{In, bool-cases, in-member}
 use Rattle.laws.specs.Accepted.{set-passed, add-passed}
 use Rattle.laws.specs.History.{lt-or-le}
 use Rattle.laws.specs.GuideInv.{eq-or-ne}
-use Rattle.laws.specs.ModelInv.{Inv}
 use Rattle.laws.specs.CallInv.{reg-of-old, reg-of-new, reg-of-beyond}
 use Rattle.laws.specs.Kept.{Kept, kept}
 
@@ -99,7 +98,7 @@ module _ (P N W : ℕ) (hP : 1 ≤ P) where
         placing = λ c r st k l v p. same-apart k (rest N (place-one P c r k)) (r ∷ st) _ refl refl p;
         setting = λ x k v a p. same-apart (with-set x k) (rest N (with-set x k)) [] _ refl refl (with-set-apart x k [] [] (set-passed N W x k a .free) p);
         adding = λ ins outs k v a e p. with-add-apart _ k [] _ (add-passed N W ins outs k a .free) p;
-        waiting = λ ins outs k v a e p. same-apart (with-add _ k) _ [] [] refl refl (with-add-apart _ k [] [] (add-passed N W ins outs k a .free) p);
+        delaying = λ ins outs k v a e p. same-apart (with-add _ k) _ [] [] refl refl (with-add-apart _ k [] [] (add-passed N W ins outs k a .free) p);
         flushing = λ k v a p. same-apart k _ [] [] refl refl p;
         closing = λ k v a p. same-apart k _ [] [] refl refl p;
         recording = λ d k v n p. same-apart k _ [] [] refl refl p;

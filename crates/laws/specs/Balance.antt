@@ -1,17 +1,18 @@
--- Every accepted registration is written, held, waiting or on the stack, once: for any weight of registrations the sums agree.
-use mathlib.Core.Path.{_≡_, refl, sym, ap, _∙_}
-use mathlib.Core.List.{List, [], _∷_, _++_, append-assoc, append-nil}
+-- Every accepted registration is written, held, pending or on the stack, once. For any weight of registrations the sum over the order,
+-- the window, the pending ones and the stack is the sum over the accepted ones; each use picks its weight.
+use mathlib.Core.Path.{_≡_, refl, ap}
+use mathlib.Core.List.{List, [], _∷_, _++_, append-nil}
 use mathlib.Core.Logic.{_⊎_, inl, inr}
-use mathlib.Core.Bool.{Bool, true, false}
+use mathlib.Core.Bool.{true, false}
 use Prim.Native.Nat.{ℕ, zero, suc, _+_, _≤_, _<_}
 use native.Mathlib.Omega.{arith}
-use lib.ListN.{length, getD, set, take, replicate, length-append}
-use lib.Dec.{ltb, eqb}
+use lib.ListN.{length, take, replicate, length-append}
+use lib.Dec.{ltb}
 use native.Mathlib.Numerals.{add-one}
 use Rattle.rules.specs.Guide.{Item, Entry, Guide, annotate, released, fresh, Placed, place, release, flush as flush-guide}
-use Rattle.laws.specs.GuideInv.{Core, Later, grow, flush-core, regroup}
+use Rattle.laws.specs.GuideInv.{Core, grow, flush-core, regroup}
 use Rattle.laws.specs.Place.{Step, place-step}
-use Rattle.rules.specs.Model.{with-record, Reg, Pending, Model, watermark, greatest, ready, reg-of, after, place-one, keep, queue, push, due, left, off, rest, with-set, with-add, with-flush, initial}
+use Rattle.rules.specs.Model.{with-record, Reg, Pending, Model, watermark, greatest, reg-of, after, place-one, keep, queue, push, due, left, off, rest, with-set, with-add, with-flush, initial}
 use Rattle.rules.specs.Calls.{Call, run}
 use Rattle.laws.specs.ModelBase.{bool-cases}
 use Rattle.laws.specs.ModelInv.{Inv}
@@ -42,10 +43,10 @@ module _ (φ : ℕ → ℕ) where
   below zero = 0
   below (suc n) = below n + φ n
 
-  row-sum : (f : ℕ → ℕ) (q : ℕ) (l : List Item) → wsum (annotate f q l) ≡ esum l
+  annotate-sum : (f : ℕ → ℕ) (q : ℕ) (l : List Item) → wsum (annotate f q l) ≡ esum l
   unfolding annotate wsum esum
-  row-sum f q [] = refl
-  row-sum f q (e ∷ l) = omega (arith, row-sum f (suc q) l)
+  annotate-sum f q [] = refl
+  annotate-sum f q (e ∷ l) = omega (arith, annotate-sum f (suc q) l)
 
   wsum-append : (l m : List Entry) → wsum (l ++ m) ≡ wsum l + wsum m
   unfolding wsum
@@ -67,15 +68,15 @@ module _ (φ : ℕ → ℕ) where
   hsum-empties zero = refl
   hsum-empties (suc n) = omega (arith, hsum-empties n)
 
-  rows-sum : (P : ℕ) (past ss : List (List Item)) → 1 ≤ length ss → wsum (released P (length past) (past ++ ss)) ≡ hsum past
+  released-sum : (P : ℕ) (past ss : List (List Item)) → 1 ≤ length ss → wsum (released P (length past) (past ++ ss)) ≡ hsum past
   unfolding released hsum wsum
-  rows-sum P [] ss h = refl
-  rows-sum P (p ∷ []) [] h = absurd (omega arith)
-  rows-sum P (p ∷ []) (s ∷ ss) h = simp (append-nil, row-sum) (omega arith)
-  rows-sum P (p ∷ (p′ ∷ past)) ss h = simp (wsum-append, row-sum) (omega (arith, rows-sum P (p′ ∷ past) ss h))
+  released-sum P [] ss h = refl
+  released-sum P (p ∷ []) [] h = absurd (omega arith)
+  released-sum P (p ∷ []) (s ∷ ss) h = simp (append-nil, annotate-sum) (omega arith)
+  released-sum P (p ∷ (p′ ∷ past)) ss h = simp (wsum-append, annotate-sum) (omega (arith, released-sum P (p′ ∷ past) ss h))
 
   pub core-sum : (P : ℕ) (g : Guide) (past : List (List Item)) → Core P g past → wsum (g .order) + hsum (g .spans) ≡ hsum (past ++ g .spans)
-  core-sum P g past c = rw (c .order-is) (omega (arith, rows-sum P past (g .spans) (omega (arith, c .window-is)), hsum-append past (g .spans)))
+  core-sum P g past c = rw (c .order-is) (omega (arith, released-sum P past (g .spans) (omega (arith, c .window-is)), hsum-append past (g .spans)))
 
   grow-sum : (H : List (List Item)) (s : ℕ) (e : Item) → s < length H → hsum (grow H s e) ≡ hsum H + φ (e .added)
   unfolding grow hsum esum
@@ -165,7 +166,7 @@ module _ (φ : ℕ → ℕ) where
           placing = λ c r st k l v b. balance-placing c r st k v b;
           setting = λ x k v a b. omega (arith, off-sum N (with-set x k), b);
           adding = λ ins outs k v a e b. omega (arith, below-add (k .adds) (record { ins = ins; outs = outs }), b);
-          waiting = λ ins outs k v a e b. omega (arith, below-add (k .adds) (record { ins = ins; outs = outs }), queue-sum (record { under = greatest ins; reg = length (k .adds) }) (k .pending), b);
+          delaying = λ ins outs k v a e b. omega (arith, below-add (k .adds) (record { ins = ins; outs = outs }), queue-sum (record { under = greatest ins; reg = length (k .adds) }) (k .pending), b);
           flushing = λ k v a b. omega (arith, flush-sum P (k .guide) (v .past) (v .core) (flush-core P (k .guide) (v .past) hP (v .core) (v .later 31 (omega arith))), b);
           closing = λ k v a b. omega (arith, flush-sum P (k .guide) (v .past) (v .core) (flush-core P (k .guide) (v .past) hP (v .core) (v .later 31 (omega arith))), b);
           recording = λ d k v n b. b;

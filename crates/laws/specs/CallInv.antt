@@ -1,26 +1,23 @@
 -- Every call keeps the invariant, so it holds after every list of calls on a fresh session.
-use mathlib.Core.Path.{_≡_, refl, sym, ap, _∙_, subst}
-use mathlib.Core.List.{List, [], _∷_, _++_, append-assoc, append-nil, reverse, List·Memᴰ, List·Memᴰ·head, List·Memᴰ·tail, List·Memᴰ·not-nil, List·Memᴰ·cases-cons, List·Memᴰ·eq-of-singleton}
-use mathlib.Core.Logic.{_⊎_, inl, inr, _≢_}
-use mathlib.Core.Bool.{Bool, true, false, _||_, false≢true, or-true}
-use mathlib.Core.Option.{Option, some, none}
-use Prim.Native.Nat.{ℕ, zero, suc, _+_, _-_, _≤_, _<_, min, max}
+use mathlib.Core.Path.{_≡_, refl}
+use mathlib.Core.List.{List, [], _∷_, _++_, List·Memᴰ, List·Memᴰ·head, List·Memᴰ·tail, List·Memᴰ·not-nil, List·Memᴰ·cases-cons, List·Memᴰ·eq-of-singleton}
+use mathlib.Core.Logic.{_⊎_, inl, inr}
+use mathlib.Core.Bool.{Bool, true, false, false≢true}
+use Prim.Native.Nat.{ℕ, _≤_, _<_}
 use native.Mathlib.Omega.{arith}
-use lib.ListN.{length, take, drop, getD, replicate, length-append, length-replicate, List·getD-append, List·getD-eq-default}
+use lib.ListN.{length, take, getD, replicate, length-append, List·getD-append, List·getD-eq-default}
 use lib.Seq.{getD-append-seam}
-use lib.Dec.{leb, ltb, eqb}
-use borrow.Author.Tests.{ltb-true, ltb-false, leb-true, leb-false, eqb-true, eqb-false, eq-eqb}
-use Rattle.rules.specs.Guide.{Loc, Item, Guide, Placed, place, release, released, fresh, flush as flush-guide}
+use lib.Dec.{ltb, eqb}
+use borrow.Author.Tests.{ltb-true}
+use Rattle.rules.specs.Guide.{Loc, Item, release, released, fresh, flush as flush-guide}
 use Rattle.laws.specs.History.{len}
 use Rattle.laws.specs.Together.{Behind}
-use Rattle.laws.specs.GuideInv.{Core, Later, grow, flush-core, release-later, regroup, len-empties}
-use Rattle.laws.specs.Place.{Step, place-step, place-behind}
-use Rattle.rules.specs.Model.{Recorded, with-record, note-add, note-flush, note-final, do-flush, do-final, Reg, Located, Pending, Model, member, marked, tracked, watermark, greatest, loc-of, top, after, spotted, reg-of, place-one, due, left, keep, push, off, rest, with-set, with-add, cascade, settle-all, ready, queue, do-set, do-add, with-flush, initial}
+use Rattle.laws.specs.GuideInv.{Later, flush-core, release-later, regroup, len-empties}
+use Rattle.rules.specs.Model.{note-add, note-flush, note-final, do-flush, do-final, Reg, Pending, Model, marked, tracked, watermark, greatest, loc-of, reg-of, keep, off, rest, with-set, with-add, ready, queue, do-set, do-add, with-flush, initial}
 use Rattle.rules.specs.Calls.{chosen, step, run, answer, apply-call, Call, set, add, flush, final}
-use Rattle.laws.specs.ModelBase.{In, or-cases, bool-cases, tracked-cases, watermark-tracked, top-ge, top-le, behind-le, loc-of-left, loc-of-right, loc-of-none, marked-append, spotted-in, entry-at, hist-cases, hist-old, hist-new, in-range, after-some, Grown, grown, tracked-of, greatest-ge, get-extend}
-
-use Rattle.laws.specs.ModelInv.{hist, reg-at, Writes, Reads, Spots, Known, Inv, record-inv, place-one-inv}
-use Rattle.laws.specs.CascadeInv.{left-from, push-from, push-length, off-inv, off-rest, place-pending, cascade-inv, settle-inv}
+use Rattle.laws.specs.ModelBase.{In, bool-cases, watermark-tracked, entry-at, greatest-ge, get-extend}
+use Rattle.laws.specs.ModelInv.{hist, Writes, Reads, Locations, Known, Inv, record-inv}
+use Rattle.laws.specs.CascadeInv.{off-inv, settle-inv}
 
 pub reg-of-old : (a : Reg) (k : Model) (r : ℕ) → r < length (k .adds) → reg-of (with-add a k) r ≡ reg-of k r
 unfolding reg-of with-add
@@ -78,8 +75,8 @@ module _ (k : Model) (H H′ : List (List Item)) (same : Same H H′) where
       go (inl a) = inl a
       go (inr a) = inr (a .0, same-writes (a .0) i (a .1), a .2)
 
-  same-spots : Spots k H → Spots k H′
-  same-spots f i h = same-writes (loc-of (k .located) i) i (f i h)
+  same-locations : Locations k H → Locations k H′
+  same-locations f i h = same-writes (loc-of (k .located) i) i (f i h)
 
 module _ (P N : ℕ) (hP : 1 ≤ P) (k : Model) (v : Inv P N k []) where
   pub with-set-inv : (x : ℕ) → Inv P N (with-set x k) []
@@ -186,7 +183,7 @@ module _ (P N : ℕ) (hP : 1 ≤ P) (k : Model) (v : Inv P N k []) where
         later = flush-later;
         known = same-known k _ _ flushed (v .known);
         reads = same-reads k _ _ flushed (v .reads);
-        located-ok = same-spots k _ _ flushed (v .located-ok);
+        located-ok = same-locations k _ _ flushed (v .located-ok);
         stack-ok = λ r h. absurd (List·Memᴰ·not-nil h);
         pending-ok = v .pending-ok;
       }

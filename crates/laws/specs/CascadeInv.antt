@@ -1,25 +1,16 @@
 -- What comes off when the watermark has moved, the stack that it is pushed on, and that a cascade keeps the invariant.
-use mathlib.Core.Path.{_≡_, refl, sym, ap, _∙_, subst}
-use mathlib.Core.List.{List, [], _∷_, _++_, append-assoc, append-nil, reverse, List·Memᴰ, List·Memᴰ·head, List·Memᴰ·tail, List·Memᴰ·not-nil, List·Memᴰ·cases-cons, List·Memᴰ·eq-of-singleton}
-use mathlib.Core.Logic.{_⊎_, inl, inr, _≢_}
-use mathlib.Core.Bool.{Bool, true, false, _||_, false≢true, or-true}
-use mathlib.Core.Option.{Option, some, none}
-use Prim.Native.Nat.{ℕ, zero, suc, _+_, _-_, _≤_, _<_, min, max}
+use mathlib.Core.Path.{_≡_, refl, sym, ap}
+use mathlib.Core.List.{List, [], _∷_, List·Memᴰ, List·Memᴰ·head, List·Memᴰ·tail, List·Memᴰ·not-nil, List·Memᴰ·cases-cons}
+use mathlib.Core.Logic.{_⊎_, inl, inr}
+use mathlib.Core.Bool.{true, false}
+use Prim.Native.Nat.{ℕ, zero, suc, _+_, _≤_, _<_}
 use native.Mathlib.Omega.{arith}
-use lib.ListN.{length, take, drop, getD, replicate, length-append, length-replicate, List·getD-append, List·getD-eq-default}
-use lib.Seq.{getD-append-seam}
-use lib.Dec.{leb, ltb, eqb}
-use borrow.Author.Tests.{ltb-true, ltb-false, leb-true, leb-false, eqb-true, eqb-false, eq-eqb}
-use Rattle.rules.specs.Guide.{Loc, Item, Guide, Placed, place, release, released, fresh, flush as flush-guide}
-use Rattle.laws.specs.History.{len}
-use Rattle.laws.specs.Together.{Behind}
-use Rattle.laws.specs.GuideInv.{Core, Later, grow, flush-core, release-later, regroup, len-empties}
-use Rattle.laws.specs.Place.{Step, place-step, place-behind}
-use Rattle.rules.specs.Model.{Recorded, with-record, note-add, note-flush, note-final, do-flush, do-final, Reg, Located, Pending, Model, member, marked, tracked, watermark, greatest, loc-of, top, after, spotted, reg-of, place-one, due, left, keep, push, off, rest, with-set, with-add, cascade, settle-all, ready, queue, do-set, do-add, with-flush, initial}
-use Rattle.rules.specs.Calls.{chosen, step, run, answer, apply-call, Call, set, add, flush, final}
-use Rattle.laws.specs.ModelBase.{In, or-cases, bool-cases, tracked-cases, watermark-tracked, top-ge, top-le, behind-le, loc-of-left, loc-of-right, loc-of-none, marked-append, spotted-in, entry-at, hist-cases, hist-old, hist-new, in-range, after-some, Grown, grown, tracked-of, greatest-ge, get-extend}
-
-use Rattle.laws.specs.ModelInv.{hist, reg-at, Writes, Reads, Spots, Known, Inv, record-inv, place-one-inv}
+use lib.ListN.{length}
+use lib.Dec.{ltb}
+use borrow.Author.Tests.{ltb-true}
+use Rattle.rules.specs.Model.{Pending, Model, tracked, watermark, reg-of, place-one, due, left, keep, push, off, rest, cascade, settle-all}
+use Rattle.laws.specs.ModelBase.{In, bool-cases, watermark-tracked, greatest-ge}
+use Rattle.laws.specs.ModelInv.{Inv, place-one-inv}
 
 -- those that come off
 due-from : (m : ℕ) (ws : List Pending) (r : ℕ) → In r (due m ws) → (w : Pending) × List·Memᴰ w ws × (w .reg ≡ r) × (w .under < m)

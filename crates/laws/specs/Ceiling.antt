@@ -1,17 +1,18 @@
--- The released spans: at most two for each placing and 32 for each flush.
-use mathlib.Core.Path.{_≡_, refl, sym, ap, _∙_}
-use mathlib.Core.List.{List, [], _∷_, _++_}
+-- The count of released spans, which is span 0's number: at most two for each placing and 32 for each flush. What is still to be
+-- placed counts already, so the bound carries through a cascade.
+use mathlib.Core.Path.{_≡_, refl, ap}
+use mathlib.Core.List.{List, [], _∷_}
 use mathlib.Core.Bool.{Bool, true, false}
-use Prim.Native.Nat.{ℕ, zero, suc, _+_, _*_, _≤_, _<_}
+use Prim.Native.Nat.{ℕ, suc, _+_, _*_, _≤_}
 use native.Mathlib.Omega.{arith}
 use lib.ListN.{length, length-append}
 use lib.Dec.{ltb}
 use mathlib.Core.Logic.{_⊎_, inl, inr}
 use Rattle.laws.specs.ModelBase.{bool-cases}
 use Rattle.rules.specs.Guide.{Item, fresh, release, flush as flush-guide}
-use Rattle.laws.specs.Place.{Step, place-step}
-use Rattle.rules.specs.Model.{with-record, Reg, Pending, Model, reg-of, after, place-one, keep, queue, push, off, rest, with-set, with-add, with-flush, initial}
-use Rattle.rules.specs.Calls.{Call, flush, final, answer, checks, run}
+use Rattle.laws.specs.Place.{place-step}
+use Rattle.rules.specs.Model.{with-record, Pending, Model, reg-of, after, place-one, keep, queue, push, off, rest, with-set, with-add, with-flush, initial}
+use Rattle.rules.specs.Calls.{Call, run}
 use Rattle.laws.specs.ModelInv.{Inv}
 use Rattle.laws.specs.CascadeInv.{push-length, off-rest}
 use Rattle.laws.specs.Accepted.{final-passed}
@@ -50,7 +51,7 @@ module _ (P N W : ℕ) (hP : 1 ≤ P) where
         placing = λ c r st k l v b. ceiling-placing c r st k v b;
         setting = λ x k v a b. omega (arith, off-rest N (with-set x k), b);
         adding = λ ins outs k v a e b. simp length-append (omega (arith, b));
-        waiting = λ ins outs k v a e b. simp (length-append, queue-length) (omega (arith, b));
+        delaying = λ ins outs k v a e b. simp (length-append, queue-length) (omega (arith, b));
         flushing = λ k v a b. omega (arith, b);
         closing = λ k v a b. omega (arith, ap ended (final-passed N W k a .not-closed), b);
         recording = λ d k v n b. b;

@@ -1,24 +1,20 @@
--- What is written stays, and after an accepted final nothing is held and nothing pending.
-use mathlib.Core.Path.{_≡_, refl, sym, ap, _∙_}
+-- No call changes an entry already written (`stays`), and after an accepted final nothing is held and nothing is pending (`Done`).
+use mathlib.Core.Path.{_≡_, refl, sym, _∙_}
 use mathlib.Core.List.{List, [], _∷_, _++_, append-assoc, append-nil}
-use mathlib.Core.Logic.{_⊎_, inl, inr, _≢_}
-use mathlib.Core.Bool.{Bool, true, false, false≢true}
-use Prim.Native.Nat.{ℕ, zero, suc, _+_, _≤_, _<_}
+use mathlib.Core.Bool.{true, false, false≢true}
+use Prim.Native.Nat.{ℕ, _≤_}
 use native.Mathlib.Omega.{arith}
-use lib.ListN.{length, getD, drop, replicate, length-append}
+use lib.ListN.{length, drop}
 use lib.Seq.{drop-length}
-use lib.Dec.{ltb}
-use borrow.Author.Tests.{ltb-false}
-use Rattle.rules.specs.Guide.{Item, Entry, Guide, released, place, release, flush as flush-guide}
-use Rattle.laws.specs.Place.{Step, place-step}
-use Rattle.rules.specs.Model.{with-record, Reg, Pending, Model, watermark, ready, greatest, reg-of, after, place-one, keep, queue, push, off, rest, with-set, with-add, with-flush, initial}
-use Rattle.rules.specs.Calls.{Call, set, add, flush, final, checks, answer, run}
-use Rattle.rules.specs.Checks.{check-set, check-add, check-flush, check-final, check-closed, Check, verdict, check-places}
+use Rattle.rules.specs.Guide.{Item, Entry, released, release, flush as flush-guide}
+use Rattle.laws.specs.Place.{place-step}
+use Rattle.rules.specs.Model.{with-record, Model, reg-of, after, place-one, keep, push, off, rest, with-set, with-add, with-flush, initial}
+use Rattle.rules.specs.Calls.{Call, run}
 use Rattle.laws.specs.ModelInv.{Inv}
 use Rattle.laws.specs.CallInv.{run-inv, initial-inv}
 use Rattle.laws.specs.Accepted.{set-passed, add-passed, flush-passed, final-passed}
 use Rattle.laws.specs.Kept.{Kept, kept, run-kept, run-noted, initial-noted}
-use Rattle.laws.specs.Balance.{hsum, hsum-append, hsum-empties}
+use Rattle.laws.specs.Balance.{hsum, hsum-empties}
 
 -- the order begins with o
 abbrev pub Begins : List Entry → Model → List ℕ → Type 0
@@ -43,7 +39,7 @@ module _ (P N W : ℕ) (hP : 1 ≤ P) (o : List Entry) where
         placing = λ c r st k l v b. begins-placing c r st k v b;
         setting = λ x k v a b. b;
         adding = λ ins outs k v a e b. b;
-        waiting = λ ins outs k v a e b. b;
+        delaying = λ ins outs k v a e b. b;
         flushing = λ k v a b. begins-more k [] (released P 32 (k .guide .spans)) b;
         closing = λ k v a b. begins-more k [] (released P 32 (k .guide .spans)) b;
         recording = λ d k v n b. b;
@@ -82,7 +78,7 @@ module _ (P N W : ℕ) (hP : 1 ≤ P) where
         placing = λ c r st k l v d e. absurd (omega (arith, d e .0));
         setting = λ x k v a d e. not-open k (set-passed N W x k a .not-closed) e;
         adding = λ ins outs k v a z d e. not-open k (add-passed N W ins outs k a .not-closed) e;
-        waiting = λ ins outs k v a z d e. not-open k (add-passed N W ins outs k a .not-closed) e;
+        delaying = λ ins outs k v a z d e. not-open k (add-passed N W ins outs k a .not-closed) e;
         flushing = λ k v a d e. not-open k (flush-passed N W k a .not-closed) e;
         closing = λ k v a d e. (refl, final-passed N W k a .none, flushed-empty k v);
         recording = λ r k v n d. d;

@@ -4,7 +4,7 @@
 use mathlib.Core.Path.{_≡_}
 use mathlib.Core.List.{List, _++_, List·Memᴰ}
 use mathlib.Core.Logic.{_⊎_, _≢_, _↔_}
-use mathlib.Core.Bool.{Bool, true, false}
+use mathlib.Core.Bool.{true, false}
 use Prim.Native.Nat.{ℕ, _+_, _≤_, _<_}
 use lib.ListN.{length, getD}
 use Rattle.rules.specs.Guide.{Entry, held, tally}
@@ -14,7 +14,7 @@ use Rattle.rules.specs.Calls.{Call, answer, step, run}
 use Rattle.laws.specs.ModelBase.{In}
 use Rattle.laws.specs.Balance.{wsum}
 use Rattle.laws.specs.Once.{one-of}
-use Rattle.laws.specs.Waiting.{IsPending, Sorted}
+use Rattle.laws.specs.Delaying.{IsPending, Sorted}
 use Rattle.laws.specs.Order.{nth, written}
 use Rattle.laws.specs.Tally.{having}
 

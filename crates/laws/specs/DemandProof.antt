@@ -1,25 +1,25 @@
 -- Demand 3 holds of the model after every list of calls. The idea: an index of the order is a position of a released span; a reader
 -- was placed behind its writer's location, so that the parallelism rules keep it a writer's parallelism away; the balance of weights
 -- says that each registration has one location.
-use mathlib.Core.Path.{_≡_, refl, sym, ap, _∙_}
-use mathlib.Core.List.{List, [], _∷_, _++_}
+use mathlib.Core.Path.{_≡_, refl, sym, _∙_}
+use mathlib.Core.List.{List, [], _∷_}
 use mathlib.Core.Logic.{_⊎_, inl, inr, _≢_, _↔_}
-use mathlib.Core.Bool.{Bool, true, false, false≢true}
-use Prim.Native.Nat.{ℕ, zero, suc, _+_, _≤_, _<_}
+use mathlib.Core.Bool.{true, false, false≢true}
+use Prim.Native.Nat.{ℕ, suc, _+_, _≤_, _<_}
 use native.Mathlib.Omega.{arith}
-use lib.ListN.{length, getD}
+use lib.ListN.{length}
 use lib.Dec.{eqb}
 use borrow.Author.Tests.{eqb-true}
-use Rattle.rules.specs.Guide.{Loc, Item, Entry, held}
+use Rattle.rules.specs.Guide.{Loc, Item, held}
 use Rattle.rules.specs.Model.{Pending, Model, watermark, ready, reg-of, initial}
 use Rattle.rules.specs.Calls.{Call, answer, step, chosen, run}
 use Rattle.laws.specs.History.{len, start, start-suc, start-mono}
-use Rattle.laws.specs.Together.{Behind, wide, frontier, distance, together}
+use Rattle.laws.specs.Together.{Behind, frontier, distance}
 use Rattle.laws.specs.ModelBase.{In, bool-cases, entry-at}
 use Rattle.laws.specs.ModelInv.{Inv, hist, Writes}
-use Rattle.laws.specs.Balance.{hsum, wsum, qsum, lsum, below, Balance, core-sum}
+use Rattle.laws.specs.Balance.{hsum, qsum, lsum, below, Balance, core-sum}
 use Rattle.laws.specs.Once.{one-place, wsum-one, qsum-one, hsum-one, below-all, below-one, one-of}
-use Rattle.laws.specs.Waiting.{IsPending}
+use Rattle.laws.specs.Delaying.{IsPending}
 use Rattle.laws.specs.Closed.{stays}
 use Rattle.laws.specs.Order.{nth, written, wd, At, order-here, order-at, bounds}
 use Rattle.laws.specs.Tally.{tally-sum, tally-each}
@@ -107,10 +107,10 @@ module _ (P N W : ℕ) (hP : 1 ≤ P) (k : Model) (o : Sound P N W k []) where
   count = omega (arith, o .balance (λ x. 1), wsum-one (k .guide .order), hsum-one (k .guide .spans), qsum-one (k .pending), below-all (length (k .adds)))
 
   exactly : (r : ℕ) → r < length (k .adds) → IsPending k r ↔ (ready (watermark N k) ((reg-of k r) .ins) ≡ false)
-  exactly r h = (there, back (o .waiting .others r h))
+  exactly r h = (there, back (o .delaying .others r h))
     where
       there : IsPending k r → ready (watermark N k) ((reg-of k r) .ins) ≡ false
-      there x = rw (← x .2) (o .waiting .above (x .0) (x .1))
+      there x = rw (← x .2) (o .delaying .above (x .0) (x .1))
 
       back : IsPending k r ⊎ (ready (watermark N k) ((reg-of k r) .ins) ≡ true) → ready (watermark N k) ((reg-of k r) .ins) ≡ false → IsPending k r
       back (inl x) e = x
@@ -144,7 +144,7 @@ demand-3 P N W hP calls =
       counted = count P N W hP k o;
       pending = exactly P N W hP k o;
       pending-under = λ w h. o .inv .pending-ok w h .1;
-      pending-sorted = o .waiting .sorted;
+      pending-sorted = o .delaying .sorted;
       tallied = tally-each P (k .guide .order) (λ j h. bounds P hP (k .guide) (o .inv .past) (o .inv .core) j h .1);
       tally-sum = tally-sum P (k .guide .order) (λ j h. bounds P hP (k .guide) (o .inv .past) (o .inv .core) j h .1);
       stays = λ before later e. rw e at (stays P N W hP before later);

@@ -1,21 +1,21 @@
 -- What holds of every entry, held or written: in a session value equals added, and accepted counts no more than the accepted adds.
 -- And of the record: each row's written is at most the order's length, and final's counts are at most those of the session.
-use mathlib.Core.Path.{_≡_, refl, sym, ap, _∙_}
+use mathlib.Core.Path.{_≡_, refl, ap}
 use mathlib.Core.List.{List, [], _∷_, _++_, List·Memᴰ·not-nil}
 use mathlib.Core.Logic.{_⊎_, inl, inr}
 use mathlib.Core.Bool.{Bool, true, false}
-use mathlib.Core.Option.{Option, some, none}
-use Prim.Native.Nat.{ℕ, zero, suc, _+_, _≤_, _<_}
+use mathlib.Core.Option.{Option}
+use Prim.Native.Nat.{ℕ, zero, suc, _≤_, _<_}
 use native.Mathlib.Omega.{arith}
 use lib.ListN.{length, drop, getD, set, replicate, length-append}
 use lib.Dec.{leb}
-use Rattle.rules.specs.Guide.{Loc, Item, Entry, Guide, parallelism, last-parallelism, annotate, released, fresh, release, flush as flush-guide, Choice, existing, opened, choose, Placed, put, settle, apply, place}
-use Rattle.rules.specs.Model.{Recorded, with-record, Model, watermark, reg-of, after, place-one, keep, queue, push, off, rest, with-set, with-add, with-flush, initial}
+use Rattle.rules.specs.Guide.{Loc, Item, Entry, Guide, parallelism, last-parallelism, annotate, released, fresh, release, flush as flush-guide, Choice, existing, opened, choose, put, settle, apply, place}
+use Rattle.rules.specs.Model.{Recorded, with-record, Model, watermark, reg-of, after, place-one, keep, rest, with-set, with-add, with-flush, initial}
 use Rattle.laws.specs.History.{len}
 use Rattle.laws.specs.ModelBase.{In, bool-cases, entry-at, no-entry, watermark-le}
-use Rattle.laws.specs.Place.{Step, place-step}
+use Rattle.laws.specs.Place.{place-step}
 use Rattle.laws.specs.Kept.{Kept}
-use Rattle.laws.specs.Order.{no-written, nth}
+use Rattle.laws.specs.Order.{no-written}
 
 module _ (Φ : Item → Type 0) where
   abbrev pub Each : List Item → Type 0
@@ -172,7 +172,7 @@ module _ (P N W : ℕ) (hP : 1 ≤ P) where
             };
         setting = λ x k v a h. record { all = h .all; rows-written = h .rows-written; registrations-few = h .registrations-few; places-few = h .places-few };
         adding = λ ins outs k v a e h. record { all = more-adds k _ (simp length-append (omega arith)) (h .all); rows-written = h .rows-written; registrations-few = simp length-append (omega (arith, h .registrations-few)); places-few = h .places-few };
-        waiting = λ ins outs k v a e h. record { all = more-adds k _ (simp length-append (omega arith)) (h .all); rows-written = h .rows-written; registrations-few = simp length-append (omega (arith, h .registrations-few)); places-few = h .places-few };
+        delaying = λ ins outs k v a e h. record { all = more-adds k _ (simp length-append (omega arith)) (h .all); rows-written = h .rows-written; registrations-few = simp length-append (omega (arith, h .registrations-few)); places-few = h .places-few };
         flushing = λ k v a h. flushed k h;
         closing = λ k v a h. flushed k h;
         recording = λ d k v n h. record { all = h .all; rows-written = λ x y. noted k h x (n .each x y); registrations-few = counted k d h (n .registrations-is); places-few = fixed k d h (n .places-is) };

@@ -1,59 +1,59 @@
--- The invariant of the guide: the order holds the released spans of a history whose last 32 spans are the window.
+-- The invariant of the guide: the order holds the released spans of a history whose last 32 spans are the window, and spans 1 to 31
+-- have at most P entries. Releasing, flushing and putting an entry keep it; the lengths that a release uses are final.
 use mathlib.Core.Path.{_≡_, refl, sym, ap, _∙_}
 use mathlib.Core.List.{List, [], _∷_, _++_, append-assoc, append-nil}
 use mathlib.Core.Logic.{_⊎_, inl, inr, _≢_}
 use mathlib.Core.Bool.{Bool, true, false}
-use mathlib.Core.Option.{Option, some, none}
-use Prim.Native.Nat.{ℕ, zero, suc, _+_, _-_, _≤_, _<_, min, max}
+use Prim.Native.Nat.{ℕ, zero, suc, _+_, _≤_, _<_}
 use native.Mathlib.Omega.{arith}
-use native.Mathlib.Nat.{add-zero, add-suc, suc-add, zero-add, add-assoc}
+use native.Mathlib.Nat.{add-zero, add-suc, suc-add, zero-add}
 use lib.ListN.{length, take, drop, getD, set, replicate, length-append, length-take, length-drop, length-set, length-replicate, take-append-drop, List·getD-append}
 use lib.Seq.{getD-append-add, getD-drop, getD-set-same, getD-set-other, set-append-left}
-use lib.Dec.{leb, ltb, eqb}
-use borrow.Author.Tests.{ltb-true, ltb-false, leb-true, leb-false, eqb-true, eqb-false}
-use Rattle.rules.specs.Guide.{Loc, Item, Entry, parallelism, last-parallelism, annotate, released, Guide, fresh, release, flush, seek, Choice, existing, opened, found, begin, choose, Placed, put, settle, apply, place}
-use Rattle.laws.specs.Width.{flat, width-flat, last-width-flat}
-use Rattle.laws.specs.History.{len, start, released-length, lt-or-le}
+use lib.Dec.{eqb}
+use borrow.Author.Tests.{eqb-true, eqb-false}
+use Rattle.rules.specs.Guide.{Item, parallelism, last-parallelism, annotate, released, Guide, release, flush, put}
+use Rattle.laws.specs.Width.{width-flat, last-width-flat}
+use Rattle.laws.specs.History.{len}
 
 -- what the released spans' released depend on
 
-row-cong : (f g : ℕ → ℕ) (q : ℕ) (l : List Item) → ((i : ℕ) → i < length l → f (q + i) ≡ g (q + i)) → annotate f q l ≡ annotate g q l
+annotate-cong : (f g : ℕ → ℕ) (q : ℕ) (l : List Item) → ((i : ℕ) → i < length l → f (q + i) ≡ g (q + i)) → annotate f q l ≡ annotate g q l
 unfolding annotate
-row-cong f g q [] h = refl
-row-cong f g q (e ∷ l) h =
+annotate-cong f g q [] h = refl
+annotate-cong f g q (e ∷ l) h =
     let here : f q ≡ g q = rw add-zero at (h 0 (omega arith)) in
-    let there = row-cong f g (suc q) l (λ i k. rw (suc-add, ← add-suc) (h (suc i) (omega arith))) in
+    let there = annotate-cong f g (suc q) l (λ i k. rw (suc-add, ← add-suc) (h (suc i) (omega arith))) in
     rw (here, there)
 
-last-row : (P : ℕ) (l : List Item) → 1 ≤ P → length l ≤ P → annotate (last-parallelism (length l)) 0 l ≡ annotate (parallelism P (length l) 0) 0 l
-last-row P l hP h = row-cong (last-parallelism (length l)) (parallelism P (length l) 0) 0 l (λ i k. rw zero-add (last-width-flat P (length l) i k h ∙ sym (width-flat P (length l) 0 i hP k (omega arith))))
+annotate-last : (P : ℕ) (l : List Item) → 1 ≤ P → length l ≤ P → annotate (last-parallelism (length l)) 0 l ≡ annotate (parallelism P (length l) 0) 0 l
+annotate-last P l hP h = annotate-cong (last-parallelism (length l)) (parallelism P (length l) 0) 0 l (λ i k. rw zero-add (last-width-flat P (length l) i k h ∙ sym (width-flat P (length l) 0 i hP k (omega arith))))
 
-rows-put : (P : ℕ) (past ss : List (List Item)) (i : ℕ) (x : List Item) → released P (length past) (past ++ set ss (suc i) x) ≡ released P (length past) (past ++ ss)
+released-put : (P : ℕ) (past ss : List (List Item)) (i : ℕ) (x : List Item) → released P (length past) (past ++ set ss (suc i) x) ≡ released P (length past) (past ++ ss)
 unfolding released
-rows-put P [] ss i x = refl
-rows-put P (p ∷ []) [] i x = refl
-rows-put P (p ∷ []) (s ∷ ss) i x = refl
-rows-put P (p ∷ (p′ ∷ past)) ss i x = rw (rows-put P (p′ ∷ past) ss i x)
+released-put P [] ss i x = refl
+released-put P (p ∷ []) [] i x = refl
+released-put P (p ∷ []) (s ∷ ss) i x = refl
+released-put P (p ∷ (p′ ∷ past)) ss i x = rw (released-put P (p′ ∷ past) ss i x)
 
-rows-add : (P n : ℕ) (past ss : List (List Item)) → 1 ≤ length ss → released P (length past + n) (past ++ ss) ≡ released P (length past) (past ++ ss) ++ released P n ss
+released-add : (P n : ℕ) (past ss : List (List Item)) → 1 ≤ length ss → released P (length past + n) (past ++ ss) ≡ released P (length past) (past ++ ss) ++ released P n ss
 unfolding released
-rows-add P n [] ss hs = rw zero-add
-rows-add P n (p ∷ []) [] hs = absurd (omega arith)
-rows-add P n (p ∷ []) (s ∷ ss) hs = let e : 1 + n ≡ suc n = omega arith in rw (e, append-nil)
-rows-add P n (p ∷ (p′ ∷ past)) ss hs = rw (suc-add, append-assoc) (rw (rows-add P n (p′ ∷ past) ss hs))
+released-add P n [] ss hs = rw zero-add
+released-add P n (p ∷ []) [] hs = absurd (omega arith)
+released-add P n (p ∷ []) (s ∷ ss) hs = let e : 1 + n ≡ suc n = omega arith in rw (e, append-nil)
+released-add P n (p ∷ (p′ ∷ past)) ss hs = rw (suc-add, append-assoc) (rw (released-add P n (p′ ∷ past) ss hs))
 
-rows-extend : (P n : ℕ) (ss zs : List (List Item)) → n < length ss → released P n (ss ++ zs) ≡ released P n ss
+released-extend : (P n : ℕ) (ss zs : List (List Item)) → n < length ss → released P n (ss ++ zs) ≡ released P n ss
 unfolding released
-rows-extend P zero ss zs h = refl
-rows-extend P (suc n) [] zs h = absurd (omega arith)
-rows-extend P (suc n) (s ∷ []) zs h = absurd (omega arith)
-rows-extend P (suc n) (s ∷ (t ∷ ss)) zs h = rw (rows-extend P n (t ∷ ss) zs (omega arith))
+released-extend P zero ss zs h = refl
+released-extend P (suc n) [] zs h = absurd (omega arith)
+released-extend P (suc n) (s ∷ []) zs h = absurd (omega arith)
+released-extend P (suc n) (s ∷ (t ∷ ss)) zs h = rw (released-extend P n (t ∷ ss) zs (omega arith))
 
-rows-flush : (P : ℕ) (ss zs : List (List Item)) → 1 ≤ P → ((i : ℕ) → suc i ≡ length ss → len ss i ≤ P) → released P (length ss) (ss ++ ([] ∷ zs)) ≡ released P (length ss) ss
+released-flush : (P : ℕ) (ss zs : List (List Item)) → 1 ≤ P → ((i : ℕ) → suc i ≡ length ss → len ss i ≤ P) → released P (length ss) (ss ++ ([] ∷ zs)) ≡ released P (length ss) ss
 unfolding released
-rows-flush P [] zs hP hl = refl
-rows-flush P (s ∷ []) zs hP hl = append-nil (annotate (parallelism P (length s) 0) 0 s) ∙ sym (last-row P s hP (hl 0 refl))
-rows-flush P (s ∷ (t ∷ ss)) zs hP hl = rw (rows-flush P (t ∷ ss) zs hP (λ i h. hl (suc i) (ap suc h)))
+released-flush P [] zs hP hl = refl
+released-flush P (s ∷ []) zs hP hl = append-nil (annotate (parallelism P (length s) 0) 0 s) ∙ sym (annotate-last P s hP (hl 0 refl))
+released-flush P (s ∷ (t ∷ ss)) zs hP hl = rw (released-flush P (t ∷ ss) zs hP (λ i h. hl (suc i) (ap suc h)))
 
 -- the invariant: past holds the released spans
 pub record Core (P : ℕ) (g : Guide) (past : List (List Item)) : Type 0 where
@@ -83,13 +83,13 @@ len-extend (l ∷ H) n (suc s) = len-extend H n s
 pub regroup : (past ss : List (List Item)) (n : ℕ) → (past ++ take n ss) ++ (drop n ss ++ replicate n []) ≡ (past ++ ss) ++ replicate n []
 regroup past ss n = rw (append-assoc, ← append-assoc (take n ss), take-append-drop, append-assoc)
 
-rows-release : (P n : ℕ) (past ss : List (List Item)) → n ≤ length ss → 1 ≤ length ss → released P n (ss ++ replicate n []) ≡ released P n ss
+released-release : (P n : ℕ) (past ss : List (List Item)) → n ≤ length ss → 1 ≤ length ss → released P n (ss ++ replicate n []) ≡ released P n ss
     → released P (length past) (past ++ ss) ++ released P n ss ≡ released P (length (past ++ take n ss)) ((past ++ take n ss) ++ (drop n ss ++ replicate n []))
-rows-release P n past ss h hs e =
+released-release P n past ss h hs e =
     let k : length (past ++ take n ss) ≡ length past + n = simp (length-append, length-take) (omega arith) in
     let m : 1 ≤ length (ss ++ replicate n []) = simp length-append (omega arith) in
     let l : length past < length (past ++ ss) = simp length-append (omega arith) in
-    sym (rw (k, regroup past ss n, append-assoc, rows-add P n past (ss ++ replicate n []) m, e, ← append-assoc, rows-extend P (length past) (past ++ ss) (replicate n []) l))
+    sym (rw (k, regroup past ss n, append-assoc, released-add P n past (ss ++ replicate n []) m, e, ← append-assoc, released-extend P (length past) (past ++ ss) (replicate n []) l))
 
 pub release-core : (P n : ℕ) (g : Guide) (past : List (List Item)) → 1 ≤ n → n < 32 → Core P g past → Core P (release P n g) (past ++ take n (g .spans))
 unfolding release
@@ -97,7 +97,7 @@ release-core P n g past hn h c =
     record {
       past-is = simp (length-append, length-take) (omega (arith, c .past-is, c .window-is));
       window-is = simp (length-append, length-drop, length-replicate) (omega (arith, c .window-is));
-      order-is = ap (λ o. o ++ released P n (g .spans)) (c .order-is) ∙ rows-release P n past (g .spans) (omega (arith, c .window-is)) (omega (arith, c .window-is)) (rows-extend P n (g .spans) (replicate n []) (omega (arith, c .window-is)));
+      order-is = ap (λ o. o ++ released P n (g .spans)) (c .order-is) ∙ released-release P n past (g .spans) (omega (arith, c .window-is)) (omega (arith, c .window-is)) (released-extend P n (g .spans) (replicate n []) (omega (arith, c .window-is)));
       capped = λ s. rw (regroup past (g .spans) n, len-extend) (c .capped s);
     }
 
@@ -107,7 +107,7 @@ flush-core P g past hP c h =
     record {
       past-is = simp (length-append, length-take) (omega (arith, c .past-is, c .window-is));
       window-is = simp (length-append, length-drop, length-replicate) (omega (arith, c .window-is));
-      order-is = ap (λ o. o ++ released P 32 (g .spans)) (c .order-is) ∙ rows-release P 32 past (g .spans) (omega (arith, c .window-is)) (omega (arith, c .window-is)) whole;
+      order-is = ap (λ o. o ++ released P 32 (g .spans)) (c .order-is) ∙ released-release P 32 past (g .spans) (omega (arith, c .window-is)) (omega (arith, c .window-is)) whole;
       capped = λ s. rw (regroup past (g .spans) 32, len-extend) (c .capped s);
     }
   where
@@ -115,7 +115,7 @@ flush-core P g past hP c h =
     last i e = let k : i ≡ 31 = omega (arith, c .window-is) in rw k h
 
     whole : released P 32 (g .spans ++ replicate 32 []) ≡ released P 32 (g .spans)
-    whole = rw (← c .window-is) (rows-flush P (g .spans) (replicate 31 []) hP last)
+    whole = rw (← c .window-is) (released-flush P (g .spans) (replicate 31 []) hP last)
 
 pub release-later : (P m n : ℕ) (g : Guide) → n ≤ 32 → length (g .spans) ≡ 32 → Later P (m + n) g → Later P m (release P n g)
 unfolding release
@@ -154,7 +154,7 @@ put-core P i e g past hi h c =
     record {
       past-is = c .past-is;
       window-is = rw length-set (c .window-is);
-      order-is = c .order-is ∙ sym (rows-put P past (g .spans) i _);
+      order-is = c .order-is ∙ sym (released-put P past (g .spans) i _);
       capped = λ s. rw (← grow-skip past (g .spans) (suc i) e) (go s (eq-or-ne s (length past + suc i)));
     }
   where

@@ -1,17 +1,18 @@
--- All spans from number 0 on, the released ones first, and the order as the entries of the released ones.
-use mathlib.Core.Path.{_≡_, refl, sym, ap, _∙_}
+-- All spans from number 0 on, the released ones first, and the order as the entries of the released ones: where a span starts in the
+-- order, which span an index lies in, and what stands there.
+use mathlib.Core.Path.{_≡_, refl, ap, _∙_}
 use mathlib.Core.List.{List, [], _∷_, _++_}
 use mathlib.Core.Logic.{_⊎_, inl, inr}
-use Prim.Native.Nat.{ℕ, zero, suc, _+_, _-_, _≤_, _<_, min, max}
+use Prim.Native.Nat.{ℕ, zero, suc, _+_, _-_, _≤_, _<_}
 use native.Mathlib.Omega.{arith}
-use lib.ListN.{length, take, drop, getD, length-append}
+use lib.ListN.{length, getD, length-append}
 use lib.Seq.{getD-append-add}
 use lib.ListN.{List·getD-append}
 use lib.Dec.{ltb}
 use mathlib.Core.Bool.{Bool, true, false}
 use borrow.Author.Tests.{ltb-true, ltb-false}
 use native.Mathlib.Nat.{add-zero, add-suc, suc-add, zero-add, add-assoc}
-use Rattle.rules.specs.Guide.{Item, Entry, parallelism, last-parallelism, annotate, released}
+use Rattle.rules.specs.Guide.{Item, Entry, parallelism, annotate, released}
 
 -- the length of span s, and where it starts in the order
 abbrev pub len : List (List Item) → ℕ → ℕ
@@ -61,16 +62,16 @@ locate (l ∷ H) (suc k) j h = go (λ i. locate H k (j - length l) i) (lt-or-le 
         let r = rec (omega arith) in
         (suc (r .0), r .1, omega arith, r .3, omega arith)
 
-pub row-length : (f : ℕ → ℕ) (q : ℕ) (l : List Item) → length (annotate f q l) ≡ length l
+pub annotate-length : (f : ℕ → ℕ) (q : ℕ) (l : List Item) → length (annotate f q l) ≡ length l
 unfolding annotate
-row-length f q [] = refl
-row-length f q (e ∷ l) = ap suc (row-length f (suc q) l)
+annotate-length f q [] = refl
+annotate-length f q (e ∷ l) = ap suc (annotate-length f (suc q) l)
 
-row-at : (f : ℕ → ℕ) (q i : ℕ) (l : List Item) (w : Entry) (e : Item) → i < length l → getD (annotate f q l) i w ≡ record { item = getD l i e; parallelism = f (q + i) }
+annotate-at : (f : ℕ → ℕ) (q i : ℕ) (l : List Item) (w : Entry) (e : Item) → i < length l → getD (annotate f q l) i w ≡ record { item = getD l i e; parallelism = f (q + i) }
 unfolding annotate
-row-at f q i [] w e h = absurd (omega arith)
-row-at f q zero (x ∷ l) w e h = rw add-zero
-row-at f q (suc i) (x ∷ l) w e h = rw (add-suc, ← suc-add) (row-at f (suc q) i l w e (omega arith))
+annotate-at f q i [] w e h = absurd (omega arith)
+annotate-at f q zero (x ∷ l) w e h = rw add-zero
+annotate-at f q (suc i) (x ∷ l) w e h = rw (add-suc, ← suc-add) (annotate-at f (suc q) i l w e (omega arith))
 
 pub released-length : (P k : ℕ) (H : List (List Item)) → k < length H → length (released P k H) ≡ start H k
 unfolding released start
@@ -78,7 +79,7 @@ released-length P zero [] h = refl
 released-length P zero (l ∷ H) h = refl
 released-length P (suc k) [] h = absurd (omega arith)
 released-length P (suc k) (l ∷ []) h = absurd (omega arith)
-released-length P (suc k) (l ∷ (m ∷ H)) h = simp (length-append, row-length) (omega (arith, released-length P k (m ∷ H) (omega arith)))
+released-length P (suc k) (l ∷ (m ∷ H)) h = simp (length-append, annotate-length) (omega (arith, released-length P k (m ∷ H) (omega arith)))
 
 getD-skip : (xs ys : List Entry) (n i : ℕ) (w : Entry) → length xs ≡ n → getD (xs ++ ys) (n + i) w ≡ getD ys i w
 getD-skip xs ys n i w e = rw (← e) (getD-append-add xs ys i w)
@@ -91,8 +92,8 @@ released-at P (suc k) [] w e s q h i j = absurd (omega arith)
 released-at P (suc k) (l ∷ []) w e s q h i j = absurd (omega arith)
 released-at P (suc k) (l ∷ (m ∷ H)) w e zero q h i j =
     let r = annotate (parallelism P (length l) (length m)) 0 l in
-    let lt : q < length r = rw (row-length (parallelism P (length l) (length m)) 0 l) j in
-    rw zero-add (List·getD-append r (released P k (m ∷ H)) w q lt ∙ (row-at (parallelism P (length l) (length m)) 0 q l w e j ∙ rw zero-add))
+    let lt : q < length r = rw (annotate-length (parallelism P (length l) (length m)) 0 l) j in
+    rw zero-add (List·getD-append r (released P k (m ∷ H)) w q lt ∙ (annotate-at (parallelism P (length l) (length m)) 0 q l w e j ∙ rw zero-add))
 released-at P (suc k) (l ∷ (m ∷ H)) w e (suc s) q h i j =
-    rw add-assoc (getD-skip (annotate (parallelism P (length l) (length m)) 0 l) (released P k (m ∷ H)) (length l) (start (m ∷ H) s + q) w (row-length (parallelism P (length l) (length m)) 0 l)
+    rw add-assoc (getD-skip (annotate (parallelism P (length l) (length m)) 0 l) (released P k (m ∷ H)) (length l) (start (m ∷ H) s + q) w (annotate-length (parallelism P (length l) (length m)) 0 l)
     ∙ released-at P k (m ∷ H) w e s q (omega arith) (omega arith) j)

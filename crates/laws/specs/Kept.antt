@@ -1,21 +1,21 @@
 -- One induction over the calls for every further invariant of the model. An invariant `Q k st` speaks of a model k and the stack st of
 -- registrations that are still to be placed; `Kept` says that each part of each call keeps it, `kept` that it then holds after every
 -- list of calls. The induction also shows that between calls the record has a row for each accepted registration.
-use mathlib.Core.Path.{_≡_, refl, sym, ap, _∙_}
-use mathlib.Core.List.{List, [], _∷_, _++_, List·Memᴰ, List·Memᴰ·append-cases, List·Memᴰ·eq-of-singleton, List·Memᴰ·not-nil, List·Memᴰ·cases-cons, List·Memᴰ·head, List·Memᴰ·tail}
+use mathlib.Core.Path.{_≡_, refl, ap, _∙_}
+use mathlib.Core.List.{List, [], _∷_, _++_, List·Memᴰ·append-cases, List·Memᴰ·eq-of-singleton, List·Memᴰ·not-nil, List·Memᴰ·cases-cons, List·Memᴰ·head, List·Memᴰ·tail}
 use mathlib.Core.Logic.{_⊎_, inl, inr}
-use mathlib.Core.Bool.{Bool, true, false}
-use Prim.Native.Nat.{ℕ, zero, suc, _+_, _-_, _≤_, _<_}
+use mathlib.Core.Bool.{true, false}
+use Prim.Native.Nat.{ℕ, zero, suc, _+_, _-_, _≤_}
 use native.Mathlib.Omega.{arith}
 use lib.ListN.{length, length-append, length-set, set as set-at}
 use lib.Dec.{eqb}
 use borrow.Author.Tests.{eqb-true}
-use Rattle.rules.specs.Model.{Recorded, with-record, note-add, note-flush, note-final, do-flush, do-final, Reg, Pending, Model, watermark, greatest, ready, place-one, keep, queue, push, off, rest, with-set, with-add, with-flush, cascade, settle-all, do-set, do-add, initial}
+use Rattle.rules.specs.Model.{Recorded, with-record, note-add, note-flush, note-final, do-flush, do-final, Reg, Model, watermark, greatest, ready, place-one, keep, queue, push, off, rest, with-set, with-add, with-flush, cascade, settle-all, do-set, do-add, initial}
 use Rattle.rules.specs.Calls.{chosen, Call, set, add, flush, final, apply-call, answer, step, run}
 use Rattle.laws.specs.ModelBase.{In, bool-cases}
 use Rattle.laws.specs.ModelInv.{Inv, place-one-inv, record-inv}
 use Rattle.laws.specs.CascadeInv.{off-inv, push-from, push-length, off-rest, place-pending}
-use Rattle.laws.specs.CallInv.{with-set-inv, with-add-inv, add-inv, flush-inv, initial-inv, step-inv, add-stack}
+use Rattle.laws.specs.CallInv.{with-set-inv, add-inv, flush-inv, initial-inv, step-inv, add-stack}
 
 -- what a call may store in the record: a row for each accepted registration, with the written that it had or the order's length
 pub record Notes (N : ℕ) (k : Model) (d : Recorded) : Type 0 where
@@ -29,7 +29,7 @@ pub record Kept (P N W : ℕ) (Q : Model → List ℕ → Type 0) : Type 0 where
   pub setting : (x : ℕ) (k : Model) → Inv P N k [] → answer N W (set x) k ≡ 0 → Q k [] → Q (rest N (with-set x k)) (off N (with-set x k))
   pub adding : (ins outs : List ℕ) (k : Model) → Inv P N k [] → answer N W (add ins outs) k ≡ 0 → ready (watermark N k) ins ≡ true → Q k []
       → Q (with-add (record { ins = ins; outs = outs }) k) (length (k .adds) ∷ [])
-  pub waiting : (ins outs : List ℕ) (k : Model) → Inv P N k [] → answer N W (add ins outs) k ≡ 0 → ready (watermark N k) ins ≡ false → Q k []
+  pub delaying : (ins outs : List ℕ) (k : Model) → Inv P N k [] → answer N W (add ins outs) k ≡ 0 → ready (watermark N k) ins ≡ false → Q k []
       → Q (keep (queue (record { under = greatest ins; reg = length (k .adds) }) (k .pending)) (with-add (record { ins = ins; outs = outs }) k)) []
   pub flushing : (k : Model) → Inv P N k [] → answer N W flush k ≡ 0 → Q k [] → Q (with-flush P (suc (k .flushes)) (k .closed) k) []
   pub closing : (k : Model) → Inv P N k [] → answer N W final k ≡ 0 → Q k [] → Q (with-flush P (k .flushes) true k) []
@@ -43,7 +43,7 @@ module _ (P N W : ℕ) where
         placing = λ c r st k l v q a. κ a .placing c r st k l v (q a);
         setting = λ x k v e q a. κ a .setting x k v e (q a);
         adding = λ ins outs k v e h q a. κ a .adding ins outs k v e h (q a);
-        waiting = λ ins outs k v e h q a. κ a .waiting ins outs k v e h (q a);
+        delaying = λ ins outs k v e h q a. κ a .delaying ins outs k v e h (q a);
         flushing = λ k v e q a. κ a .flushing k v e (q a);
         closing = λ k v e q a. κ a .closing k v e (q a);
         recording = λ d k v n q a. κ a .recording d k v n (q a);
@@ -56,7 +56,7 @@ module _ (P N W : ℕ) where
         placing = λ c r st k l v q. to _ _ (κ .placing c r st k l v (from _ _ q));
         setting = λ x k v e q. to _ _ (κ .setting x k v e (from _ _ q));
         adding = λ ins outs k v e h q. to _ _ (κ .adding ins outs k v e h (from _ _ q));
-        waiting = λ ins outs k v e h q. to _ _ (κ .waiting ins outs k v e h (from _ _ q));
+        delaying = λ ins outs k v e h q. to _ _ (κ .delaying ins outs k v e h (from _ _ q));
         flushing = λ k v e q. to _ _ (κ .flushing k v e (from _ _ q));
         closing = λ k v e q. to _ _ (κ .closing k v e (from _ _ q));
         recording = λ d k v n q. to _ _ (κ .recording d k v n (from _ _ q));
@@ -180,7 +180,7 @@ module _ (P N W : ℕ) (hP : 1 ≤ P) (Q : Model → List ℕ → Type 0) (κ : 
 
       go : (ready (watermark N k) ins ≡ true) ⊎ (ready (watermark N k) ins ≡ false) → Q (do-add P N (record { ins = ins; outs = outs }) k) []
       go (inl e) = rw (e, do-add) (settle-kept (length (k .adds)) (length (k .adds) ∷ []) (with-add _ k) more (add-stack P N hP k v (record { ins = ins; outs = outs }) e) (κ .adding ins outs k v a e q))
-      go (inr e) = rw (e, do-add) (κ .waiting ins outs k v a e q)
+      go (inr e) = rw (e, do-add) (κ .delaying ins outs k v a e q)
 
   call-kept : (c : Call) (k : Model) → Inv P N k [] → Noted k → answer N W c k ≡ 0 → Q k [] → Q (apply-call P N c k) []
   unfolding apply-call note-add do-flush note-flush do-final note-final with-flush with-record

@@ -1,4 +1,5 @@
--- Theorems about the definitions of `rules`.
+-- Theorems about the definitions of `rules`. The main ones: `demand-3` (DemandProof), `numbers-fit` (Widths), `sound` and `between`
+-- (Sound), `placeable` (Placeable), `alone-sound` (Alone).
 pub mod Width
 pub mod History
 pub mod Together
@@ -12,7 +13,7 @@ pub mod Kept
 pub mod Accepted
 pub mod Balance
 pub mod Apart
-pub mod Waiting
+pub mod Delaying
 pub mod Once
 pub mod Closed
 pub mod Ceiling

@@ -1,20 +1,20 @@
--- What the checks keep bounded: the counts of registrations, list numbers and plain flushes, and the places that lists and sets name.
+-- What the checks keep bounded: the counts of registrations, list numbers and plain flushes (`Limits`), and the places that lists and
+-- sets name (`Inside`).
 use mathlib.Core.Path.{_≡_, refl, sym, ap, _∙_}
-use mathlib.Core.List.{List, [], _∷_, _++_, List·Memᴰ, List·Memᴰ·not-nil, List·Memᴰ·cases-cons}
+use mathlib.Core.List.{List, [], _∷_, _++_, List·Memᴰ·not-nil, List·Memᴰ·cases-cons}
 use mathlib.Core.Logic.{_⊎_, inl, inr, _≢_}
-use Prim.Native.Nat.{ℕ, zero, suc, _+_, _≤_, _<_}
-use mathlib.Core.Bool.{Bool, true, false}
+use Prim.Native.Nat.{ℕ, _+_, _≤_, _<_}
+use mathlib.Core.Bool.{false}
 use native.Mathlib.Omega.{arith}
-use lib.ListN.{length, getD, length-append, List·getD-eq-default}
-use Rattle.rules.specs.Model.{with-record, Reg, Pending, Model, greatest, reg-of, place-one, keep, queue, push, off, rest, with-set, with-add, with-flush, initial}
-use Rattle.rules.specs.Calls.{Call, run}
+use lib.ListN.{length, length-append, List·getD-eq-default}
+use Rattle.rules.specs.Model.{with-record, Reg, Model, reg-of, place-one, keep, rest, with-set, with-add, with-flush, initial}
 use Rattle.rules.specs.Checks.{repeats, pooled}
 use Rattle.laws.specs.ModelBase.{In}
 use Rattle.laws.specs.History.{lt-or-le}
 use Rattle.laws.specs.GuideInv.{eq-or-ne}
 use Rattle.laws.specs.CallInv.{reg-of-old, reg-of-new}
 use Rattle.laws.specs.Accepted.{AddPassed, set-passed, add-passed, flush-passed}
-use Rattle.laws.specs.Kept.{Kept, kept}
+use Rattle.laws.specs.Kept.{Kept}
 
 -- every one of a list is below N
 abbrev pub AllBelow : ℕ → List ℕ → Type 0
@@ -73,7 +73,7 @@ module _ (P N W : ℕ) where
         placing = λ c r st k h v l. record { many = l .many; pool = l .pool; few = l .few; rows = l .rows };
         setting = λ x k v a l. record { many = l .many; pool = l .pool; few = l .few; rows = l .rows };
         adding = λ ins outs k v a e l. let p = add-passed N W ins outs k a in limits-adding ins outs k _ (p .more) (p .room) l;
-        waiting = λ ins outs k v a e l. let p = add-passed N W ins outs k a in let m = limits-adding ins outs k [] (p .more) (p .room) l in record { many = m .many; pool = m .pool; few = m .few; rows = m .rows };
+        delaying = λ ins outs k v a e l. let p = add-passed N W ins outs k a in let m = limits-adding ins outs k [] (p .more) (p .room) l in record { many = m .many; pool = m .pool; few = m .few; rows = m .rows };
         flushing = λ k v a l. record { many = l .many; pool = l .pool; few = omega (arith, flush-passed N W k a .few); rows = l .rows };
         closing = λ k v a l. record { many = l .many; pool = l .pool; few = l .few; rows = l .rows };
         recording = λ d k v n l. record { many = l .many; pool = l .pool; few = l .few; rows = omega (arith, n .many) };
@@ -106,7 +106,7 @@ module _ (P N W : ℕ) where
         placing = λ c r st k h v l. record { lists = l .lists; sets-below = l .sets-below };
         setting = λ x k v a l. record { lists = l .lists; sets-below = set-below x k (set-passed N W x k a .inside) (l .sets-below) };
         adding = λ ins outs k v a e l. inside-adding ins outs k _ (passed-bounded ins outs k (add-passed N W ins outs k a)) l;
-        waiting = λ ins outs k v a e l. let m = inside-adding ins outs k [] (passed-bounded ins outs k (add-passed N W ins outs k a)) l in record { lists = m .lists; sets-below = m .sets-below };
+        delaying = λ ins outs k v a e l. let m = inside-adding ins outs k [] (passed-bounded ins outs k (add-passed N W ins outs k a)) l in record { lists = m .lists; sets-below = m .sets-below };
         flushing = λ k v a l. record { lists = l .lists; sets-below = l .sets-below };
         closing = λ k v a l. record { lists = l .lists; sets-below = l .sets-below };
         recording = λ d k v n l. record { lists = l .lists; sets-below = l .sets-below };

@@ -1,22 +1,21 @@
--- Laws of the clerk's lists.
-use mathlib.Core.Path.{_≡_, refl, sym, ap, _∙_, subst}
-use mathlib.Core.List.{List, [], _∷_, _++_, append-assoc, append-nil, List·Memᴰ, List·Memᴰ·head, List·Memᴰ·tail, List·Memᴰ·cases-cons, Memᴰ·cast}
+-- Laws of the model's lists: membership, the watermark, locations and their order, and a history with one entry more.
+use mathlib.Core.Path.{_≡_, refl, sym}
+use mathlib.Core.List.{List, [], _∷_, _++_, List·Memᴰ, List·Memᴰ·head, List·Memᴰ·tail}
 use mathlib.Core.List.{List·Memᴰ·not-nil}
 use mathlib.Core.Logic.{_⊎_, inl, inr, _≢_}
 use mathlib.Core.Bool.{Bool, true, false, _||_, false≢true, or-true}
-use mathlib.Core.Option.{Option, some, none}
-use Prim.Native.Nat.{ℕ, zero, suc, _+_, _-_, _≤_, _<_, min, max}
+use mathlib.Core.Option.{some}
+use Prim.Native.Nat.{ℕ, zero, suc, _+_, _≤_, _<_}
 use native.Mathlib.Omega.{arith}
-use native.Mathlib.Nat.{add-zero, add-suc, suc-add, zero-add, add-assoc, lt-irrefl, lt-of-le-of-lt}
-use lib.ListN.{length, take, drop, getD, set, replicate, length-append, length-take, length-drop, length-set, length-replicate, take-append-drop, List·getD-append, List·getD-eq-default}
-use lib.Seq.{getD-append-seam, getD-append-add, getD-drop, getD-set-same, getD-set-other}
-use lib.Dec.{leb, ltb, eqb}
-use borrow.Author.Tests.{ltb-true, ltb-false, leb-true, leb-false, eqb-true, eqb-false, eq-eqb}
+use lib.ListN.{length, getD, replicate, length-append, List·getD-append}
+use lib.Seq.{getD-append-seam, getD-set-same, getD-set-other}
+use lib.Dec.{ltb, eqb}
+use borrow.Author.Tests.{ltb-true, ltb-false, eqb-true, eq-eqb}
 use Rattle.rules.specs.Guide.{Loc, Item}
-use Rattle.rules.specs.Model.{Reg, Located, Pending, Model, member, marked, tracked, run-from, watermark, greatest, ready, loc-of, later, top, after, spotted}
+use Rattle.rules.specs.Model.{Located, Model, member, marked, tracked, run-from, watermark, greatest, loc-of, later, top, after, spotted}
 use Rattle.laws.specs.History.{len}
 use Rattle.laws.specs.Together.{Behind}
-use Rattle.laws.specs.GuideInv.{grow, len-grow-same, len-grow-other, len-extend, eq-or-ne}
+use Rattle.laws.specs.GuideInv.{grow, eq-or-ne}
 
 abbrev pub In : ℕ → List ℕ → Type 0
 In x l = List·Memᴰ x l

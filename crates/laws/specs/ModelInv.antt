@@ -1,24 +1,19 @@
 -- The model's invariant, with the stack of registrations that are still to be placed, and that placing the top of it keeps the
 -- invariant: a history of spans stands behind window and order; what is placed reads what was set, or what was written behind it.
-use mathlib.Core.Path.{_≡_, refl, sym, ap, _∙_, subst}
-use mathlib.Core.List.{List, [], _∷_, _++_, append-assoc, append-nil, reverse, List·Memᴰ, List·Memᴰ·head, List·Memᴰ·tail, List·Memᴰ·not-nil, List·Memᴰ·cases-cons, List·Memᴰ·eq-of-singleton}
-use mathlib.Core.Logic.{_⊎_, inl, inr, _≢_}
-use mathlib.Core.Bool.{Bool, true, false, _||_, false≢true, or-true}
-use mathlib.Core.Option.{Option, some, none}
-use Prim.Native.Nat.{ℕ, zero, suc, _+_, _-_, _≤_, _<_, min, max}
+use mathlib.Core.Path.{_≡_, refl}
+use mathlib.Core.List.{List, _∷_, _++_, List·Memᴰ, List·Memᴰ·head, List·Memᴰ·tail}
+use mathlib.Core.Logic.{_⊎_, inl, inr}
+use mathlib.Core.Bool.{true, false}
+use Prim.Native.Nat.{ℕ, _+_, _≤_, _<_}
 use native.Mathlib.Omega.{arith}
-use lib.ListN.{length, take, drop, getD, replicate, length-append, length-replicate, List·getD-append, List·getD-eq-default}
-use lib.Seq.{getD-append-seam}
-use lib.Dec.{leb, ltb, eqb}
-use borrow.Author.Tests.{ltb-true, ltb-false, leb-true, leb-false, eqb-true, eqb-false, eq-eqb}
-use Rattle.rules.specs.Guide.{Loc, Item, Guide, Placed, place, release, released, fresh, flush as flush-guide}
+use lib.ListN.{length, length-append}
+use Rattle.rules.specs.Guide.{Loc, Item, Placed, place}
 use Rattle.laws.specs.History.{len}
 use Rattle.laws.specs.Together.{Behind}
-use Rattle.laws.specs.GuideInv.{Core, Later, grow, flush-core, release-later, regroup, len-empties}
+use Rattle.laws.specs.GuideInv.{Core, Later}
 use Rattle.laws.specs.Place.{Step, place-step, place-behind}
-use Rattle.rules.specs.Model.{Recorded, with-record, note-add, note-flush, note-final, do-flush, do-final, Reg, Located, Pending, Model, member, marked, tracked, watermark, greatest, loc-of, top, after, spotted, reg-of, place-one, due, left, keep, push, off, rest, with-set, with-add, cascade, settle-all, ready, queue, do-set, do-add, with-flush, initial}
-use Rattle.rules.specs.Calls.{chosen, step, run, answer, apply-call, Call, set, add, flush, final}
-use Rattle.laws.specs.ModelBase.{In, or-cases, bool-cases, tracked-cases, watermark-tracked, top-ge, top-le, behind-le, loc-of-left, loc-of-right, loc-of-none, marked-append, spotted-in, entry-at, hist-cases, hist-old, hist-new, in-range, after-some, Grown, grown, tracked-of, greatest-ge, get-extend}
+use Rattle.rules.specs.Model.{Recorded, with-record, Reg, Pending, Model, marked, tracked, greatest, loc-of, top, after, spotted, reg-of, place-one}
+use Rattle.laws.specs.ModelBase.{In, bool-cases, tracked-cases, top-ge, top-le, behind-le, loc-of-left, loc-of-right, loc-of-none, marked-append, spotted-in, entry-at, in-range, after-some, Grown, grown, tracked-of}
 
 abbrev pub hist : Model → List (List Item) → List (List Item)
 hist k past = past ++ k .guide .spans
@@ -33,8 +28,8 @@ Writes k H l i = (l .pos < len H (l .span)) × In i ((reg-at k H (l .span) (l .p
 abbrev pub Reads : Model → List (List Item) → Type 0
 Reads k H = (s q : ℕ) → q < len H s → (i : ℕ) → In i ((reg-at k H s q) .ins) → In i (k .sets) ⊎ ((l : Loc) × Writes k H l i × Behind (l .span) (l .pos) s q)
 
-abbrev pub Spots : Model → List (List Item) → Type 0
-Spots k H = (i : ℕ) → marked i (k .located) ≡ true → Writes k H (loc-of (k .located) i) i
+abbrev pub Locations : Model → List (List Item) → Type 0
+Locations k H = (i : ℕ) → marked i (k .located) ≡ true → Writes k H (loc-of (k .located) i) i
 
 abbrev pub Known : Model → List (List Item) → Type 0
 Known k H = (s q : ℕ) → q < len H s → (entry-at H s q) .added < length (k .adds)
@@ -45,7 +40,7 @@ pub record Inv (P N : ℕ) (k : Model) (st : List ℕ) : Type 0 where
   pub later : Later P 1 (k .guide)
   pub known : Known k (hist k past)
   pub reads : Reads k (hist k past)
-  pub located-ok : Spots k (hist k past)
+  pub located-ok : Locations k (hist k past)
   pub stack-ok : (r : ℕ) → In r st → (r < length (k .adds)) × ((i : ℕ) → In i ((reg-of k r) .ins) → tracked k i ≡ true)
   pub pending-ok : (w : Pending) → List·Memᴰ w (k .pending) → (w .reg < length (k .adds)) × (w .under ≡ greatest ((reg-of k (w .reg)) .ins))
 
@@ -70,8 +65,8 @@ module _ (P N c r : ℕ) (st : List ℕ) (k : Model) (hP : 1 ≤ P) (v : Inv P N
   H : List (List Item)
   H = hist k (v .past)
 
-  spot-span : (i : ℕ) → (loc-of (k .located) i) .span ≤ (k .guide .first) + 31
-  spot-span i = go (bool-cases (marked i (k .located)))
+  located-span : (i : ℕ) → (loc-of (k .located) i) .span ≤ (k .guide .first) + 31
+  located-span i = go (bool-cases (marked i (k .located)))
     where
       go : (marked i (k .located) ≡ true) ⊎ (marked i (k .located) ≡ false) → (loc-of (k .located) i) .span ≤ (k .guide .first) + 31
       go (inl e) =
@@ -93,7 +88,7 @@ module _ (P N c r : ℕ) (st : List ℕ) (k : Model) (hP : 1 ≤ P) (v : Inv P N
       tp = top (k .located) ((reg-of k r) .ins)
 
       behind : Behind (tp .span) (tp .pos) (plc .loc .span) (plc .loc .pos)
-      behind = rw (after-some (k .located) i ((reg-of k r) .ins) h) (place-behind P (k .guide) tp ent (top-le (k .located) _ ((reg-of k r) .ins) (λ x y. spot-span x)))
+      behind = rw (after-some (k .located) i ((reg-of k r) .ins) h) (place-behind P (k .guide) tp ent (top-le (k .located) _ ((reg-of k r) .ins) (λ x y. located-span x)))
 
       go : In i (k .sets) ⊎ (marked i (k .located) ≡ true) → In i (k .sets) ⊎ (Writes k H (loc-of (k .located) i) i × Behind ((loc-of (k .located) i) .span) ((loc-of (k .located) i) .pos) (plc .loc .span) (plc .loc .pos))
       go (inl e) = inl e
@@ -141,9 +136,9 @@ module _ (P N c r : ℕ) (st : List ℕ) (k : Model) (hP : 1 ≤ P) (v : Inv P N
       go (inl x) = lifted (v .reads s q x i (rw (gr .old s q x .1, next-reg) at y))
       go (inr x) = lifted (placed x (input-behind i (rw (x .0, x .1, gr .new .1, next-reg) at y)))
 
-  new-spots : Spots next H′
+  new-locations : Locations next H′
   unfolding next place-one H plc ent
-  new-spots i h = go (bool-cases (marked i (k .located)))
+  new-locations i h = go (bool-cases (marked i (k .located)))
     where
       go : (marked i (k .located) ≡ true) ⊎ (marked i (k .located) ≡ false) → Writes next H′ (loc-of (k .located ++ spotted (plc .loc) ((reg-of k r) .outs)) i) i
       go (inl e) = rw (loc-of-left (k .located) (spotted (plc .loc) ((reg-of k r) .outs)) i e) (lift (loc-of (k .located) i) i (v .located-ok i e))
@@ -169,7 +164,7 @@ module _ (P N c r : ℕ) (st : List ℕ) (k : Model) (hP : 1 ≤ P) (v : Inv P N
         later = stp .later;
         known = new-known;
         reads = new-reads;
-        located-ok = new-spots;
+        located-ok = new-locations;
         stack-ok = λ x h. let o = v .stack-ok x (List·Memᴰ·tail h) in (o .0, λ i y. new-tracked i (o .1 i (rw next-reg at y)));
         pending-ok = v .pending-ok;
       }

@@ -1,8 +1,8 @@
--- From the balance: no registration stands twice in the history, and the counts.
-use mathlib.Core.Path.{_≡_, refl, sym, ap, _∙_}
-use mathlib.Core.List.{List, [], _∷_, _++_}
+-- From the balance: no registration stands twice in the history (`one-place`), and with the weight 1 the sums are the counts.
+use mathlib.Core.Path.{_≡_, refl}
+use mathlib.Core.List.{List, [], _∷_}
 use mathlib.Core.Logic.{_⊎_, inl, inr, _≢_}
-use mathlib.Core.Bool.{Bool, true, false}
+use mathlib.Core.Bool.{true, false}
 use Prim.Native.Nat.{ℕ, zero, suc, _+_, _≤_, _<_}
 use native.Mathlib.Omega.{arith}
 use lib.ListN.{length, getD}
@@ -13,7 +13,7 @@ use Rattle.rules.specs.Model.{Pending}
 use Rattle.laws.specs.History.{len, lt-or-le}
 use Rattle.laws.specs.GuideInv.{eq-or-ne}
 use Rattle.laws.specs.ModelBase.{entry-at, no-entry}
-use Rattle.laws.specs.Balance.{esum, hsum, wsum, qsum, lsum, below}
+use Rattle.laws.specs.Balance.{esum, hsum, wsum, qsum, below}
 
 module _ (φ : ℕ → ℕ) where
   esum-at : (l : List Item) (q : ℕ) (d : Item) → q < length l → φ ((getD l q d) .added) ≤ esum φ l

@@ -1,7 +1,8 @@
--- An index of the order is a position of a released span: what stands there, and its parallelism.
-use mathlib.Core.Path.{_≡_, refl, sym, ap, _∙_}
-use mathlib.Core.List.{List, [], _∷_, _++_}
-use Prim.Native.Nat.{ℕ, zero, suc, _+_, _≤_, _<_}
+-- An index of the order is a position of a released span: what stands there, and its parallelism, which is from 1 to P. Of any guide
+-- that has the invariant.
+use mathlib.Core.Path.{_≡_, ap}
+use mathlib.Core.List.{List, _++_}
+use Prim.Native.Nat.{ℕ, suc, _+_, _≤_, _<_}
 use native.Mathlib.Omega.{arith}
 use lib.ListN.{length, getD, length-append}
 use Rattle.rules.specs.Guide.{Item, Entry, Guide}

@@ -1,20 +1,21 @@
--- Where a value is placed, and what placing does to the history.
-use mathlib.Core.Path.{_≡_, refl, sym, ap, _∙_}
-use mathlib.Core.List.{List, [], _∷_, _++_, append-assoc, append-nil}
+-- Where a value is placed, and what placing does: it lands behind the location that it was placed after, never in span 0, and the
+-- history grows by that one entry and perhaps by empty spans.
+use mathlib.Core.Path.{_≡_, refl, sym, ap}
+use mathlib.Core.List.{List, [], _∷_, _++_, append-nil}
 use mathlib.Core.Logic.{_⊎_, inl, inr, _≢_}
 use mathlib.Core.Bool.{Bool, true, false}
 use mathlib.Core.Option.{Option, some, none}
-use Prim.Native.Nat.{ℕ, zero, suc, _+_, _-_, _≤_, _<_, min, max}
+use Prim.Native.Nat.{ℕ, zero, suc, _+_, _-_, _≤_, _<_}
 use native.Mathlib.Omega.{arith}
-use native.Mathlib.Nat.{add-zero, add-suc, suc-add, zero-add, add-assoc}
-use lib.ListN.{length, take, drop, getD, set, replicate, length-append, length-take, length-drop, length-set, length-replicate, take-append-drop, List·getD-append, List·getD-eq-default}
-use lib.Seq.{getD-append-add, getD-drop, getD-set-same, getD-set-other}
+use native.Mathlib.Nat.{suc-add}
+use lib.ListN.{length, take, drop, replicate, length-append, length-take, length-drop, length-replicate, List·getD-eq-default}
+use lib.Seq.{getD-drop}
 use lib.Dec.{leb, ltb, eqb}
-use borrow.Author.Tests.{ltb-true, ltb-false, leb-true, leb-false, eqb-true, eqb-false}
-use Rattle.rules.specs.Guide.{Loc, Item, Entry, parallelism, last-parallelism, annotate, released, Guide, fresh, release, flush, seek, Choice, existing, opened, found, begin, choose, Placed, put, settle, apply, place}
-use Rattle.laws.specs.History.{len, start, released-length, lt-or-le}
+use borrow.Author.Tests.{ltb-true, ltb-false, leb-false, eqb-true, eqb-false}
+use Rattle.rules.specs.Guide.{Loc, Item, Entry, released, Guide, release, seek, Choice, existing, opened, found, begin, choose, Placed, put, settle, apply, place}
+use Rattle.laws.specs.History.{len, lt-or-le}
 use Rattle.laws.specs.Together.{Behind}
-use Rattle.laws.specs.GuideInv.{Core, Later, release-core, release-later, put-core, flush-core, grow, grow-skip, grow-left, put-later, len-append, len-extend, regroup, put-spans, put-order, put-first, release-spans, release-order, release-first}
+use Rattle.laws.specs.GuideInv.{Core, Later, release-core, release-later, put-core, grow, grow-skip, grow-left, put-later, len-append, len-extend, regroup, put-spans, put-order, put-first, release-spans, release-order, release-first}
 
 data Sought (P i : ℕ) (ss : List (List Item)) : Option ℕ → Type 0 where
   missing : Sought P i ss none

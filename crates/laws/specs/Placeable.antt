@@ -1,27 +1,26 @@
 -- What a sound model gives to code that changes storage: numbers fit, there is room, and what is on the stack may be placed.
 -- `Fits` holds of every sound model, `Delays` says the order and distinctness of who waits, `Placeable` is what placing the top of the
 -- stack asks. They are consequences of `Sound` for P below 65,000 and V up to 16,777,216.
-use mathlib.Core.Path.{_≡_, refl, sym, ap, _∙_}
-use mathlib.Core.List.{List, [], _∷_, _++_, map, List·Memᴰ, List·Memᴰ·head, List·Memᴰ·tail, List·Memᴰ·not-nil, List·Memᴰ·cases-cons}
+use mathlib.Core.Path.{_≡_, refl, sym, ap}
+use mathlib.Core.List.{List, [], _∷_, _++_, map, List·Memᴰ, List·Memᴰ·head, List·Memᴰ·tail, List·Memᴰ·not-nil}
 use mathlib.Core.Bool.{Bool, true, false, false≢true}
 use mathlib.Core.Logic.{_⊎_, inl, inr}
-use Prim.Native.Nat.{ℕ, zero, suc, _+_, _*_, _≤_, _<_, max}
+use Prim.Native.Nat.{ℕ, _+_, _≤_, _<_}
 use native.Mathlib.Omega.{arith}
 use lib.ListN.{length, getD, length-append}
 use lib.Seq.{getD-append-add}
-use Rattle.rules.specs.Guide.{Item, Entry, held}
-use Rattle.rules.specs.Model.{Model, Pending, member, marked, tracked, run-from, watermark, greatest, ready, loc-of, top, reg-of}
-use Rattle.rules.specs.Checks.{repeats}
+use Rattle.rules.specs.Guide.{Item, held}
+use Rattle.rules.specs.Model.{Model, Pending, member, marked, watermark, greatest, ready, loc-of, top, reg-of}
 use Rattle.laws.specs.History.{len}
-use Rattle.laws.specs.GuideInv.{Core, Later, len-append}
-use Rattle.laws.specs.ModelBase.{In, bool-cases, in-member, member-in, entry-at, no-entry, in-range, top-le, loc-of-none, watermark-le}
-use Rattle.laws.specs.ModelInv.{Inv, hist}
-use Rattle.laws.specs.Balance.{esum, hsum, wsum, qsum, lsum, below, Balance, core-sum}
+use Rattle.laws.specs.GuideInv.{Later, len-append}
+use Rattle.laws.specs.ModelBase.{In, bool-cases, member-in, entry-at, no-entry, in-range, top-le, loc-of-none, watermark-le}
+use Rattle.laws.specs.ModelInv.{hist}
+use Rattle.laws.specs.Balance.{hsum, qsum, lsum, below, Balance, core-sum}
 use Rattle.laws.specs.Once.{hsum-at, one-of, one-same, below-le, wsum-one, qsum-one, hsum-one, below-all}
-use Rattle.laws.specs.Ceiling.{Ceiling, ended}
-use Rattle.laws.specs.Waiting.{Sorted, not-ready}
+use Rattle.laws.specs.Ceiling.{ended}
+use Rattle.laws.specs.Delaying.{Sorted, not-ready}
 use Rattle.laws.specs.Limits.{AllBelow, Bounded}
-use Rattle.laws.specs.Order.{no-written, nth, order-at, bounds}
+use Rattle.laws.specs.Order.{nth, order-at, bounds}
 use Rattle.laws.specs.Sound.{Sound}
 
 -- of every sound model: the window's spans are within their rows, what is held and what is still to be placed fits the order, and span
@@ -177,12 +176,12 @@ module _ (P N W : ℕ) (hP : 1 ≤ P) (k : Model) (st : List ℕ) (s : Sound P N
   delays-of =
       record {
         distinct = light-distinct (st ++ regs (k .pending)) (λ r. omega (arith, single r, lsum-append (one-of r) st (regs (k .pending)), lsum-regs (one-of r) (k .pending)));
-        sorted = s .waiting .sorted;
+        sorted = s .delaying .sorted;
         stack-known = λ r h. s .inv .stack-ok r h .0;
         pending-known = λ w h. s .inv .pending-ok w h .0;
         under-is = λ w h. s .inv .pending-ok w h .1;
-        above = λ w h. omega (arith, not-ready (watermark N k) ((reg-of k (w .reg)) .ins) (s .waiting .above w h), s .inv .pending-ok w h .1);
-        below = λ w h. omega (arith, delayed-below N (watermark N k) ((reg-of k (w .reg)) .ins) (s .waiting .above w h) (s .inside .lists (w .reg) .ins-below), s .inv .pending-ok w h .1);
+        above = λ w h. omega (arith, not-ready (watermark N k) ((reg-of k (w .reg)) .ins) (s .delaying .above w h), s .inv .pending-ok w h .1);
+        below = λ w h. omega (arith, delayed-below N (watermark N k) ((reg-of k (w .reg)) .ins) (s .delaying .above w h) (s .inside .lists (w .reg) .ins-below), s .inv .pending-ok w h .1);
       }
 
 -- the top of the stack may be placed

@@ -1,22 +1,22 @@
 -- What holds of every reachable model with a stack of registrations still to be placed, as one record, and that each part of each
 -- call keeps it. Between calls the stack is empty and the record has a row for each accepted registration (`Between`).
-use mathlib.Core.Path.{_≡_, refl}
+use mathlib.Core.Path.{_≡_}
 use mathlib.Core.List.{List, [], _∷_}
-use mathlib.Core.Bool.{Bool, true, false, false≢true}
-use mathlib.Core.Logic.{_⊎_, inl, inr}
-use Prim.Native.Nat.{ℕ, zero, suc, _+_, _≤_, _<_}
+use mathlib.Core.Bool.{true, false, false≢true}
+use mathlib.Core.Logic.{inl}
+use Prim.Native.Nat.{ℕ, _≤_}
 use native.Mathlib.Omega.{arith}
 use lib.ListN.{length}
 use Rattle.rules.specs.Guide.{fresh}
-use Rattle.rules.specs.Model.{Recorded, with-record, Model, watermark, ready, greatest, place-one, keep, queue, push, off, rest, with-set, with-add, with-flush, settle-all, initial}
-use Rattle.rules.specs.Calls.{Call, set, add, flush, final, answer, step, run}
+use Rattle.rules.specs.Model.{Model, watermark, ready, greatest, place-one, keep, queue, push, off, rest, with-set, with-add, settle-all, initial}
+use Rattle.rules.specs.Calls.{Call, set, add, answer, step, run}
 use Rattle.laws.specs.ModelInv.{Inv, place-one-inv, record-inv}
 use Rattle.laws.specs.CascadeInv.{off-inv, push-from}
 use Rattle.laws.specs.CallInv.{with-set-inv, queued-inv, flush-inv, initial-inv, add-stack}
 use Rattle.laws.specs.Kept.{Kept, every, equivalent, settle-kept, step-kept, step-noted, initial-noted}
 use Rattle.laws.specs.Balance.{Balance, balance-kept, balance-initial}
 use Rattle.laws.specs.Apart.{Apart, apart-kept, apart-initial}
-use Rattle.laws.specs.Waiting.{Waiting, waiting-kept, waiting-initial}
+use Rattle.laws.specs.Delaying.{Delaying, delaying-kept, delaying-initial}
 use Rattle.laws.specs.Closed.{Done, done-kept}
 use Rattle.laws.specs.Ceiling.{Ceiling, ceiling-kept}
 use Rattle.laws.specs.Entries.{Entries, entries-kept, entries-initial}
@@ -32,7 +32,7 @@ pub record Sound (P N W : ℕ) (k : Model) (st : List ℕ) : Type 0 where
   -- a place is set or written by one registration
   pub apart : Apart k st
   -- who waits, and in which order
-  pub waiting : Waiting N k st
+  pub delaying : Delaying N k st
   -- nothing waits and nothing is held once closed
   pub done : Done k st
   -- the counts, and the places of sets and lists
@@ -48,7 +48,7 @@ module _ (P N W : ℕ) (hP : 1 ≤ P) where
         placing = λ c r st k l v i. off-inv P N (place-one P c r k) st (place-one-inv P N c r st k hP i) (push (off N (place-one P c r k)) st) (push-from (off N (place-one P c r k)) st);
         setting = λ x k v a i. off-inv P N (with-set x k) [] (with-set-inv P N hP k i x) (off N (with-set x k)) (λ r h. inl h);
         adding = λ ins outs k v a e i. add-stack P N hP k i _ e;
-        waiting = λ ins outs k v a e i. queued-inv P N hP k i _;
+        delaying = λ ins outs k v a e i. queued-inv P N hP k i _;
         flushing = λ k v a i. flush-inv P N hP k i _ _;
         closing = λ k v a i. flush-inv P N hP k i _ _;
         recording = λ d k v n i. record-inv P N d k [] i;
@@ -56,7 +56,7 @@ module _ (P N W : ℕ) (hP : 1 ≤ P) where
 
   -- the invariants that make up `Sound`, named
   data Part : Type 0 where
-    the-inv the-ceiling the-apart the-waiting the-done the-limits the-inside the-entries : Part
+    the-inv the-ceiling the-apart the-delaying the-done the-limits the-inside the-entries : Part
     the-balance : (ℕ → ℕ) → Part
 
   Says : Part → Model → List ℕ → Type 0
@@ -64,7 +64,7 @@ module _ (P N W : ℕ) (hP : 1 ≤ P) where
   Says (the-balance φ) = Balance φ
   Says the-ceiling = Ceiling
   Says the-apart = Apart
-  Says the-waiting = Waiting N
+  Says the-delaying = Delaying N
   Says the-done = Done
   Says the-limits = Limits N W
   Says the-inside = Inside N
@@ -76,7 +76,7 @@ module _ (P N W : ℕ) (hP : 1 ≤ P) where
   part-kept (the-balance φ) = balance-kept φ P N W hP
   part-kept the-ceiling = ceiling-kept P N W hP
   part-kept the-apart = apart-kept P N W hP
-  part-kept the-waiting = waiting-kept P N W hP
+  part-kept the-delaying = delaying-kept P N W hP
   part-kept the-done = done-kept P N W hP
   part-kept the-limits = limits-kept P N W
   part-kept the-inside = inside-kept P N W
@@ -90,7 +90,7 @@ module _ (P N W : ℕ) (hP : 1 ≤ P) where
         balance = λ φ. f (the-balance φ);
         ceiling = f the-ceiling;
         apart = f the-apart;
-        waiting = f the-waiting;
+        delaying = f the-delaying;
         done = f the-done;
         limits = f the-limits;
         inside = f the-inside;
@@ -103,7 +103,7 @@ module _ (P N W : ℕ) (hP : 1 ≤ P) where
   taken-apart k st s (the-balance φ) = s .balance φ
   taken-apart k st s the-ceiling = s .ceiling
   taken-apart k st s the-apart = s .apart
-  taken-apart k st s the-waiting = s .waiting
+  taken-apart k st s the-delaying = s .delaying
   taken-apart k st s the-done = s .done
   taken-apart k st s the-limits = s .limits
   taken-apart k st s the-inside = s .inside
@@ -128,7 +128,7 @@ module _ (P N W : ℕ) (hP : 1 ≤ P) where
 
   pub sound-delaying : (ins outs : List ℕ) (k : Model) → answer N W (add ins outs) k ≡ 0 → ready (watermark N k) ins ≡ false → Sound P N W k []
       → Sound P N W (keep (queue (record { under = greatest ins; reg = length (k .adds) }) (k .pending)) (with-add (record { ins = ins; outs = outs }) k)) []
-  sound-delaying ins outs k a e s = sound-kept .waiting ins outs k (s .inv) a e s
+  sound-delaying ins outs k a e s = sound-kept .delaying ins outs k (s .inv) a e s
 
 -- a model between calls
 pub record Between (P N W : ℕ) (k : Model) : Type 0 where
@@ -144,7 +144,7 @@ between-initial P N W hP =
         balance = λ φ. balance-initial φ;
         ceiling = omega arith;
         apart = apart-initial;
-        waiting = waiting-initial P N W hP;
+        delaying = delaying-initial P N W hP;
         done = λ e. absurd (false≢true e);
         limits = limits-initial N W;
         inside = inside-initial N;

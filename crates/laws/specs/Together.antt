@@ -1,12 +1,12 @@
--- Running together, of a history of spans: the entries that a parallelism covers hold no reader of one of them.
-use mathlib.Core.Path.{_≡_, refl, sym, ap, _∙_}
-use mathlib.Core.List.{List, [], _∷_, _++_}
+-- Of a history of spans: index plus parallelism never falls (`frontier`), and what lies behind a position lies at least its parallelism
+-- away (`distance`). Running together follows from the two.
+use mathlib.Core.Path.{_≡_, ap}
+use mathlib.Core.List.{List}
 use mathlib.Core.Logic.{_⊎_, inl, inr}
-use Prim.Native.Nat.{ℕ, zero, suc, _+_, _-_, _≤_, _<_, min, max}
+use Prim.Native.Nat.{ℕ, suc, _+_, _≤_, _<_}
 use native.Mathlib.Omega.{arith}
-use lib.ListN.{length, getD}
-use Rattle.rules.specs.Guide.{Item, Entry, parallelism}
-use Rattle.laws.specs.Width.{flat, width-flat, width-pos, width-le, reach-mono, reach-low, reach-high, reach-next}
+use Rattle.rules.specs.Guide.{Item, parallelism}
+use Rattle.laws.specs.Width.{flat, width-flat, reach-mono, reach-low, reach-high, reach-next}
 use Rattle.laws.specs.History.{len, start, start-suc, start-mono, lt-or-le}
 
 -- a reader placed after (s, q) stands in the next span at that position or later, or beyond the next span
@@ -48,8 +48,3 @@ module _ (P : ℕ) (H : List (List Item)) (hP : 1 ≤ P) (cap : (s : ℕ) → le
       let e : t ≡ suc s = omega arith in
       let k = rw e at hr in
       rw (wide-flat s q hq) (omega (arith, start-suc H s, ap (start H) e, reach-next P (len H s) (len H (suc s)) q hP hq r (b .1) k))
-
-  -- the entries from (s, q) on that its parallelism covers: none of them reads what one of them writes
-  pub together : (s q t r u v : ℕ) → q < len H s → r < len H t → v < len H u
-      → start H s + q ≤ start H t + r → Behind t r u v → start H s + q + wide s q ≤ start H u + v
-  together s q t r u v hq hr hv h b = omega (arith, frontier s q t r hq hr h, distance t r u v hr hv b)

@@ -1,7 +1,8 @@
--- The laws of the parallelism rule.
-use mathlib.Core.Path.{_≡_, refl, sym, _∙_}
+-- The laws of the parallelism rule: one closed form for all its cases (`flat`), its bounds, and how far position plus parallelism
+-- reaches.
+use mathlib.Core.Path.{_≡_, refl}
 use mathlib.Core.Bool.{Bool, true, false}
-use Prim.Native.Nat.{ℕ, zero, suc, _+_, _-_, _≤_, _<_, min, max}
+use Prim.Native.Nat.{ℕ, _+_, _-_, _≤_, _<_, min, max}
 use native.Mathlib.Omega.{arith}
 use lib.Dec.{leb, ltb}
 use borrow.Author.Tests.{leb-true, leb-false, ltb-true, ltb-false}

@@ -1,20 +1,19 @@
 -- Every number of a session fits the width that document 01 gives it: 32 bits for span numbers, positions, value, added, accepted,
 -- written and order index, and for the counts; 16 bits for parallelism, plain flushes and the lengths of lists. For every list of
 -- calls, P up to 64,999 and V up to 16,777,216.
-use mathlib.Core.Path.{_≡_, refl, sym, ap, _∙_}
-use mathlib.Core.List.{List, [], _∷_, _++_}
+use mathlib.Core.Path.{_≡_}
+use mathlib.Core.List.{List, [], _∷_}
 use mathlib.Core.Bool.{Bool, true, false}
 use mathlib.Core.Logic.{_⊎_, inl, inr}
-use Prim.Native.Nat.{ℕ, zero, suc, _+_, _≤_, _<_}
+use Prim.Native.Nat.{ℕ, _+_, _≤_, _<_}
 use native.Mathlib.Omega.{arith}
 use lib.ListN.{length, getD}
 use lib.Dec.{eqb}
-use Rattle.rules.specs.Guide.{Item, Entry, held, tally}
+use Rattle.rules.specs.Guide.{Item, Entry, tally}
 use Rattle.rules.specs.Model.{Model, marked, loc-of, reg-of, watermark, initial}
 use Rattle.rules.specs.Calls.{Call, run}
 use Rattle.laws.specs.History.{len}
 use Rattle.laws.specs.ModelBase.{In, bool-cases, entry-at, loc-of-none}
-use Rattle.laws.specs.ModelInv.{hist}
 use Rattle.laws.specs.Once.{one-of}
 use Rattle.laws.specs.Order.{nth, written}
 use Rattle.laws.specs.Tally.{having, tally-each}

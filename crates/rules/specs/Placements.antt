@@ -1,10 +1,10 @@
 -- Document 01, "Placements worked through": the bold ones, G1 to G5 and W1 to W6, as one list, computed from the definitions.
 use mathlib.Core.Path.{_≡_, refl}
-use mathlib.Core.List.{List, [], _∷_, _++_, map}
+use mathlib.Core.List.{List, [], _∷_, map}
 use mathlib.Core.Option.{Option, some, none}
 use Prim.Native.Nat.{ℕ, zero, suc}
 use lib.ListN.{length, take, replicate}
-use Rattle.rules.specs.Guide.{Loc, Item, Entry, parallelism, parallelism-by, last-parallelism, annotate, released, Guide, fresh, release, flush, seek, found, begin, choose, Placed, put, settle, apply, place}
+use Rattle.rules.specs.Guide.{Loc, Item, Entry, parallelism, parallelism-by, last-parallelism, annotate, released, fresh, release, flush, seek, found, begin, choose, Placed, put, settle, apply, place}
 
 item : Item
 item = record { value = 0; added = 0; accepted = 0 }

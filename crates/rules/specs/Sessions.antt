@@ -2,15 +2,15 @@
 -- the order of the checks, for the calls, the opening and the guide alone. Computed from the definitions.
 use mathlib.Core.Path.{_≡_, refl}
 use mathlib.Core.List.{List, [], _∷_, _++_, map}
-use mathlib.Core.Bool.{Bool, true, false}
+use mathlib.Core.Bool.{false}
 use mathlib.Core.Option.{Option, some, none}
-use Prim.Native.Nat.{ℕ, zero, suc, _+_, _^_}
+use Prim.Native.Nat.{ℕ, _^_}
 use lib.ListN.{length, replicate}
-use Rattle.rules.specs.Guide.{Loc, Item, Entry, Guide, parallelism, parallelism-by, last-parallelism, annotate, released, fresh, release, flush as flush-guide, seek, found, begin, choose, put, settle, apply, place, tallied, tally}
-use Rattle.rules.specs.Model.{Model, Pending, initial, member, marked, tracked, run-from, watermark, greatest, ready, loc-of, later, top, after, spotted, reg-of, place-one, due, left, queue, keep, push, off, rest, with-set, with-add, cascade, settle-all, do-set, do-add, with-record, note-add, note-flush, note-final, with-flush, do-flush, do-final}
-use Rattle.rules.specs.Checks.{Sizes, verdict, any, repeats, written-by, taken, pooled, check-range, too-short, check-open, check-closed, check-places, check-set, check-add, check-flush, check-final}
+use Rattle.rules.specs.Guide.{Loc, Item, Entry, parallelism, parallelism-by, last-parallelism, annotate, released, fresh, release, flush as flush-guide, seek, found, begin, choose, put, settle, apply, place, tallied, tally}
+use Rattle.rules.specs.Model.{Model, initial, member, marked, tracked, run-from, watermark, greatest, ready, loc-of, later, top, after, spotted, reg-of, place-one, due, left, queue, keep, push, off, rest, with-set, with-add, cascade, settle-all, do-set, do-add, with-record, note-add, note-flush, note-final, with-flush, do-flush, do-final}
+use Rattle.rules.specs.Checks.{verdict, any, repeats, written-by, taken, pooled, check-range, too-short, check-open, check-closed, check-places, check-set, check-add, check-flush, check-final}
 use Rattle.rules.specs.Calls.{Call, set, add, flush, final, checks, answer, apply-call, chosen, step, run, answers}
-use Rattle.rules.specs.Alone.{Alone, alone, check-alone, holds, stray, worn, check-push, check-flush-alone, Request, push as push-request, flush as flush-request, requests, reply, serve, serve-step, serve-all, replies}
+use Rattle.rules.specs.Alone.{Alone, alone, check-alone, holds, stray, worn, check-push, check-flush-alone, push as push-request, flush as flush-request, requests, reply, serve, serve-step, serve-all, replies}
 
 -- of each entry of the order: added, accepted and parallelism
 entry : Entry → List ℕ
@@ -78,6 +78,8 @@ calls-got =
     answers 2 3 9 (final ∷ set 0 ∷ add [] [] ∷ flush ∷ final ∷ []) initial
     -- 4 before 5; 5 at V; 8 for a place that is set
     ∷ answers 2 3 9 (set (2 ^ 62) ∷ set 3 ∷ set 2 ∷ set 2 ∷ []) initial
+    -- 3 over 65,535, before 5
+    ∷ answers 2 3 9 (add (replicate 65536 9) [] ∷ add [] (replicate 65536 9) ∷ []) initial
     -- 4, 5, 6 before 8; 8 for an output that is set, written, or promised by one that waits
     ∷ answers 2 3 9 (add (one (2 ^ 62)) (one 3) ∷ add (one 3) (0 ∷ 0 ∷ []) ∷ set 0 ∷ add [] (0 ∷ 0 ∷ []) ∷ add [] (one 0) ∷ add (one 2) (one 1) ∷ add [] (one 1) ∷ set 1 ∷ []) initial
     -- 9 once V are accepted, before 10
@@ -94,6 +96,7 @@ pub calls-want : List (List ℕ)
 calls-want =
     (0 ∷ 7 ∷ 7 ∷ 7 ∷ 7 ∷ [])
     ∷ (4 ∷ 5 ∷ 0 ∷ 8 ∷ [])
+    ∷ (3 ∷ 3 ∷ [])
     ∷ (4 ∷ 5 ∷ 0 ∷ 6 ∷ 8 ∷ 0 ∷ 8 ∷ 8 ∷ [])
     ∷ (0 ∷ 0 ∷ 9 ∷ [])
     ∷ (10 ∷ 0 ∷ 0 ∷ 10 ∷ 0 ∷ [])

@@ -1,13 +1,13 @@
 -- What a recorded run is compared by: after its calls the definitions' state, shown as the oracle shows its own (oracle/FORMAT.md). A
 -- mark is shown as the watermark, which is 1 more, or 0 for none. Assumes nothing.
 use mathlib.Core.List.{List, [], _∷_, _++_, map}
-use mathlib.Core.Bool.{Bool, true, false, _||_, not}
-use mathlib.Core.Option.{Option, some, none}
+use mathlib.Core.Bool.{true, false}
+use mathlib.Core.Option.{Option, some}
 use Prim.Native.Nat.{ℕ, zero, suc}
-use lib.ListN.{length, getD}
+use lib.ListN.{length}
 use lib.Dec.{eqb}
 use Rattle.rules.specs.Guide.{Loc, Item, Entry, Guide, tally}
-use Rattle.rules.specs.Model.{Model, Pending, initial, member, marked, watermark, loc-of}
+use Rattle.rules.specs.Model.{Model, initial, member, marked, watermark, loc-of}
 use Rattle.rules.specs.Calls.{Call, answer, step, run}
 use Rattle.rules.specs.Alone.{Alone, alone, Request, push, flush, reply, location, serve-step, serve-all}
 use Rattle.rules.specs.Summary.{median}

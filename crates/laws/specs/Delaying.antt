@@ -1,15 +1,16 @@
--- An accepted registration pending exactly when it has inputs and the greatest is above the watermark.
+-- Who waits: an accepted registration is pending exactly when it has inputs and the greatest is above the high mark. The pending ones
+-- are sorted by place, then by registration. What comes off when the watermark moves leaves that true.
 use mathlib.Core.Path.{_≡_, refl, sym, ap, _∙_}
-use mathlib.Core.List.{List, [], _∷_, _++_, List·Memᴰ, List·Memᴰ·head, List·Memᴰ·tail, List·Memᴰ·not-nil, List·Memᴰ·cases-cons}
-use mathlib.Core.Logic.{_⊎_, inl, inr, _≢_}
-use mathlib.Core.Bool.{Bool, true, false, _||_, or-true, false≢true}
+use mathlib.Core.List.{List, [], _∷_, List·Memᴰ, List·Memᴰ·head, List·Memᴰ·tail, List·Memᴰ·not-nil, List·Memᴰ·cases-cons}
+use mathlib.Core.Logic.{_⊎_, inl, inr}
+use mathlib.Core.Bool.{Bool, true, false, false≢true}
 use Prim.Native.Nat.{ℕ, zero, suc, _+_, _≤_, _<_}
 use native.Mathlib.Omega.{arith}
-use lib.ListN.{length, getD, length-append, List·getD-append}
-use lib.Dec.{ltb, eqb}
+use lib.ListN.{length, length-append}
+use lib.Dec.{ltb}
 use borrow.Author.Tests.{ltb-true, ltb-false, lt-ltb, le-ltb}
-use Rattle.rules.specs.Model.{Recorded, with-record, Reg, Pending, Model, watermark, run-from, marked, tracked, ready, greatest, reg-of, place-one, keep, queue, push, due, left, off, rest, with-set, with-add, with-flush, initial}
-use Rattle.rules.specs.Calls.{Call, set, add, answer, run}
+use Rattle.rules.specs.Model.{Recorded, with-record, Reg, Pending, Model, watermark, run-from, marked, tracked, ready, greatest, reg-of, place-one, keep, queue, left, rest, with-set, with-add, with-flush, initial}
+use Rattle.rules.specs.Calls.{Call, run}
 use Rattle.laws.specs.ModelBase.{In, bool-cases, tracked-cases, tracked-of, marked-append}
 use Rattle.laws.specs.History.{lt-or-le}
 use Rattle.laws.specs.ModelInv.{Inv}
@@ -35,9 +36,9 @@ run-mono t u h (suc f) n = go (bool-cases (t n)) (run-mono t u h f (suc n))
     go (inl e) r = rw (e, h n e, run-from) r
     go (inr e) r = rw (e, run-from) (run-ge u (suc f) n)
 
-mark-mono : (N : ℕ) (k j : Model) → ((i : ℕ) → tracked k i ≡ true → tracked j i ≡ true) → watermark N k ≤ watermark N j
+watermark-mono : (N : ℕ) (k j : Model) → ((i : ℕ) → tracked k i ≡ true → tracked j i ≡ true) → watermark N k ≤ watermark N j
 unfolding watermark
-mark-mono N k j h = run-mono (tracked k) (tracked j) h N 0
+watermark-mono N k j h = run-mono (tracked k) (tracked j) h N 0
 
 ready-up : (m n : ℕ) (l : List ℕ) → m ≤ n → ready m l ≡ true → ready n l ≡ true
 unfolding ready
@@ -133,10 +134,10 @@ in-queue x (w ∷ ws) = go (bool-cases (ltb (x .under) (w .under))) (in-queue x 
     go (inl e) r = rw (e, queue) (List·Memᴰ·head refl)
     go (inr e) r = rw (e, queue) (List·Memᴰ·tail r)
 
-stays-queue : (x : Pending) (ws : List Pending) (v : Pending) → List·Memᴰ v ws → List·Memᴰ v (queue x ws)
+stays-queued : (x : Pending) (ws : List Pending) (v : Pending) → List·Memᴰ v ws → List·Memᴰ v (queue x ws)
 unfolding queue
-stays-queue x [] v h = absurd (List·Memᴰ·not-nil h)
-stays-queue x (w ∷ ws) v h = go (bool-cases (ltb (x .under) (w .under))) (List·Memᴰ·cases-cons h) (λ y. stays-queue x ws v y)
+stays-queued x [] v h = absurd (List·Memᴰ·not-nil h)
+stays-queued x (w ∷ ws) v h = go (bool-cases (ltb (x .under) (w .under))) (List·Memᴰ·cases-cons h) (λ y. stays-queued x ws v y)
   where
     go : (ltb (x .under) (w .under) ≡ true) ⊎ (ltb (x .under) (w .under) ≡ false) → (v ≡ w) ⊎ List·Memᴰ v ws → (List·Memᴰ v ws → List·Memᴰ v (queue x ws)) → List·Memᴰ v (queue x (w ∷ ws))
     go (inl e) y r = rw (e, queue) (List·Memᴰ·tail h)
@@ -146,18 +147,18 @@ stays-queue x (w ∷ ws) v h = go (bool-cases (ltb (x .under) (w .under))) (List
 abbrev pub IsPending : Model → ℕ → Type 0
 IsPending k r = (w : Pending) × List·Memᴰ w (k .pending) × (w .reg ≡ r)
 
-pub record Waiting (N : ℕ) (k : Model) (st : List ℕ) : Type 0 where
+pub record Delaying (N : ℕ) (k : Model) (st : List ℕ) : Type 0 where
   pub sorted : Sorted (k .pending)
   pub above : (w : Pending) → List·Memᴰ w (k .pending) → ready (watermark N k) ((reg-of k (w .reg)) .ins) ≡ false
   pub others : (r : ℕ) → r < length (k .adds) → IsPending k r ⊎ (ready (watermark N k) ((reg-of k r) .ins) ≡ true)
 
-mark-rest : (N : ℕ) (j : Model) → watermark N (rest N j) ≡ watermark N j
+watermark-rest : (N : ℕ) (j : Model) → watermark N (rest N j) ≡ watermark N j
 unfolding watermark rest keep tracked
-mark-rest N j = refl
+watermark-rest N j = refl
 
-rest-waits : (N : ℕ) (j : Model) → (rest N j) .pending ≡ left (watermark N j) (j .pending)
+rest-pending : (N : ℕ) (j : Model) → (rest N j) .pending ≡ left (watermark N j) (j .pending)
 unfolding rest keep
-rest-waits N j = refl
+rest-pending N j = refl
 
 rest-adds : (N : ℕ) (j : Model) → (rest N j) .adds ≡ j .adds
 unfolding rest keep
@@ -168,25 +169,25 @@ unfolding rest keep reg-of
 rest-reg N j r = refl
 
 -- when the watermark has moved, what comes off leaves the sentence true
-module _ (P N : ℕ) (k j : Model) (st st′ : List ℕ) (v : Inv P N k st) (p : Waiting N k st) (adds-same : j .adds ≡ k .adds) (waits-same : j .pending ≡ k .pending) (reg-same : (r : ℕ) → reg-of j r ≡ reg-of k r) (grows : (i : ℕ) → tracked k i ≡ true → tracked j i ≡ true) where
+module _ (P N : ℕ) (k j : Model) (st st′ : List ℕ) (v : Inv P N k st) (p : Delaying N k st) (adds-same : j .adds ≡ k .adds) (pending-same : j .pending ≡ k .pending) (reg-same : (r : ℕ) → reg-of j r ≡ reg-of k r) (grows : (i : ℕ) → tracked k i ≡ true → tracked j i ≡ true) where
   mono : watermark N k ≤ watermark N j
-  mono = mark-mono N k j grows
+  mono = watermark-mono N k j grows
 
   rest-left : (rest N j) .pending ≡ left (watermark N j) (k .pending)
-  rest-left = rest-waits N j ∙ ap (left (watermark N j)) waits-same
+  rest-left = rest-pending N j ∙ ap (left (watermark N j)) pending-same
 
-  pub moved : Waiting N (rest N j) st′
+  pub moved : Delaying N (rest N j) st′
   moved =
       record {
         sorted = rw rest-left (left-sorted (watermark N j) (k .pending) (p .sorted));
         above = λ w h. over w (rw rest-left at h);
-        others = λ r h. rw (mark-rest, rest-reg, reg-same) (go r (p .others r (rw (rest-adds, adds-same) at h)));
+        others = λ r h. rw (watermark-rest, rest-reg, reg-same) (go r (p .others r (rw (rest-adds, adds-same) at h)));
       }
     where
       over : (w : Pending) → List·Memᴰ w (left (watermark N j) (k .pending)) → ready (watermark N (rest N j)) ((reg-of (rest N j) (w .reg)) .ins) ≡ false
       over w h =
           let o = left-from (watermark N j) (k .pending) w h in
-          rw (mark-rest, rest-reg, reg-same) (ready-off (watermark N k) (watermark N j) ((reg-of k (w .reg)) .ins) (omega (arith, left-above (watermark N j) (k .pending) (p .sorted) w h, v .pending-ok w o .1)) (p .above w o))
+          rw (watermark-rest, rest-reg, reg-same) (ready-off (watermark N k) (watermark N j) ((reg-of k (w .reg)) .ins) (omega (arith, left-above (watermark N j) (k .pending) (p .sorted) w h, v .pending-ok w o .1)) (p .above w o))
 
       go : (r : ℕ) → IsPending k r ⊎ (ready (watermark N k) ((reg-of k r) .ins) ≡ true) → IsPending (rest N j) r ⊎ (ready (watermark N j) ((reg-of k r) .ins) ≡ true)
       go r (inr e) = inr (ready-up (watermark N k) (watermark N j) ((reg-of k r) .ins) mono e)
@@ -213,9 +214,9 @@ tracked-set x k i h = tracked-of (with-set x k) i (go (tracked-cases k i h))
     go (inr a) = inr a
 
 module _ (P N W : ℕ) (hP : 1 ≤ P) where
-  waiting-adding : (a : Reg) (k : Model) → Inv P N k [] → ready (watermark N k) (a .ins) ≡ true → Waiting N k [] → Waiting N (with-add a k) (length (k .adds) ∷ [])
+  delaying-adding : (a : Reg) (k : Model) → Inv P N k [] → ready (watermark N k) (a .ins) ≡ true → Delaying N k [] → Delaying N (with-add a k) (length (k .adds) ∷ [])
   unfolding with-add watermark tracked
-  waiting-adding a k v e p =
+  delaying-adding a k v e p =
       record {
         sorted = p .sorted;
         above = λ w h. rw (reg-of-old a k (w .reg) (v .pending-ok w h .0)) (p .above w h);
@@ -226,10 +227,10 @@ module _ (P N W : ℕ) (hP : 1 ≤ P) where
       go r (inl y) h = rw (reg-of-old a k r y) (p .others r y)
       go r (inr y) h = let z : r ≡ length (k .adds) = omega arith in inr (rw (z, reg-of-new a k) e)
 
-  waiting-queued : (a : Reg) (k : Model) → Inv P N k [] → ready (watermark N k) (a .ins) ≡ false → Waiting N k []
-      → Waiting N (keep (queue (record { under = greatest (a .ins); reg = length (k .adds) }) (k .pending)) (with-add a k)) []
+  delaying-queued : (a : Reg) (k : Model) → Inv P N k [] → ready (watermark N k) (a .ins) ≡ false → Delaying N k []
+      → Delaying N (keep (queue (record { under = greatest (a .ins); reg = length (k .adds) }) (k .pending)) (with-add a k)) []
   unfolding with-add keep watermark tracked reg-of
-  waiting-queued a k v e p =
+  delaying-queued a k v e p =
       record {
         sorted = queue-sorted x (k .pending) (λ u h. v .pending-ok u h .0) (p .sorted);
         above = λ w h. over w (queue-from x (k .pending) w h);
@@ -244,37 +245,37 @@ module _ (P N W : ℕ) (hP : 1 ≤ P) where
       over w (inr y) = rw (reg-of-old a k (w .reg) (v .pending-ok w y .0)) (p .above w y)
 
       still : (r : ℕ) → IsPending k r ⊎ (ready (watermark N k) ((reg-of k r) .ins) ≡ true) → ((w : Pending) × List·Memᴰ w (queue x (k .pending)) × (w .reg ≡ r)) ⊎ (ready (watermark N k) ((reg-of k r) .ins) ≡ true)
-      still r (inl y) = inl (y .0, stays-queue x (k .pending) (y .0) (y .1), y .2)
+      still r (inl y) = inl (y .0, stays-queued x (k .pending) (y .0) (y .1), y .2)
       still r (inr y) = inr y
 
       go : (r : ℕ) → (r < length (k .adds)) ⊎ (length (k .adds) ≤ r) → r < length (k .adds) + 1 → ((w : Pending) × List·Memᴰ w (queue x (k .pending)) × (w .reg ≡ r)) ⊎ (ready (watermark N k) ((reg-of (with-add a k) r) .ins) ≡ true)
       go r (inl y) h = rw (reg-of-old a k r y) (still r (p .others r y))
       go r (inr y) h = inl (x, in-queue x (k .pending), omega arith)
 
-  pub waiting-initial : Waiting N initial []
+  pub delaying-initial : Delaying N initial []
   unfolding initial
-  waiting-initial = record { sorted = tt; above = λ w h. absurd (List·Memᴰ·not-nil h); others = λ r h. absurd (omega arith) }
+  delaying-initial = record { sorted = tt; above = λ w h. absurd (List·Memᴰ·not-nil h); others = λ r h. absurd (omega arith) }
 
-  waiting-flushing : (f : ℕ) (c : Bool) (k : Model) → Waiting N k [] → Waiting N (with-flush P f c k) []
+  delaying-flushing : (f : ℕ) (c : Bool) (k : Model) → Delaying N k [] → Delaying N (with-flush P f c k) []
   unfolding with-flush watermark tracked reg-of
-  waiting-flushing f c k p = record { sorted = p .sorted; above = p .above; others = p .others }
+  delaying-flushing f c k p = record { sorted = p .sorted; above = p .above; others = p .others }
 
-  waiting-recording : (d : Recorded) (k : Model) → Waiting N k [] → Waiting N (with-record d k) []
+  delaying-recording : (d : Recorded) (k : Model) → Delaying N k [] → Delaying N (with-record d k) []
   unfolding with-record watermark tracked reg-of
-  waiting-recording d k p = record { sorted = p .sorted; above = p .above; others = p .others }
+  delaying-recording d k p = record { sorted = p .sorted; above = p .above; others = p .others }
 
-  pub waiting-kept : Kept P N W (Waiting N)
+  pub delaying-kept : Kept P N W (Delaying N)
   unfolding place-one with-set reg-of
-  waiting-kept =
+  delaying-kept =
       record {
         placing = λ c r st k l v p. moved P N k (place-one P c r k) (r ∷ st) _ v p refl refl (λ t. refl) (tracked-place P c r k);
         setting = λ x k v a p. moved P N k (with-set x k) [] _ v p refl refl (λ t. refl) (tracked-set x k);
-        adding = λ ins outs k v a e p. waiting-adding _ k v e p;
-        waiting = λ ins outs k v a e p. waiting-queued _ k v e p;
-        flushing = λ k v a p. waiting-flushing _ _ k p;
-        closing = λ k v a p. waiting-flushing _ _ k p;
-        recording = λ d k v n p. waiting-recording d k p;
+        adding = λ ins outs k v a e p. delaying-adding _ k v e p;
+        delaying = λ ins outs k v a e p. delaying-queued _ k v e p;
+        flushing = λ k v a p. delaying-flushing _ _ k p;
+        closing = λ k v a p. delaying-flushing _ _ k p;
+        recording = λ d k v n p. delaying-recording d k p;
       }
 
-  pub waiting : (cs : List Call) → Waiting N (run P N W cs initial) []
-  waiting cs = kept P N W hP (Waiting N) waiting-kept waiting-initial cs
+  pub delaying : (cs : List Call) → Delaying N (run P N W cs initial) []
+  delaying cs = kept P N W hP (Delaying N) delaying-kept delaying-initial cs
