@@ -1,0 +1,108 @@
+//! The Rust's recording sorter as a side of the benchmark. Lists of places are made before the clock
+//! starts, so that what is measured is the sorter's own work.
+
+use std::cell::Cell;
+use std::sync::atomic::{AtomicBool, AtomicIsize};
+use std::sync::Arc;
+
+use crate::config::{DontPerformRuntimeAsserts, Resolver};
+use crate::cs::Place;
+use crate::dag::guide::GuideLoc;
+use crate::dag::resolvers::mt::sorters::sorter_live::{
+    LiveRecordingResolverSorter, NullRecordWriter,
+};
+use crate::dag::resolvers::mt::sorters::ResolverSortingMode;
+use crate::dag::resolvers::mt::{ResolverCommonData, ResolverComms};
+use crate::dag::CircuitResolverOpts;
+use crate::field::{Element, SmallField};
+
+type Config = Resolver<DontPerformRuntimeAsserts>;
+
+enum Call {
+    Set(Place),
+    /// The inputs lie in `lists` from the first number on to the second, the outputs from there on to
+    /// the third.
+    Add(usize, usize, usize),
+    Flush,
+    Final,
+}
+
+/// A list of calls as the sorter takes them.
+pub struct Calls {
+    calls: Vec<Call>,
+    lists: Vec<Place>,
+}
+
+impl Calls {
+    /// Reads calls encoded as docs/REPLAY.md says; the list must be well formed.
+    pub fn decoded(numbers: &[u64]) -> Self {
+        let mut read = Self { calls: Vec::new(), lists: Vec::new() };
+        let mut numbers = numbers.iter().copied();
+        while let Some(tag) = numbers.next() {
+            let call = match tag {
+                1 => Call::Set(Place(numbers.next().expect("a place"))),
+                2 => {
+                    let inputs = read.lists.len();
+                    let outputs = read.counted(&mut numbers);
+                    Call::Add(inputs, outputs, read.counted(&mut numbers))
+                }
+                3 => Call::Flush,
+                4 => Call::Final,
+                _ => panic!("{tag} starts no call"),
+            };
+            read.calls.push(call);
+        }
+        read
+    }
+
+    fn counted(&mut self, numbers: &mut impl Iterator<Item = u64>) -> usize {
+        let count = numbers.next().expect("a count") as usize;
+        self.lists.extend(numbers.take(count).map(Place));
+        self.lists.len()
+    }
+}
+
+pub struct Sorter {
+    sorter: LiveRecordingResolverSorter<Element, Config, NullRecordWriter>,
+    common: Arc<ResolverCommonData<Element, GuideLoc>>,
+}
+
+impl Sorter {
+    pub fn open(parallelism: u32, places: usize) -> Self {
+        let options =
+            CircuitResolverOpts { max_variables: places, desired_parallelism: parallelism };
+        let comms = Arc::new(ResolverComms {
+            exec_order_buffer_hint: AtomicIsize::new(0),
+            registration_complete: AtomicBool::new(false),
+            rw_panicked: AtomicBool::new(false),
+            rw_panic: Cell::new(None),
+        });
+        let (sorter, common) =
+            LiveRecordingResolverSorter::new((options, NullRecordWriter()), comms, &[]);
+        Self { sorter, common }
+    }
+
+    pub fn run(&mut self, calls: &Calls) {
+        for call in &calls.calls {
+            match *call {
+                Call::Set(place) => self.sorter.set_value(place, Element::from_u64_unchecked(1)),
+                Call::Add(inputs, outputs, end) => {
+                    let lists = (&calls.lists[inputs..outputs], &calls.lists[outputs..end]);
+                    // The closure is never run; its size, 0, is a multiple of 4 as the box asks.
+                    self.sorter.add_resolution(lists.0, lists.1, |_, _| ())
+                }
+                Call::Flush => self.sorter.flush(),
+                Call::Final => self.sorter.final_flush(),
+            }
+        }
+    }
+
+    /// Each entry's added, accepted and parallelism, in the order.
+    pub fn order(&self) -> impl Iterator<Item = (u32, u32, u32)> {
+        let items = self.common.exec_order.lock().unwrap().items.clone();
+        items.into_iter().map(|item| {
+            let metadata = item.metadata;
+            (metadata.added_at(), metadata.accepted_at(), metadata.parallelism() as u32)
+        })
+    }
+}
