@@ -67,6 +67,20 @@ pub watermark-le : (N : ℕ) (k : Model) → watermark N k ≤ N
 unfolding watermark
 watermark-le N k = omega (arith, run-le (tracked k) N 0)
 
+run-stops : (t : ℕ → Bool) (f n : ℕ) → run-from t f n < n + f → t (run-from t f n) ≡ false
+unfolding run-from
+run-stops t zero n h = absurd (omega arith)
+run-stops t (suc f) n h = go (bool-cases (t n)) (λ k. run-stops t f (suc n) k)
+  where
+    go : (t n ≡ true) ⊎ (t n ≡ false) → (run-from t f (suc n) < suc n + f → t (run-from t f (suc n)) ≡ false) → t (run-from t (suc f) n) ≡ false
+    go (inl e) r = rw (e, run-from) (r (omega (arith, rw (e, run-from) at h)))
+    go (inr e) r = rw (e, run-from) e
+
+-- the high mark is the greatest k with places 0 to k all tracked: those below the watermark are, and the one at it is not
+pub watermark-stops : (N : ℕ) (k : Model) → watermark N k < N → tracked k (watermark N k) ≡ false
+unfolding watermark
+watermark-stops N k h = run-stops (tracked k) N 0 (omega arith)
+
 pub watermark-tracked : (N i : ℕ) (k : Model) → i < watermark N k → tracked k i ≡ true
 unfolding watermark
 watermark-tracked N i k h = run-true (tracked k) N 0 i (omega arith) h
