@@ -72,3 +72,10 @@ listed-below pool at n m l =
     let q : j < n = omega (arith, part-length pool at n (l .inside)) in
     let x = l .places j q in
     omega (arith, part-at pool at n (l .inside) j q))
+
+-- lists with the same first numbers, or the same last ones
+pub same-take : (n : ℕ) (a b : List ℕ) → take n a ≡ take n b → (i : ℕ) → i < n → getD a i 0 ≡ getD b i 0
+same-take n a b e i h = sym (getD-take n a i 0 h) ∙ ap (λ (l : List ℕ). getD l i 0) e ∙ getD-take n b i 0 h
+
+pub same-drop : (n : ℕ) (a b : List ℕ) → drop n a ≡ drop n b → (i : ℕ) → getD a (n + i) 0 ≡ getD b (n + i) 0
+same-drop n a b e i = sym (getD-drop n a i 0) ∙ ap (λ (l : List ℕ). getD l i 0) e ∙ getD-drop n b i 0

@@ -10,7 +10,7 @@ use native.Mathlib.Numerals.{add-one}
 use native.Mathlib.Omega.{arith}
 use lib.Dec.{eqb}
 use lib.ListN.{length, getD, set, take, drop, length-set}
-use lib.Seq.{getD-set-same, getD-set-other, take-set-le, drop-set-lt}
+use lib.Seq.{getD-set-same, getD-set-other, getD-take, drop-set-lt}
 use borrow.Author.Tests.{eq-eqb, ne-eqb}
 use Rattle.rules.specs.Model.{Pending, due, left, queue, push}
 use Rattle.registrar.specs.Delayed.{newest, occurs, pends, Sorted, Chain, Linked, Delayed, Later, Joins, Stacks, LinksOnly, relinked, top-of, spliced, head-of, last-of, Chained, Oldest, Splices, Advancing, AdvancesSet, AdvancesPlaced}
@@ -41,6 +41,10 @@ module _ (w : List ℕ) (v lo : ℕ) (ps : List Pending) (top : ℕ) (st : List 
       stacked : (h : ℕ) (s : List ℕ) → Linked w v h s → (r : ℕ) → In r s → r < v
       stacked h (q ∷ s) k r (inl e) = omega (arith, k .1)
       stacked h (q ∷ s) k r (inr m) = stacked (getD w (v + q) 0) s (k .2) r m
+
+  pub delayed-low : (w′ : List ℕ) (m : ℕ) → 2 * v ≤ m → length w′ ≡ length w → take m w′ ≡ take m w → Delayed w′ v lo ps top st
+  delayed-low w′ m h e t =
+      delayed-same w′ (omega (arith, d .long)) (λ i k. sym (getD-take m w′ i 0 (omega arith)) ∙ ap (λ (l : List ℕ). getD l i 0) t ∙ getD-take m w i 0 (omega arith))
 
   -- a store to the other two quarters, or beyond them, keeps it
   pub delayed-set : (i x : ℕ) → 2 * v ≤ i → Delayed (set w i x) v lo ps top st

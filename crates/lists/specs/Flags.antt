@@ -1,0 +1,59 @@
+-- Flags of taken places: the fourth quarter of the waiting storage holds 1 for a place that is set, written or promised, else 0; while
+-- repeats are looked for, 2 more for a place already met. Definitions; the laws are in FlagLaws. Assumes nothing.
+use mathlib.Core.Path.{_≡_}
+use mathlib.Core.List.{List, [], _∷_}
+use mathlib.Core.Bool.{Bool, true, false, cond}
+use Prim.Native.Nat.{ℕ, _+_, _*_, _≤_, _<_}
+use lib.ListN.{length, getD, set, take}
+use lib.Dec.{eqb}
+use Rattle.rules.specs.Model.{member}
+use Rattle.rules.specs.Checks.{repeats}
+use Rattle.lists.specs.Part.{Below}
+
+-- the flag of place x says that it is taken
+unfoldable pub flag-at : List ℕ → ℕ → ℕ → Bool
+flag-at w v x = eqb (getD w (3 * v + x) 0) 1
+
+-- the flags are those of the test t
+pub record Flags (N : ℕ) (t : ℕ → Bool) (w : List ℕ) : Type 0 where
+  pub long : 4 * N ≤ length w
+  pub at : (x : ℕ) → x < N → getD w (3 * N + x) 0 ≡ cond {A = ℕ} (t x) 1 0
+
+-- w with the flag of each place of xs set
+unfoldable pub claimed : List ℕ → ℕ → List ℕ → List ℕ
+claimed w v [] = w
+claimed w v (x ∷ xs) = claimed (set w (3 * v + x) 1) v xs
+
+-- the places are below v and every flag is 0 or 1
+pub record Flagged (w : List ℕ) (v : ℕ) (xs : List ℕ) : Type 0 where
+  pub long : 4 * v ≤ length w
+  pub below : Below v xs
+  pub plain : (x : ℕ) → x < v → getD w (3 * v + x) 0 ≤ 1
+
+-- the flags of xs are raised by 2, all else is as it was
+pub record Raised (w : List ℕ) (v : ℕ) (xs w′ : List ℕ) : Type 0 where
+  pub same-length : length w′ ≡ length w
+  pub flags : (x : ℕ) → x < v → getD w′ (3 * v + x) 0 ≡ getD w (3 * v + x) 0 + cond {A = ℕ} (member x xs) 2 0
+  pub others : (i : ℕ) → ((x : ℕ) → x < v → i ≡ 3 * v + x → ⊥) → getD w′ i 0 ≡ getD w i 0
+
+-- the first n of xs do not repeat and are raised; xs repeats exactly where it has more than n
+pub record Raises (w : List ℕ) (v : ℕ) (xs : List ℕ) (n : ℕ) (w′ : List ℕ) : Type 0 where
+  pub most : n ≤ length xs
+  pub single : repeats (take n xs) ≡ false
+  pub again : n < length xs → repeats xs ≡ true
+  pub raised : Raised w v (take n xs) w′
+
+-- storage is what raising the first n of xs made of some storage before
+pub record Lowering (w : List ℕ) (v : ℕ) (xs : List ℕ) (n : ℕ) : Type 0 where
+  pub before : List ℕ
+  pub flagged : Flagged before v xs
+  pub raises : Raises before v xs n w
+
+-- that storage is back
+pub record Lowers (w : List ℕ) (v : ℕ) (xs : List ℕ) (n : ℕ) (w′ : List ℕ) : Type 0 where
+  pub back : (u : List ℕ) → Flagged u v xs → Raises u v xs n w → w′ ≡ u
+
+-- `repeats`: the answer, and storage as it was
+pub record Repeats (w xs : List ℕ) (r : Bool) (w′ : List ℕ) : Type 0 where
+  pub answer : r ≡ repeats xs
+  pub same : w′ ≡ w
