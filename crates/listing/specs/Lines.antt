@@ -1,0 +1,143 @@
+-- Laws of writing a listing: an entry's line by its fields, the lines one after another, the floor, the head. Assumes nothing.
+use mathlib.Core.List.{List, [], _∷_, _++_, append-assoc, append-nil}
+use mathlib.Core.Path.{_≡_, refl, sym, ap, _∙_, subst}
+use Prim.Native.Nat.{ℕ, zero, suc, _+_, _-_, _*_, _≤_, _<_, _^_, min}
+use native.Mathlib.Numerals.{add-one}
+use native.Mathlib.Omega.{arith}
+use lib.ListN.{length, length-append, getD}
+use Rattle.rules.specs.Guide.{Item, Entry}
+use Rattle.rules.specs.Listing.{field, line, floor, entry-line, rejection, word-status, word-line, word-entries, word-places, word-floor, word-median, word-order, word-added, word-accepted, word-parallelism, word-written}
+use Rattle.writer.specs.Wrote.{Wrote, wrote-then, wrote-none}
+use Rattle.writer.specs.Lines.{line-few, field-few, length-field, length-line}
+use Rattle.listing.specs.Listed.{entry-in, entries-from, line-at, lines-from, listed}
+
+-- an entry's line, by its fields; the last is a line
+pub wrote-entry : {o a b c d e : List ℕ} {at p q r s t : ℕ} (index added accepted parallelism written : ℕ)
+    → Wrote o a at p (field word-order index) → Wrote a b p q (field word-added added) → Wrote b c q r (field word-accepted accepted)
+    → Wrote c d r s (field word-parallelism parallelism) → Wrote d e s t (line word-written written)
+    → Wrote o e at t (line-at index added accepted parallelism written)
+unfolding line-at entry-line line
+wrote-entry index added accepted parallelism written v w x y z = wrote-then v (wrote-then w (wrote-then x (wrote-then y z)))
+
+-- it has at most 96 bytes
+pub line-short : (index added accepted parallelism written : ℕ) → index < 2 ^ 32 → added < 2 ^ 32 → accepted < 2 ^ 32 → parallelism < 2 ^ 32 → written < 2 ^ 32
+    → length (line-at index added accepted parallelism written) ≤ 96
+unfolding line-at entry-line
+line-short index added accepted parallelism written a b c d e =
+    simp length-append (omega (arith, field-few word-order index a, field-few word-added added b, field-few word-accepted accepted c, field-few word-parallelism parallelism d, field-few word-written written e))
+
+-- a loop over the entries: i of them are written, and the others are left
+pub more : (o rows : List ℕ) (i n : ℕ) → i < n
+    → lines-from o rows i (n - i)
+    ≡ line-at i (getD o (4 * i + 1) 0) (getD o (4 * i + 2) 0) (getD o (4 * i + 3) 0) (getD rows (5 * getD o (4 * i + 1) 0 + 2) 0) ++ lines-from o rows (i + 1) (n - (i + 1))
+unfolding lines-from
+more o rows i n h = let e : n - i ≡ suc (n - (i + 1)) = omega arith in rw (e, add-one i)
+
+pub none-left : (o rows : List ℕ) (i n : ℕ) → n ≤ i → lines-from o rows i (n - i) ≡ []
+unfolding lines-from
+none-left o rows i n h = let e : n - i ≡ 0 = omega arith in rw e
+
+pub none-yet : (o rows : List ℕ) (n : ℕ) → lines-from o rows 0 (n - 0) ≡ lines-from o rows 0 n
+none-yet o rows n = ap (lines-from o rows 0) (omega arith)
+
+-- where the loop stands: the text of the first i entries is written, up to `end`; each took at most 96 bytes
+pub record Writing (o rows : List ℕ) (n at i : ℕ) (entry out : List ℕ) (end : ℕ) : Type 0 where
+  pub text : List ℕ
+  pub upto : i ≤ n
+  pub same : length out ≡ length entry
+  pub wrote : Wrote entry out at end text
+  pub left : text ++ lines-from o rows i (n - i) ≡ lines-from o rows 0 n
+  pub short : end ≤ at + 96 * i
+
+pub writing-begins : (o rows : List ℕ) (n at : ℕ) (out : List ℕ) → Writing o rows n at 0 out out at
+writing-begins o rows n at out =
+    record { text = []; upto = omega arith; same = refl; wrote = wrote-none out at; left = none-yet o rows n; short = omega arith }
+
+-- an entry's line as it is read from storage
+abbrev pub line-of-entry : List ℕ → List ℕ → ℕ → List ℕ
+line-of-entry o rows i = line-at i (getD o (4 * i + 1) 0) (getD o (4 * i + 2) 0) (getD o (4 * i + 3) 0) (getD rows (5 * getD o (4 * i + 1) 0 + 2) 0)
+
+pub writes-on : {o rows : List ℕ} {n at i : ℕ} {entry out : List ℕ} {end : ℕ} → Writing o rows n at i entry out end → i < n
+    → {next : List ℕ} {r : ℕ} → length next ≡ length out → Wrote out next end r (line-of-entry o rows i) → length (line-of-entry o rows i) ≤ 96
+    → Writing o rows n at (i + 1) entry next r
+writes-on {o} {rows} {n} {at} {i} {entry} {out} {end} w h {next} {r} l x few =
+    record {
+      text = w .text ++ line-of-entry o rows i;
+      upto = omega arith;
+      same = l ∙ w .same;
+      wrote = wrote-then (w .wrote) x;
+      left =
+          append-assoc (w .text) (line-of-entry o rows i) (lines-from o rows (i + 1) (n - (i + 1)))
+          ∙ ap (λ (t : List ℕ). w .text ++ t) (sym (more o rows i n h)) ∙ w .left;
+      short = omega (arith, w .short, x .next, few);
+    }
+
+pub written-all : {o rows : List ℕ} {n at i : ℕ} {entry out : List ℕ} {end : ℕ} → Writing o rows n at i entry out end → n ≤ i
+    → Wrote entry out at end (lines-from o rows 0 n)
+written-all {o} {rows} {n} {at} {i} {entry} {out} {end} w h =
+    subst (λ (t : List ℕ). Wrote entry out at end t)
+    (sym (append-nil (w .text)) ∙ ap (λ (t : List ℕ). w .text ++ t) (sym (none-left o rows i n h)) ∙ w .left)
+    (w .wrote)
+
+-- the floor: the least so far with that of the entries left
+unfoldable pub least-of : ℕ → List Entry → ℕ
+least-of m [] = m
+least-of m (e ∷ es) = min m (floor (e ∷ es))
+
+floor-cons : (e : Entry) (es : List Entry) → floor (e ∷ es) ≡ least-of (e .parallelism) es
+unfolding floor least-of
+floor-cons e [] = refl
+floor-cons e (f ∷ es) = refl
+
+least-cons : (m : ℕ) (e : Entry) (es : List Entry) → least-of m (e ∷ es) ≡ least-of (min m (e .parallelism)) es
+unfolding least-of
+least-cons m e es = ap (min m) (floor-cons e es) ∙ go es
+  where
+    go : (es : List Entry) → min m (least-of (e .parallelism) es) ≡ least-of (min m (e .parallelism)) es
+    go [] = refl
+    go (f ∷ es) = three m (e .parallelism) (floor (f ∷ es))
+      where
+        three : (a b c : ℕ) → min a (min b c) ≡ min (min a b) c
+        three a b c = omega arith
+
+module _ (o : List ℕ) (n : ℕ) where
+  pub floor-begins : (n ≡ 0 → ⊥) → floor (entries-from o 0 n) ≡ least-of (getD o 3 0) (entries-from o 1 (n - 1))
+  unfolding entries-from
+  floor-begins h = let e : n ≡ suc (n - 1) = omega (arith, h) in ap (λ (k : ℕ). floor (entries-from o 0 k)) e ∙ floor-cons _ _
+
+  floor-turn : (i m : ℕ) → i < n → least-of m (entries-from o i (n - i)) ≡ least-of (min m (getD o (4 * i + 3) 0)) (entries-from o (i + 1) (n - (i + 1)))
+  unfolding entries-from
+  floor-turn i m h = let e : n - i ≡ suc (n - (i + 1)) = omega arith in rw (e, add-one i) (least-cons m (entry-in o i) (entries-from o (suc i) (n - suc i)))
+
+  -- y is the least after the turn
+  module _ (i m y x : ℕ) (h : i < n) (e : x ≡ least-of m (entries-from o i (n - i))) where
+    on-by : y ≡ min m (getD o (4 * i + 3) 0) → x ≡ least-of y (entries-from o (i + 1) (n - (i + 1)))
+    on-by k = e ∙ floor-turn i m h ∙ ap (λ (z : ℕ). least-of z (entries-from o (i + 1) (n - (i + 1)))) (sym k)
+
+    pub floor-less : getD o (4 * i + 3) 0 < m → y ≡ getD o (4 * i + 3) 0 → x ≡ least-of y (entries-from o (i + 1) (n - (i + 1)))
+    floor-less lt k = on-by (omega arith)
+
+    pub floor-same : m ≤ getD o (4 * i + 3) 0 → y ≡ m → x ≡ least-of y (entries-from o (i + 1) (n - (i + 1)))
+    floor-same le k = on-by (omega arith)
+
+  pub floor-ends : (i m x : ℕ) → n ≤ i → x ≡ least-of m (entries-from o i (n - i)) → m ≡ x
+  unfolding entries-from least-of
+  floor-ends i m x h e = let k : n - i ≡ 0 = omega arith in sym (e ∙ ap (λ (y : ℕ). least-of m (entries-from o i y)) k)
+
+pub floor-none : (o : List ℕ) (n : ℕ) → n ≡ 0 → 0 ≡ floor (entries-from o 0 n)
+unfolding entries-from floor
+floor-none o n e = ap (λ (k : ℕ). floor (entries-from o 0 k)) (sym e)
+
+-- the head's lines, then the entries'
+pub wrote-listing : {o a b c d e f : List ℕ} {p q r s t u : ℕ} (or rows : List ℕ) (n places least median : ℕ) → least ≡ floor (entries-from or 0 n)
+    → Wrote o a 0 p (line word-status 0) → Wrote a b p q (line word-entries n) → Wrote b c q r (line word-places places) → Wrote c d r s (line word-floor least)
+    → Wrote d e s t (line word-median median) → Wrote e f t u (lines-from or rows 0 n)
+    → Wrote o f 0 u (listed or rows n places median)
+unfolding listed
+wrote-listing {o} {f = f} {u = u} or rows n places least median h v w x y z l =
+    subst (λ (m : ℕ). Wrote o f 0 u (line word-status 0 ++ (line word-entries n ++ (line word-places places ++ (line word-floor m ++ (line word-median median ++ lines-from or rows 0 n)))))) h
+    (wrote-then v (wrote-then w (wrote-then x (wrote-then y (wrote-then z l)))))
+
+pub wrote-rejection : {o a b : List ℕ} {p q : ℕ} (n code : ℕ) → Wrote o a 0 p (line word-status code) → Wrote a b p q (line word-line n) → Wrote o b 0 q (rejection n code)
+unfolding rejection
+wrote-rejection n code x y = wrote-then x y
