@@ -1,0 +1,14 @@
+#!/bin/bash
+# Lends a slice of entry structs to `order_append_new` from C and from Rust, and looks that the new
+# entries stand there and nothing else has changed.
+set -euo pipefail
+cd "$(dirname "$0")/../.."
+
+out=target/order_entries
+mkdir -p $out
+rt staticlib order_entries >$out/staticlib.log 2>&1 || { tail -n 20 $out/staticlib.log >&2; exit 1; }
+gcc -std=c11 -O2 -Wall -Wextra -Werror -o $out/lend-c tests/order_entries/lend.c -Ltarget/staticlib -lorder_entries
+rustc --edition 2021 -O -D warnings -L target/staticlib -l static=order_entries -o $out/lend-rust \
+  tests/order_entries/lend.rs
+$out/lend-c
+$out/lend-rust
