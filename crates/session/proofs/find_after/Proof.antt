@@ -1,0 +1,60 @@
+-- `session::find_after` meets its contract: what is read of the waiting storage are the parts of the registration's lists in the pool.
+use native.Mathlib.Omega.{arith}
+use denote.Ref.{now}
+use Rattle.session.specs.Finding.{asks-parts, finds}
+use borrow.Author.Needs.{needs}
+use Rattle.session.proofs.find_after.Statement.{statement}
+use Rattle.session.proofs.find_after.Tie as tie
+
+wide-requires : tie.Need-wide-requires
+wide-requires c κs = search needs
+
+wide-requires-2 : tie.Need-wide-requires-2
+wide-requires-2 c κs = search needs
+
+list-start-requires : tie.Need-list-start-requires
+list-start-requires c κs = search needs
+
+list-inputs-requires : tie.Need-list-inputs-requires
+list-inputs-requires c κs = search needs
+
+wide-requires-3 : tie.Need-wide-requires-3
+wide-requires-3 c κs = search needs
+
+list-end-requires : tie.Need-list-end-requires
+list-end-requires c κs = search needs
+
+top-loc-requires : tie.Need-top-loc-requires
+top-loc-requires c κs = let a = c .before .before .before .before .before .before .before .before .before .args in asks-parts (now (a .locs)) (now (a .waiting)) (now (a .pool)) (a .v) (a .added) (a .used) (a .r) (c .before .before .before .before .before .wide .result) (c .before .before .before .before .wide2 .result) (c .before .wide3 .result) (c .before .before .before .list-start .result) (c .before .before .list-inputs .result) (c .list-end .result) (c .before .before .before .before .before .wide .ensures) (c .before .before .before .before .wide2 .ensures) (c .before .wide3 .ensures) (c .before .before .before .list-start .ensures) (c .before .before .list-inputs .ensures) (c .list-end .ensures) (c .before .before .before .before .before .before .before .before .before .pre) .1 .1
+
+add-at : tie.Need-add-at
+add-at c = let a = c .before .before .before .before .before .before .before .before .before .before .args in let p = asks-parts (now (a .locs)) (now (a .waiting)) (now (a .pool)) (a .v) (a .added) (a .used) (a .r) (c .before .before .before .before .before .before .wide .result) (c .before .before .before .before .before .wide2 .result) (c .before .before .wide3 .result) (c .before .before .before .before .list-start .result) (c .before .before .before .list-inputs .result) (c .before .list-end .result) (c .before .before .before .before .before .before .wide .ensures) (c .before .before .before .before .before .wide2 .ensures) (c .before .before .wide3 .ensures) (c .before .before .before .before .list-start .ensures) (c .before .before .before .list-inputs .ensures) (c .before .list-end .ensures) (c .before .before .before .before .before .before .before .before .before .before .pre) in omega (arith, p .0, p .1 .0)
+
+cast-t18 : tie.Need-cast-t18
+cast-t18 c = search needs
+
+cast-t20 : tie.Need-cast-t20
+cast-t20 c = search needs
+
+sub-t15 : tie.Need-sub-t15
+sub-t15 c = let a = c .before .before .before .before .before .before .before .before .before .before .args in asks-parts (now (a .locs)) (now (a .waiting)) (now (a .pool)) (a .v) (a .added) (a .used) (a .r) (c .before .before .before .before .before .before .wide .result) (c .before .before .before .before .before .wide2 .result) (c .before .before .wide3 .result) (c .before .before .before .before .list-start .result) (c .before .before .before .list-inputs .result) (c .before .list-end .result) (c .before .before .before .before .before .before .wide .ensures) (c .before .before .before .before .before .wide2 .ensures) (c .before .before .wide3 .ensures) (c .before .before .before .before .list-start .ensures) (c .before .before .before .list-inputs .ensures) (c .before .list-end .ensures) (c .before .before .before .before .before .before .before .before .before .before .pre) .0
+
+returns : tie.Need-returns
+returns c = let a = c .before .before .before .before .before .before .before .before .before .before .args in finds (now (a .locs)) (now (a .waiting)) (now (a .pool)) (a .v) (a .added) (a .used) (a .r) (c .before .before .before .before .before .before .wide .result) (c .before .before .before .before .before .wide2 .result) (c .before .before .wide3 .result) (c .before .before .before .before .list-start .result) (c .before .before .before .list-inputs .result) (c .before .list-end .result) (c .before .before .before .before .before .before .wide .ensures) (c .before .before .before .before .before .wide2 .ensures) (c .before .before .wide3 .ensures) (c .before .before .before .before .list-start .ensures) (c .before .before .before .list-inputs .ensures) (c .before .list-end .ensures) (c .top-loc .result) (c .top-loc .ensures)
+
+pub find-after-spec : {M : Type 1} → statement M
+find-after-spec =
+    tie.close
+    (tie.spec
+    wide-requires
+    wide-requires-2
+    list-start-requires
+    list-inputs-requires
+    wide-requires-3
+    list-end-requires
+    top-loc-requires
+    add-at
+    cast-t18
+    cast-t20
+    sub-t15
+    returns)

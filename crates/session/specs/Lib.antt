@@ -1,0 +1,13 @@
+-- The session and its storage: what they stand for (Storage, Rep), one placing (Finding, Placing, Rows, Outputs, PlaceOne), one turn of
+-- the cascade (Turn) and the whole of it (Cascade, Settle).
+pub mod Storage
+pub mod Rep
+pub mod Parts
+pub mod Rows
+pub mod Outputs
+pub mod Placing
+pub mod Turn
+pub mod PlaceOne
+pub mod Finding
+pub mod Cascade
+pub mod Settle
