@@ -34,6 +34,7 @@ any-false t (x ∷ l) i h y = go (bool-cases (t x)) (List·Memᴰ·cases-cons y)
     go (inr e) (inl y) f = rw y e
     go (inr e) (inr y) f = f (rw e at h) y
 
+-- where `a || b` is false, both are
 pub or-false : (a b : Bool) → (a || b) ≡ false → (a ≡ false) × (b ≡ false)
 or-false true b h = absurd (false≢true (sym h))
 or-false false b h = (refl, h)
@@ -63,6 +64,7 @@ pub record FinalPassed (k : Model) : Type 0 where
   pub not-closed : k .closed ≡ false
   pub none : length (k .pending) ≡ 0
 
+-- each call's record from its number
 pub set-passed : (N W x : ℕ) (k : Model) → answer N W (set x) k ≡ 0 → SetPassed N x k
 unfolding answer checks check-set check-add check-flush check-final check-closed check-places any
 set-passed N W x k h =

@@ -21,6 +21,7 @@ use Rattle.laws.specs.Once.{wsum-one, hsum-one}
 use Rattle.laws.specs.Accepted.{verdict-head, or-false}
 use Rattle.laws.specs.Order.{order-nth, bounds}
 
+-- what holds of the guide alone after any requests
 pub record AloneSound (P N : ℕ) (a : Alone) : Type 0 where
   pub past : List (List Item)
   pub core : Core P (a .guide) past
@@ -40,6 +41,7 @@ unfolding flush-guide release
 flush-first P g = refl
 
 module _ (P N : ℕ) (hP : 1 ≤ P) where
+  -- an accepted push and an accepted flush keep it
   pub push-sound : (after : Option Loc) (e : Item) (a : Alone) → a .pushes < N → a .guide .first + 31 < 4294967264 → AloneSound P N a → AloneSound P N (serve P (push after e) a)
   unfolding serve
   push-sound after e a h w s =
@@ -99,6 +101,7 @@ module _ (P N : ℕ) (hP : 1 ≤ P) where
   serve-sound (push after e) a h s = let q = push-passed after e a h in push-sound after e a (q .0) (q .1) s
   serve-sound flush a h s = flush-sound a (flush-passed a h) s
 
+  -- so does every request, refused or not
   pub serve-step-sound : (r : Request) (a : Alone) → AloneSound P N a → AloneSound P N (serve-step P N r a)
   unfolding serve-step chosen
   serve-step-sound r a s = go (bool-cases (eqb (reply N r a) 0))

@@ -41,6 +41,7 @@ free-set k i h y = false≢true (sym (taken-not k i h .0) ∙ in-member i (k .se
 free-out : (k : Model) (i r : ℕ) → taken k i ≡ false → In i ((reg-of k r) .outs) → ⊥
 free-out k i r h y = false≢true (sym (taken-not k i h .1) ∙ reg-written i k r y)
 
+-- sets and outputs apart, and the outputs of two registrations apart
 pub record Apart (k : Model) (st : List ℕ) : Type 0 where
   pub sets-apart : (i r : ℕ) → In i (k .sets) → In i ((reg-of k r) .outs) → ⊥
   pub outs-apart : (i r t : ℕ) → In i ((reg-of k r) .outs) → In i ((reg-of k t) .outs) → r ≡ t
@@ -91,6 +92,7 @@ with-set-apart x k st st′ f p =
     go i r z (inr e) = p .sets-apart i r e z
 
 module _ (P N W : ℕ) (hP : 1 ≤ P) where
+  -- every part of every call keeps it
   pub apart-kept : Kept P N W Apart
   unfolding rest keep with-set place-one with-flush with-record
   apart-kept =
@@ -104,5 +106,6 @@ module _ (P N W : ℕ) (hP : 1 ≤ P) where
         recording = λ d k v n p. same-apart k _ [] [] refl refl p;
       }
 
+  -- it holds after every list of calls
   pub apart : (cs : List Call) → Apart (run P N W cs initial) []
   apart cs = kept P N W hP Apart apart-kept apart-initial cs

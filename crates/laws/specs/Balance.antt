@@ -19,6 +19,7 @@ use Rattle.laws.specs.ModelInv.{Inv}
 use Rattle.laws.specs.Kept.{Kept, kept}
 
 module _ (φ : ℕ → ℕ) where
+  -- the sums of a weight over a span, spans, the order, the pending ones, a stack, and the numbers below n
   unfoldable pub esum : List Item → ℕ
   esum [] = 0
   esum (e ∷ l) = φ (e .added) + esum l
@@ -75,6 +76,7 @@ module _ (φ : ℕ → ℕ) where
   released-sum P (p ∷ []) (s ∷ ss) h = simp (append-nil, annotate-sum) (omega arith)
   released-sum P (p ∷ (p′ ∷ past)) ss h = simp (wsum-append, annotate-sum) (omega (arith, released-sum P (p′ ∷ past) ss h))
 
+  -- order and window together weigh what the history weighs
   pub core-sum : (P : ℕ) (g : Guide) (past : List (List Item)) → Core P g past → wsum (g .order) + hsum (g .spans) ≡ hsum (past ++ g .spans)
   core-sum P g past c = rw (c .order-is) (omega (arith, released-sum P past (g .spans) (omega (arith, c .window-is)), hsum-append past (g .spans)))
 
@@ -84,6 +86,7 @@ module _ (φ : ℕ → ℕ) where
   grow-sum (l ∷ H) zero e h = omega (arith, esum-append l (e ∷ []))
   grow-sum (l ∷ H) (suc s) e h = omega (arith, grow-sum H s e (omega arith))
 
+  -- a placing adds the weight of what is placed, a flush adds nothing
   pub step-sum : (P : ℕ) (g : Guide) (past : List (List Item)) (e : Item) (p : Placed) → Core P g past → Step P g past e p → wsum (p .guide .order) + hsum (p .guide .spans) ≡ wsum (g .order) + hsum (g .spans) + φ (e .added)
   step-sum P g past e p c s =
       omega (
@@ -135,6 +138,7 @@ module _ (φ : ℕ → ℕ) where
       go (inl e) f = rw (e, queue) (omega arith)
       go (inr e) f = rw (e, queue) (omega arith)
 
+  -- the balance
   unfoldable pub Balance : Model → List ℕ → Type 0
   Balance k st = wsum (k .guide .order) + hsum (k .guide .spans) + qsum (k .pending) + lsum st ≡ below (length (k .adds))
 

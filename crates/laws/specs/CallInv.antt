@@ -19,6 +19,7 @@ use Rattle.laws.specs.ModelBase.{In, bool-cases, watermark-tracked, entr
 use Rattle.laws.specs.ModelInv.{hist, Writes, Reads, Locations, Known, Inv, record-inv}
 use Rattle.laws.specs.CascadeInv.{off-inv, settle-inv}
 
+-- the registrations after one more is accepted
 pub reg-of-old : (a : Reg) (k : Model) (r : ℕ) → r < length (k .adds) → reg-of (with-add a k) r ≡ reg-of k r
 unfolding reg-of with-add
 reg-of-old a k r h = List·getD-append (k .adds) (a ∷ []) _ r h
@@ -36,6 +37,7 @@ unfolding ready
 ready-below m [] h i y = absurd (List·Memᴰ·not-nil y)
 ready-below m (x ∷ l) h i y = omega (arith, ltb-true (greatest (x ∷ l)) m h, greatest-ge i (x ∷ l) y)
 
+-- who stands in the queue after one more
 pub queue-from : (x : Pending) (ws : List Pending) (w : Pending) → List·Memᴰ w (queue x ws) → (w ≡ x) ⊎ List·Memᴰ w ws
 unfolding queue
 queue-from x [] w h = List·Memᴰ·cases-cons h
@@ -79,6 +81,7 @@ module _ (k : Model) (H H′ : List (List Item)) (same : Same H H′) where
   same-locations f i h = same-writes (loc-of (k .located) i) i (f i h)
 
 module _ (P N : ℕ) (hP : 1 ≤ P) (k : Model) (v : Inv P N k []) where
+  -- a place that is set
   pub with-set-inv : (x : ℕ) → Inv P N (with-set x k) []
   unfolding with-set reg-of
   with-set-inv x =
@@ -98,10 +101,12 @@ module _ (P N : ℕ) (hP : 1 ≤ P) (k : Model) (v : Inv P N k []) where
       go s q i (inl a) = inl (List·Memᴰ·tail a)
       go s q i (inr a) = inr a
 
+  -- an accepted set
   pub set-inv : (x : ℕ) → Inv P N (do-set P N x k) []
   unfolding do-set
   set-inv x = settle-inv P N (length (k .adds)) (off N (with-set x k)) (rest N (with-set x k)) hP (off-inv P N (with-set x k) [] (with-set-inv x) (off N (with-set x k)) (λ r h. inl h))
 
+  -- one registration more, ready or not
   pub with-add-inv : (a : Reg) (st : List ℕ) → ((r : ℕ) → In r st → (r ≡ length (k .adds)) × ((i : ℕ) → In i (a .ins) → tracked k i ≡ true)) → Inv P N (with-add a k) st
   unfolding with-add tracked
   with-add-inv a st f =
@@ -174,6 +179,7 @@ module _ (P N : ℕ) (hP : 1 ≤ P) (k : Model) (v : Inv P N k []) where
   unfolding flush-guide
   flush-later = release-later P 1 32 (k .guide) (omega arith) (v .core .window-is) (λ j h. v .later j (omega arith))
 
+  -- a flush
   pub flush-inv : (f : ℕ) (c : Bool) → Inv P N (with-flush P f c k) []
   unfolding with-flush reg-of
   flush-inv f c =
@@ -188,6 +194,7 @@ module _ (P N : ℕ) (hP : 1 ≤ P) (k : Model) (v : Inv P N k []) where
         pending-ok = v .pending-ok;
       }
 
+  -- every call
   pub call-inv : (c : Call) → Inv P N (apply-call P N c k) []
   unfolding apply-call note-add do-flush note-flush do-final note-final
   call-inv (set x) = set-inv x
@@ -203,6 +210,7 @@ module _ (P N : ℕ) (hP : 1 ≤ P) (k : Model) (v : Inv P N k []) where
       go (inl e) = rw (e, chosen) (call-inv c)
       go (inr e) = rw (e, chosen) v
 
+-- a fresh session has it
 pub initial-inv : (P N : ℕ) → Inv P N initial []
 unfolding initial fresh released marked
 initial-inv P N =
@@ -220,6 +228,7 @@ initial-inv P N =
     nothing : (s q : ℕ) → q < len (replicate 32 []) s → ⊥
     nothing s q h = omega (arith, len-empties 32 s)
 
+-- so it holds after every list of calls
 pub run-inv : (P N W : ℕ) → 1 ≤ P → (cs : List Call) (k : Model) → Inv P N k [] → Inv P N (run P N W cs k) []
 unfolding run
 run-inv P N W hP [] k v = v

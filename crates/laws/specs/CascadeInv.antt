@@ -27,6 +27,7 @@ due-from m (w ∷ ws) r h = go (bool-cases (ltb (w .under) m)) (λ y. due-from m
         past (inr x) = let y = f x in (y .0, List·Memᴰ·tail (y .1), y .2, y .3)
     go (inr e) f = absurd (List·Memᴰ·not-nil (rw (e, due) at h))
 
+-- who stays was there before
 pub left-from : (m : ℕ) (ws : List Pending) (w : Pending) → List·Memᴰ w (left m ws) → List·Memᴰ w ws
 unfolding left
 left-from m [] w h = h
@@ -45,6 +46,7 @@ due-left m (v ∷ ws) = go (bool-cases (ltb (v .under) m)) (due-left m ws)
     go (inl e) f = rw (e, due, left) (omega arith)
     go (inr e) f = rw (e, due, left) (omega arith)
 
+-- what stands on a stack after a list was pushed on it
 pub push-from : (rs st : List ℕ) (r : ℕ) → In r (push rs st) → In r rs ⊎ In r st
 unfolding push
 push-from [] st r h = inr h
@@ -71,6 +73,7 @@ module _ (P N : ℕ) (k : Model) (st : List ℕ) (v : Inv P N k st) where
       let o = v .pending-ok (d .0) (d .1) in
       rw (← d .2) (o .0, λ i y. watermark-tracked N i k (omega (arith, greatest-ge i ((reg-of k (d .0 .reg)) .ins) y, d .3, o .1)))
 
+  -- what comes off is ready, so it may stand on the stack
   pub off-inv : (rs : List ℕ) → ((r : ℕ) → In r rs → In r (off N k) ⊎ In r st) → Inv P N (rest N k) rs
   unfolding rest keep reg-of tracked
   off-inv rs f =
@@ -89,6 +92,7 @@ module _ (P N : ℕ) (k : Model) (st : List ℕ) (v : Inv P N k st) where
       go r (inl h) = due-ready r h
       go r (inr h) = v .stack-ok r h
 
+-- what comes off and what stays are all that was pending
 pub off-rest : (N : ℕ) (k : Model) → length (off N k) + length ((rest N k) .pending) ≡ length (k .pending)
 unfolding off rest keep
 off-rest N k = due-left (watermark N k) (k .pending)
@@ -97,6 +101,7 @@ pub place-pending : (P c r : ℕ) (k : Model) → (place-one P c r k) .pending �
 unfolding place-one
 place-pending P c r k = refl
 
+-- a cascade that has fuel for all keeps the invariant and ends with an empty stack
 pub cascade-inv : (P N c f : ℕ) (st : List ℕ) (k : Model) → 1 ≤ P → length st + length (k .pending) ≤ f → Inv P N k st → Inv P N (cascade P N c f st k) []
 unfolding cascade
 cascade-inv P N c zero [] k hP h v = v

@@ -18,6 +18,7 @@ use Rattle.laws.specs.CascadeInv.{push-length, off-rest}
 use Rattle.laws.specs.Accepted.{final-passed}
 use Rattle.laws.specs.Kept.{Kept, kept}
 
+-- the flush of final
 unfoldable pub ended : Bool → ℕ
 ended true = 1
 ended false = 0
@@ -44,6 +45,7 @@ module _ (P N W : ℕ) (hP : 1 ≤ P) where
       let s = place-step P (k .guide) (v .past) e hP (v .core) (v .later) (after (k .located) ((reg-of k r) .ins)) in
       omega (arith, s .advances, push-length (off N j) st, off-rest N j)
 
+  -- every part of every call keeps it
   pub ceiling-kept : Kept P N W Ceiling
   unfolding rest keep with-set with-add with-flush flush-guide release ended with-record
   ceiling-kept =
@@ -57,6 +59,7 @@ module _ (P N W : ℕ) (hP : 1 ≤ P) where
         recording = λ d k v n b. b;
       }
 
+  -- it holds after every list of calls
   pub ceiling : (cs : List Call) → Ceiling (run P N W cs initial) []
   unfolding initial fresh
   ceiling cs = kept P N W hP Ceiling ceiling-kept (omega arith) cs

@@ -71,6 +71,7 @@ module _ (P N W : ℕ) (hP : 1 ≤ P) where
   not-open : (k : Model) {X : Type 0} → k .closed ≡ false → k .closed ≡ true → X
   not-open k e c = absurd (false≢true (sym e ∙ c))
 
+  -- every part of every call keeps it
   pub done-kept : Kept P N W Done
   unfolding rest keep place-one with-set with-add with-flush with-record
   done-kept =
@@ -84,6 +85,7 @@ module _ (P N W : ℕ) (hP : 1 ≤ P) where
         recording = λ r k v n d. d;
       }
 
+  -- it holds after every list of calls
   pub done : (cs : List Call) → Done (run P N W cs initial) []
   unfolding initial
   done cs = kept P N W hP Done done-kept (λ e. absurd (false≢true e)) cs

@@ -55,6 +55,7 @@ unfolding ready
 ready-on n [] h = refl
 ready-on n (x ∷ l) h = lt-ltb _ _ h
 
+-- what is not ready has its greatest input at the watermark or above
 pub not-ready : (n : ℕ) (l : List ℕ) → ready n l ≡ false → n ≤ greatest l
 unfolding ready
 not-ready n [] h = absurd (false≢true (sym h))
@@ -68,6 +69,7 @@ before-le : (w v : Pending) → Before w v → w .under ≤ v .under
 before-le w v (inl h) = omega arith
 before-le w v (inr h) = omega arith
 
+-- each before all that follow it
 abbrev pub Sorted : List Pending → Type 0
 Sorted [] = Unit {0}
 Sorted (w ∷ ws) = ((v : Pending) → List·Memᴰ v ws → Before w v) × Sorted ws
@@ -144,9 +146,11 @@ stays-queued x (w ∷ ws) v h = go (bool-cases (ltb (x .under) (w .under))) (Lis
     go (inr e) (inl y) r = rw (e, queue) (List·Memᴰ·head y)
     go (inr e) (inr y) r = rw (e, queue) (List·Memᴰ·tail (r y))
 
+-- a registration that waits
 abbrev pub IsPending : Model → ℕ → Type 0
 IsPending k r = (w : Pending) × List·Memᴰ w (k .pending) × (w .reg ≡ r)
 
+-- the sentence: those pending are not ready at the present watermark, and every other accepted one is
 pub record Delaying (N : ℕ) (k : Model) (st : List ℕ) : Type 0 where
   pub sorted : Sorted (k .pending)
   pub above : (w : Pending) → List·Memᴰ w (k .pending) → ready (watermark N k) ((reg-of k (w .reg)) .ins) ≡ false
@@ -264,6 +268,7 @@ module _ (P N W : ℕ) (hP : 1 ≤ P) where
   unfolding with-record watermark tracked reg-of
   delaying-recording d k p = record { sorted = p .sorted; above = p .above; others = p .others }
 
+  -- every part of every call keeps it
   pub delaying-kept : Kept P N W (Delaying N)
   unfolding place-one with-set reg-of
   delaying-kept =
@@ -277,5 +282,6 @@ module _ (P N W : ℕ) (hP : 1 ≤ P) where
         recording = λ d k v n p. delaying-recording d k p;
       }
 
+  -- it holds after every list of calls
   pub delaying : (cs : List Call) → Delaying N (run P N W cs initial) []
   delaying cs = kept P N W hP (Delaying N) delaying-kept delaying-initial cs

@@ -18,6 +18,7 @@ use Rattle.laws.specs.Kept.{Kept}
 use Rattle.laws.specs.Order.{no-written}
 
 module _ (Φ : Item → Type 0) where
+  -- a property of each item of a span, of spans, of the order
   abbrev pub Each : List Item → Type 0
   Each [] = Unit {0}
   Each (e ∷ l) = Φ e × Each l
@@ -78,6 +79,7 @@ module _ (Φ : Item → Type 0) where
     pub in-order : EachEntry (g .order)
     pub in-spans : EachSpan (g .spans)
 
+  -- releasing and placing keep it, where what is placed has it
   pub release-each : (P n : ℕ) (g : Guide) → Throughout g → Throughout (release P n g)
   unfolding release
   release-each P n g h =
@@ -147,6 +149,7 @@ module _ (Φ Ψ : Item → Type 0) (f : (e : Item) → Φ e → Ψ e) where
 abbrev pub OfSession : ℕ → Item → Type 0
 OfSession n e = (e .value ≡ e .added) × (e .accepted ≤ n)
 
+-- the sentence
 pub record Entries (N : ℕ) (k : Model) (st : List ℕ) : Type 0 where
   pub all : Throughout (OfSession (length (k .adds))) (k .guide)
   pub rows-written : (x : ℕ) → In x (k .recorded .written) → x ≤ length (k .guide .order)
@@ -157,6 +160,7 @@ module _ (P N W : ℕ) (hP : 1 ≤ P) where
   more-adds : (k : Model) (n : ℕ) → length (k .adds) ≤ n → Throughout (OfSession (length (k .adds))) (k .guide) → Throughout (OfSession n) (k .guide)
   more-adds k n h t = throughout-map (OfSession (length (k .adds))) (OfSession n) (λ e x. (x .0, omega (arith, x .1))) (k .guide) t
 
+  -- every part of every call keeps it
   pub entries-kept : Kept P N W (Entries N)
   unfolding rest keep with-set with-add place-one with-flush with-record flush-guide release
   entries-kept =

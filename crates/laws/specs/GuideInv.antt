@@ -70,6 +70,7 @@ Later P m g = (i : ℕ) → m ≤ i → len (g .spans) i ≤ P
 pub len-append : (H G : List (List Item)) (s : ℕ) → len (H ++ G) (length H + s) ≡ len G s
 len-append H G s = ap length (getD-append-add H G s [])
 
+-- empty spans have no length
 pub len-empties : (n s : ℕ) → len (replicate n []) s ≡ 0
 len-empties zero s = refl
 len-empties (suc n) zero = refl
@@ -80,8 +81,9 @@ len-extend [] n s = len-empties n s
 len-extend (l ∷ H) n zero = refl
 len-extend (l ∷ H) n (suc s) = len-extend H n s
 
+-- a release moves the boundary between past and window
 pub regroup : (past ss : List (List Item)) (n : ℕ) → (past ++ take n ss) ++ (drop n ss ++ replicate n []) ≡ (past ++ ss) ++ replicate n []
-regroup past ss n = rw (append-assoc, ← append-assoc (take n ss), take-append-drop, append-assoc)
+regroup past ss n = rw (append-assoc past (take n ss), ← append-assoc (take n ss), take-append-drop, append-assoc)
 
 released-release : (P n : ℕ) (past ss : List (List Item)) → n ≤ length ss → 1 ≤ length ss → released P n (ss ++ replicate n []) ≡ released P n ss
     → released P (length past) (past ++ ss) ++ released P n ss ≡ released P (length (past ++ take n ss)) ((past ++ take n ss) ++ (drop n ss ++ replicate n []))
@@ -91,6 +93,7 @@ released-release P n past ss h hs e =
     let l : length past < length (past ++ ss) = simp length-append (omega arith) in
     sym (rw (k, regroup past ss n, append-assoc, released-add P n past (ss ++ replicate n []) m, e, ← append-assoc, released-extend P (length past) (past ++ ss) (replicate n []) l))
 
+-- releasing n spans, and all 32, keeps the invariant
 pub release-core : (P n : ℕ) (g : Guide) (past : List (List Item)) → 1 ≤ n → n < 32 → Core P g past → Core P (release P n g) (past ++ take n (g .spans))
 unfolding release
 release-core P n g past hn h c =
@@ -117,6 +120,7 @@ flush-core P g past hP c h =
     whole : released P 32 (g .spans ++ replicate 32 []) ≡ released P 32 (g .spans)
     whole = rw (← c .window-is) (released-flush P (g .spans) (replicate 31 []) hP last)
 
+-- after a release the spans that were m + n and later are m and later
 pub release-later : (P m n : ℕ) (g : Guide) → n ≤ 32 → length (g .spans) ≡ 32 → Later P (m + n) g → Later P m (release P n g)
 unfolding release
 release-later P m n g hn hw h i k = rw (len-extend (drop n (g .spans)) n i, getD-drop) (h (n + i) (omega arith))
@@ -125,6 +129,7 @@ release-later P m n g hn hw h i k = rw (len-extend (drop n (g .spans)) n i, getD
 unfoldable pub grow : List (List Item) → ℕ → Item → List (List Item)
 grow H s e = set H s (getD H s [] ++ (e ∷ []))
 
+-- an entry more, in the second part of a history
 pub set-skip : (H G : List (List Item)) (j : ℕ) (x : List Item) → set (H ++ G) (length H + j) x ≡ H ++ set G j x
 set-skip [] G j x = rw zero-add
 set-skip (l ∷ H) G j x = rw suc-add (ap (λ t. l ∷ t) (set-skip H G j x))
@@ -148,6 +153,7 @@ eq-or-ne a b = go (eqb a b) refl
     go true e = inl (eqb-true a b e)
     go false e = inr (eqb-false a b e)
 
+-- an entry put in a span that is not span 0 keeps the invariant
 pub put-core : (P i : ℕ) (e : Item) (g : Guide) (past : List (List Item)) → suc i < 32 → len (g .spans) (suc i) ≤ P → Core P g past → Core P (put (suc i) e g) past
 unfolding put grow
 put-core P i e g past hi h c =
@@ -166,6 +172,7 @@ pub grow-left : (H Z : List (List Item)) (s : ℕ) (e : Item) → s < length H �
 unfolding grow
 grow-left H Z s e h = rw (List·getD-append H Z [] s, set-append-left)
 
+-- it leaves the later spans within P where its own was shorter than P
 pub put-later : (P m i : ℕ) (e : Item) (g : Guide) → i < length (g .spans) → Later P m g → (m ≤ i → len (g .spans) i < P) → Later P m (put i e g)
 unfolding put grow
 put-later P m i e g hi h k j hj = go (eq-or-ne j i)
@@ -174,6 +181,7 @@ put-later P m i e g hi h k j hj = go (eq-or-ne j i)
     go (inl x) = rw (x, len-grow-same (g .spans) i e hi) (omega (arith, k (omega arith)))
     go (inr x) = rw (len-grow-other (g .spans) i j e x) (h j hj)
 
+-- what a put and a release are, by parts
 pub put-spans : (i : ℕ) (e : Item) (g : Guide) → (put i e g) .spans ≡ grow (g .spans) i e
 unfolding put grow
 put-spans i e g = refl

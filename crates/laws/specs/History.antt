@@ -18,6 +18,7 @@ use Rattle.rules.specs.Guide.{Item, Entry, parallelism, annotate, released}
 abbrev pub len : List (List Item) → ℕ → ℕ
 len H s = length (getD H s [])
 
+-- where span s starts in the order: the sum of the lengths before it
 unfoldable pub start : List (List Item) → ℕ → ℕ
 start [] s = 0
 start (l ∷ H) zero = 0
@@ -73,6 +74,7 @@ annotate-at f q i [] w e h = absurd (omega arith)
 annotate-at f q zero (x ∷ l) w e h = rw add-zero
 annotate-at f q (suc i) (x ∷ l) w e h = rw (add-suc, ← suc-add) (annotate-at f (suc q) i l w e (omega arith))
 
+-- the released spans are as long as where the next starts
 pub released-length : (P k : ℕ) (H : List (List Item)) → k < length H → length (released P k H) ≡ start H k
 unfolding released start
 released-length P zero [] h = refl
@@ -84,6 +86,7 @@ released-length P (suc k) (l ∷ (m ∷ H)) h = simp (length-append, annotate-le
 getD-skip : (xs ys : List Entry) (n i : ℕ) (w : Entry) → length xs ≡ n → getD (xs ++ ys) (n + i) w ≡ getD ys i w
 getD-skip xs ys n i w e = rw (← e) (getD-append-add xs ys i w)
 
+-- what stands at position q of span s
 pub released-at : (P k : ℕ) (H : List (List Item)) (w : Entry) (e : Item) (s q : ℕ) → k < length H → s < k → q < len H s
     → getD (released P k H) (start H s + q) w ≡ record { item = getD (getD H s []) q e; parallelism = parallelism P (len H s) (len H (suc s)) q }
 unfolding released start

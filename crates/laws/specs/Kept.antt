@@ -24,6 +24,7 @@ pub record Notes (N : ℕ) (k : Model) (d : Recorded) : Type 0 where
   pub registrations-is : (d .registrations ≡ k .recorded .registrations) ⊎ (d .registrations ≡ length (k .adds))
   pub places-is : (d .places ≡ k .recorded .places) ⊎ (d .places ≡ watermark N k)
 
+-- each part of each call keeps Q
 pub record Kept (P N W : ℕ) (Q : Model → List ℕ → Type 0) : Type 0 where
   pub placing : (c r : ℕ) (st : List ℕ) (k : Model) → c ≤ length (k .adds) → Inv P N k (r ∷ st) → Q k (r ∷ st) → Q (rest N (place-one P c r k)) (push (off N (place-one P c r k)) st)
   pub setting : (x : ℕ) (k : Model) → Inv P N k [] → answer N W (set x) k ≡ 0 → Q k [] → Q (rest N (with-set x k)) (off N (with-set x k))
@@ -80,6 +81,7 @@ settle-same : (P N c : ℕ) (st : List ℕ) (k : Model) → SameLists (settle-al
 unfolding settle-all
 settle-same P N c st k = cascade-same P N c _ st k
 
+-- set, and add beside its own registration, leave adds and record alone
 pub set-same : (P N x : ℕ) (k : Model) → SameLists (do-set P N x k) k
 unfolding do-set rest keep with-set
 set-same P N x k = settle-same P N (length (k .adds)) (off N (with-set x k)) (rest N (with-set x k))
@@ -161,6 +163,7 @@ module _ (P N W : ℕ) (hP : 1 ≤ P) (Q : Model → List ℕ → Type 0) (κ : 
       (off-inv P N j st (place-one-inv P N c r st k hP v) (push (off N j) st) (push-from (off N j) st))
       (κ .placing c r st k l v q)
 
+  -- placing a whole stack keeps Q
   pub settle-kept : (c : ℕ) (st : List ℕ) (k : Model) → c ≤ length (k .adds) → Inv P N k st → Q k st → Q (settle-all P N c st k) []
   unfolding settle-all
   settle-kept c st k l v q = cascade-kept c _ st k (omega arith) l v q
@@ -193,6 +196,7 @@ module _ (P N W : ℕ) (hP : 1 ≤ P) (Q : Model → List ℕ → Type 0) (κ : 
       let j = with-flush P (k .flushes) true k in
       κ .recording _ (note-flush j) (record-inv P N _ _ [] (flush-inv P N hP k v _ _)) (final-notes N (note-flush j) (flush-notes N j n .many)) (κ .recording _ j (flush-inv P N hP k v _ _) (flush-notes N j n) (κ .closing k v a q))
 
+  -- a call keeps Q, refused or not
   pub step-kept : (c : Call) (k : Model) → Inv P N k [] → Noted k → Q k [] → Q (step P N W c k) []
   unfolding step chosen
   step-kept c k v n q = go (bool-cases (eqb (answer N W c k) 0))
@@ -201,11 +205,13 @@ module _ (P N W : ℕ) (hP : 1 ≤ P) (Q : Model → List ℕ → Type 0) (κ : 
       go (inl e) = rw (e, chosen) (call-kept c k v n (eqb-true (answer N W c k) 0 e) q)
       go (inr e) = rw (e, chosen) q
 
+  -- so does a list of calls
   pub run-kept : (cs : List Call) (k : Model) → Inv P N k [] → Noted k → Q k [] → Q (run P N W cs k) []
   unfolding run
   run-kept [] k v n q = q
   run-kept (c ∷ cs) k v n q = run-kept cs (step P N W c k) (step-inv P N hP k v W c) (step-noted P N k n W c) (step-kept c k v n q)
 
+  -- what a fresh session has and every part keeps, holds after every list of calls
   pub kept : Q initial [] → (cs : List Call) → Q (run P N W cs initial) []
   unfolding initial
   kept q cs = run-kept cs initial (initial-inv P N) refl q

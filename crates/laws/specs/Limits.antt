@@ -66,6 +66,7 @@ module _ (P N W : ℕ) where
         rows = simp length-append (omega (arith, l .rows));
       }
 
+  -- every part of every call keeps the counts
   pub limits-kept : Kept P N W (Limits N W)
   unfolding rest keep with-set place-one with-flush with-record
   limits-kept =
@@ -99,6 +100,7 @@ module _ (P N W : ℕ) where
       go (inl e) = omega arith
       go (inr e) = b i e
 
+  -- and the places
   pub inside-kept : Kept P N W (Inside N)
   unfolding rest keep with-set place-one with-flush with-record reg-of
   inside-kept =

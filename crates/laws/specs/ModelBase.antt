@@ -17,6 +17,7 @@ use Rattle.laws.specs.History.{len}
 use Rattle.laws.specs.Together.{Behind}
 use Rattle.laws.specs.GuideInv.{grow, eq-or-ne}
 
+-- x is in l
 abbrev pub In : ℕ → List ℕ → Type 0
 In x l = List·Memᴰ x l
 
@@ -28,6 +29,7 @@ pub bool-cases : (a : Bool) → (a ≡ true) ⊎ (a ≡ false)
 bool-cases true = inl refl
 bool-cases false = inr refl
 
+-- the test and membership
 pub member-in : (x : ℕ) (l : List ℕ) → member x l ≡ true → In x l
 unfolding member
 member-in x [] h = absurd (false≢true h)
@@ -63,6 +65,7 @@ run-le t (suc f) n = go (bool-cases (t n)) (run-le t f (suc n))
     go (inl e) h = rw (e, run-from) (omega arith)
     go (inr e) h = rw (e, run-from) (omega arith)
 
+-- the watermark is at most V
 pub watermark-le : (N : ℕ) (k : Model) → watermark N k ≤ N
 unfolding watermark
 watermark-le N k = omega (arith, run-le (tracked k) N 0)
@@ -85,6 +88,7 @@ pub watermark-tracked : (N i : ℕ) (k : Model) → i < watermark N k → tracke
 unfolding watermark
 watermark-tracked N i k h = run-true (tracked k) N 0 i (omega arith) h
 
+-- a tracked place is set or has a location
 pub tracked-cases : (k : Model) (i : ℕ) → tracked k i ≡ true → In i (k .sets) ⊎ (marked i (k .located) ≡ true)
 unfolding tracked
 tracked-cases k i h = go (or-cases (member i (k .sets)) (marked i (k .located)) h)
@@ -93,6 +97,7 @@ tracked-cases k i h = go (or-cases (member i (k .sets)) (marked i (k .located)) 
     go (inl e) = inl (member-in i (k .sets) e)
     go (inr e) = inr e
 
+-- no element is greater than the greatest
 pub greatest-ge : (x : ℕ) (l : List ℕ) → In x l → x ≤ greatest l
 unfolding greatest
 greatest-ge x [] h = absurd (List·Memᴰ·not-nil h)
@@ -109,6 +114,7 @@ le-trans-loc (inl a) (inr b) = inl (omega arith)
 le-trans-loc (inr a) (inl b) = inl (omega arith)
 le-trans-loc (inr a) (inr b) = inr (omega arith)
 
+-- the later of two locations is at least each
 pub later-is : (l m : Loc) → Le l (later l m) × Le m (later l m)
 unfolding later
 later-is l m = go (bool-cases (ltb (l .span) (m .span))) (bool-cases (ltb (m .span) (l .span))) (bool-cases (ltb (l .pos) (m .pos)))
@@ -128,6 +134,7 @@ later-is l m = go (bool-cases (ltb (l .span) (m .span))) (bool-cases (ltb (m .sp
         let z = ltb-false (l .pos) (m .pos) c in
         rw (a, b, c, later) (inr (omega arith), inr (omega arith))
 
+-- the greatest location among inputs
 pub top-ge : (ss : List Located) (x : ℕ) (l : List ℕ) → In x l → Le (loc-of ss x) (top ss l)
 unfolding top
 top-ge ss x [] h = absurd (List·Memᴰ·not-nil h)
@@ -191,6 +198,7 @@ marked-append (y ∷ ss) ts x = go (eqb x (y .at)) (marked-append ss ts x)
     go true r = refl
     go false r = r
 
+-- what is located by a placing is an output, at the new location
 pub spotted-in : (l : Loc) (xs : List ℕ) (x : ℕ) → marked x (spotted l xs) ≡ true → In x xs × (loc-of (spotted l xs) x ≡ l)
 unfolding spotted marked loc-of
 spotted-in l [] x h = absurd (false≢true h)
@@ -204,6 +212,7 @@ spotted-in l (y ∷ xs) x h = go (bool-cases (eqb x y)) (λ k. spotted-in l xs x
 abbrev pub no-entry : Item
 no-entry = record { value = 0; added = 0; accepted = 0 }
 
+-- the entry at position q of span s
 unfoldable pub entry-at : List (List Item) → ℕ → ℕ → Item
 entry-at H s q = getD (getD H s []) q no-entry
 
@@ -212,6 +221,7 @@ get-empties zero s = refl
 get-empties (suc n) zero = refl
 get-empties (suc n) (suc s) = get-empties n s
 
+-- empty spans more change nothing
 pub get-extend : (H : List (List Item)) (n s : ℕ) → getD (H ++ replicate n []) s [] ≡ getD H s []
 get-extend [] n s = get-empties n s
 get-extend (l ∷ H) n zero = refl
@@ -269,6 +279,7 @@ in-range [] s q h = absurd (omega arith)
 in-range (l ∷ H) zero q h = omega arith
 in-range (l ∷ H) (suc s) q h = omega (arith, in-range H s q h)
 
+-- with an input, `after` is the greatest location
 pub after-some : (ss : List Located) (i : ℕ) (l : List ℕ) → In i l → after ss l ≡ some (top ss l)
 unfolding after
 after-some ss i [] h = absurd (List·Memᴰ·not-nil h)

@@ -15,6 +15,7 @@ use Rattle.laws.specs.Place.{Step, place-step, place-behind}
 use Rattle.rules.specs.Model.{Recorded, with-record, Reg, Pending, Model, marked, tracked, greatest, loc-of, top, after, spotted, reg-of, place-one}
 use Rattle.laws.specs.ModelBase.{In, bool-cases, tracked-cases, top-ge, top-le, behind-le, loc-of-left, loc-of-right, loc-of-none, marked-append, spotted-in, entry-at, in-range, after-some, Grown, grown, tracked-of}
 
+-- all spans from number 0 on
 abbrev pub hist : Model → List (List Item) → List (List Item)
 hist k past = past ++ k .guide .spans
 
@@ -25,15 +26,19 @@ reg-at k H s q = reg-of k ((entry-at H s q) .added)
 abbrev pub Writes : Model → List (List Item) → Loc → ℕ → Type 0
 Writes k H l i = (l .pos < len H (l .span)) × In i ((reg-at k H (l .span) (l .pos)) .outs)
 
+-- each placed entry reads what was set, or lies behind what writes it
 abbrev pub Reads : Model → List (List Item) → Type 0
 Reads k H = (s q : ℕ) → q < len H s → (i : ℕ) → In i ((reg-at k H s q) .ins) → In i (k .sets) ⊎ ((l : Loc) × Writes k H l i × Behind (l .span) (l .pos) s q)
 
+-- each located place is written by the entry at its location
 abbrev pub Locations : Model → List (List Item) → Type 0
 Locations k H = (i : ℕ) → marked i (k .located) ≡ true → Writes k H (loc-of (k .located) i) i
 
+-- each placed entry is one of an accepted registration
 abbrev pub Known : Model → List (List Item) → Type 0
 Known k H = (s q : ℕ) → q < len H s → (entry-at H s q) .added < length (k .adds)
 
+-- the invariant
 pub record Inv (P N : ℕ) (k : Model) (st : List ℕ) : Type 0 where
   pub past : List (List Item)
   pub core : Core P (k .guide) past
@@ -155,6 +160,7 @@ module _ (P N c r : ℕ) (st : List ℕ) (k : Model) (hP : 1 ≤ P) (v : Inv P N
       go (inl a) = inl a
       go (inr a) = inr (rw (marked-append (k .located), a))
 
+  -- placing the top of the stack keeps it
   pub place-one-inv : Inv P N (place-one P c r k) st
   unfolding next place-one H′ plc ent reg-of
   place-one-inv =

@@ -29,6 +29,7 @@ module _ (φ : ℕ → ℕ) where
   esum-two (e ∷ l) zero (suc r) d i h = omega (arith, esum-at l r d (omega arith))
   esum-two (e ∷ l) (suc q) (suc r) d i h = omega (arith, esum-two l q r d (omega arith) (omega arith))
 
+  -- an entry of the history weighs no more than the history
   pub hsum-at : (H : List (List Item)) (s q : ℕ) → q < len H s → φ ((entry-at H s q) .added) ≤ hsum φ H
   unfolding hsum entry-at
   hsum-at [] s q h = absurd (omega arith)
@@ -49,6 +50,7 @@ module _ (φ : ℕ → ℕ) where
       hsum-two-down x = omega arith
   hsum-two (l ∷ H) (suc s) q (suc t) r h k (inr b) = omega (arith, hsum-two H s q t r h k (inr (omega arith)))
 
+-- the weight of one registration
 unfoldable pub one-of : ℕ → ℕ → ℕ
 one-of r x = elim (eqb r x) [ true ↦ 1 | false ↦ 0 ]
 
@@ -65,6 +67,7 @@ unfolding below
 below-none r zero h = refl
 below-none r (suc n) h = omega (arith, below-none r n (omega arith), one-other r n (omega arith))
 
+-- among the first n it weighs 1 if it is one of them
 pub below-one : (r n : ℕ) → r < n → below (one-of r) n ≡ 1
 unfolding below
 below-one r zero h = absurd (omega arith)

@@ -60,6 +60,7 @@ module _ (P : ℕ) (hP : 1 ≤ P) (g : Guide) (past : List (List Item)) (c : Cor
       let x = order-here s q h i in
       record { s = s; q = q; out = h; within = i; index = e; entry-is = rw e (ap (λ y. y .item) x); width-is = rw e (ap (λ y. y .parallelism) x) }
 
+  -- every index of the order is such a position
   pub order-at : (j : ℕ) → j < length (g .order) → At j
   order-at j h = let l = locate H (length past) j (omega (arith, order-long)) in at-of j (l .0) (l .1) (l .2) (l .3) (l .4)
 

@@ -61,6 +61,7 @@ begin-suc d q ss = go (begin-is d q ss)
     go (inl e) = (d + 1, omega arith)
     go (inr e) = (d, omega arith)
 
+-- what `choose` gives is one of these
 pub chosen : (P : ℕ) (g : Guide) (after : Option Loc) → Chosen P (g .spans) (choose P g after)
 unfolding choose
 chosen P g none = at-one
@@ -92,6 +93,7 @@ found-lands P i g s q h k (inr w) (hit j zero e a b) =
     go (inr x) = inr (omega arith, w)
 found-lands P i g s q h k (inr w) (hit j (suc m) e a b) = inl (omega arith)
 
+-- whatever is chosen lies behind the location that the value is placed after
 pub lands : (P : ℕ) (g : Guide) (l : Loc) → l .span ≤ g .first + 31 → Lands g (l .span) (l .pos) (choose P g (some l))
 unfolding choose
 lands P g l h = go (ltb (l .span) (g .first)) (eqb (l .span - g .first) 31) refl refl
@@ -208,6 +210,7 @@ module _ (P : ℕ) (g : Guide) (past : List (List Item)) (e : Item) (hP : 1 ≤ 
   step-chosen (at-short i h k) = step-existing i (omega (arith, c .window-is)) (inl k)
   step-chosen (anew n h k) = step-opened n h k
 
+  -- a placing does just that
   pub place-step : (after : Option Loc) → Step P g past e (place P after e g)
   unfolding place
   place-step after = step-chosen (chosen P g after)

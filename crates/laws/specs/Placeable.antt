@@ -155,6 +155,7 @@ module _ (P N W : ℕ) (hP : 1 ≤ P) (k : Model) (st : List ℕ) (s : Sound P N
   unfolding entry-at
   window-entry i q = ap (λ (l : List Item). getD l q no-entry) (sym (getD-append-add (s .inv .past) (k .guide .spans) i []))
 
+  -- every sound model fits
   pub fits-of : N ≤ 16777216 → Fits P N k
   fits-of hN =
       record {
@@ -172,6 +173,7 @@ module _ (P N W : ℕ) (hP : 1 ≤ P) (k : Model) (st : List ℕ) (s : Sound P N
         sets-below = s .inside .sets-below;
       }
 
+  -- and has its pending registrations and its stack in order
   pub delays-of : Delays N k st
   delays-of =
       record {

@@ -22,6 +22,7 @@ use Rattle.laws.specs.Ceiling.{Ceiling, ceiling-kept}
 use Rattle.laws.specs.Entries.{Entries, entries-kept, entries-initial}
 use Rattle.laws.specs.Limits.{Limits, limits-kept, limits-initial, Inside, inside-kept, inside-initial}
 
+-- every invariant of a reachable model
 pub record Sound (P N W : ℕ) (k : Model) (st : List ℕ) : Type 0 where
   -- window, order and history; what is placed reads what was set or lies before it; who is on the stack is ready
   pub inv : Inv P N k st
@@ -42,6 +43,7 @@ pub record Sound (P N W : ℕ) (k : Model) (st : List ℕ) : Type 0 where
   pub entries : Entries N k st
 
 module _ (P N W : ℕ) (hP : 1 ≤ P) where
+  -- every part of every call keeps the first of them
   pub inv-kept : Kept P N W (Inv P N)
   inv-kept =
       record {
@@ -109,6 +111,7 @@ module _ (P N W : ℕ) (hP : 1 ≤ P) where
   taken-apart k st s the-inside = s .inside
   taken-apart k st s the-entries = s .entries
 
+  -- and all of them
   pub sound-kept : Kept P N W (Sound P N W)
   sound-kept = equivalent P N W joined taken-apart (every P N W Part Says part-kept)
 
@@ -135,6 +138,7 @@ pub record Between (P N W : ℕ) (k : Model) : Type 0 where
   pub sound : Sound P N W k []
   pub noted : length (k .recorded .written) ≡ length (k .adds)
 
+-- a fresh session
 pub between-initial : (P N W : ℕ) → 1 ≤ P → Between P N W initial
 unfolding initial fresh
 between-initial P N W hP =
@@ -153,10 +157,12 @@ between-initial P N W hP =
       noted = initial-noted;
     }
 
+-- a call, refused or not
 pub between-step : (P N W : ℕ) → 1 ≤ P → (c : Call) (k : Model) → Between P N W k → Between P N W (step P N W c k)
 between-step P N W hP c k b =
     record { sound = step-kept P N W hP (Sound P N W) (sound-kept P N W hP) c k (b .sound .inv) (b .noted) (b .sound); noted = step-noted P N k (b .noted) W c }
 
+-- a list of calls
 pub between-run : (P N W : ℕ) → 1 ≤ P → (cs : List Call) (k : Model) → Between P N W k → Between P N W (run P N W cs k)
 unfolding run
 between-run P N W hP [] k b = b

@@ -14,6 +14,7 @@ abbrev pub Behind : ℕ → ℕ → ℕ → ℕ → Type 0
 Behind s q s′ q′ = (s + 2 ≤ s′) ⊎ ((s′ ≡ s + 1) × (q ≤ q′))
 
 module _ (P : ℕ) (H : List (List Item)) (hP : 1 ≤ P) (cap : (s : ℕ) → len H s ≤ P + 1) where
+  -- the parallelism at position q of span s
   unfoldable pub wide : ℕ → ℕ → ℕ
   wide s q = parallelism P (len H s) (len H (suc s)) q
 
@@ -21,6 +22,7 @@ module _ (P : ℕ) (H : List (List Item)) (hP : 1 ≤ P) (cap : (s : ℕ) → le
   unfolding wide
   wide-flat s q h = width-flat P (len H s) (len H (suc s)) q hP h (cap s)
 
+  -- index plus parallelism never falls
   pub frontier : (s q t r : ℕ) → q < len H s → r < len H t → start H s + q ≤ start H t + r → start H s + q + wide s q ≤ start H t + r + wide t r
   frontier s q t r hq hr h = rw (wide-flat s q hq, wide-flat t r hr) (go (lt-or-le s t) (lt-or-le t s))
     where

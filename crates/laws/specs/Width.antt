@@ -12,6 +12,7 @@ use Rattle.rules.specs.Guide.{parallelism, parallelism-by, last-parallelism}
 unfoldable pub flat : ℕ → ℕ → ℕ → ℕ → ℕ
 flat P a b q = max 1 (min (min P a) (min P a + b - q))
 
+-- the five rules are this one
 pub width-flat : (P a b q : ℕ) → 1 ≤ P → q < a → a ≤ P + 1 → parallelism P a b q ≡ flat P a b q
 unfolding parallelism parallelism-by flat
 width-flat P a b q hP hq ha = go (leb P a) (leb P b) (ltb q b) refl refl refl
@@ -32,6 +33,7 @@ mono-core : (m b q r : ℕ) → q ≤ r → q + max 1 (min m (m + b - q)) ≤ r 
 mono-core m b q r h = omega arith
 
 module _ (P a b q : ℕ) (hP : 1 ≤ P) (hq : q < a) where
+  -- it is from 1 to P
   pub width-pos : 1 ≤ flat P a b q
   unfolding flat
   width-pos = omega arith

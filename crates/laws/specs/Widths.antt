@@ -21,6 +21,7 @@ use Rattle.laws.specs.Entries.{OfSession, order-entry, span-at}
 use Rattle.laws.specs.Sound.{Sound, sound}
 use Rattle.laws.specs.Placeable.{Fits, fits-of, located-span}
 
+-- fits 32 bits, fits 16 bits
 abbrev pub In32 : ℕ → Type 0
 In32 n = n < 4294967296
 
@@ -31,6 +32,7 @@ In16 n = n < 65536
 abbrev pub Item32 : Item → Type 0
 Item32 e = In32 (e .value) × In32 (e .added) × In32 (e .accepted)
 
+-- the widths of document 01
 pub record Widths (P N : ℕ) (k : Model) : Type 0 where
   pub last-span : In32 (k .guide .first + 31)
   pub span-numbers : (x : ℕ) → In32 ((loc-of (k .located) x) .span)
@@ -75,6 +77,7 @@ module _ (P N W : ℕ) (hP : 1 ≤ P) (tP : P ≤ 64999) (hN : N ≤ 16777216) (
   item-fits : (e : Item) → e .added < length (k .adds) → OfSession (length (k .adds)) e → Item32 e
   item-fits e h o = (omega (arith, f .many, o .0), omega (arith, f .many), omega (arith, f .many, o .1))
 
+  -- a sound model's numbers have them
   pub widths : Widths P N k
   widths =
       record {
