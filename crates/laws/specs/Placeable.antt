@@ -1,6 +1,6 @@
 -- What a sound model gives to code that changes storage: numbers fit, there is room, and what is on the stack may be placed.
 -- `Fits` holds of every sound model, `Delays` says the order and distinctness of who waits, `Placeable` is what placing the top of the
--- stack asks. They are consequences of `Sound` for P below 65,000 and V up to 16,777,216.
+-- stack asks. They are consequences of `Sound` for V up to 16,777,216.
 use mathlib.Core.Path.{_≡_, refl, sym, ap}
 use mathlib.Core.List.{List, [], _∷_, _++_, map, List·Memᴰ, List·Memᴰ·head, List·Memᴰ·tail, List·Memᴰ·not-nil}
 use mathlib.Core.Bool.{Bool, true, false, false≢true}
