@@ -5,3 +5,4 @@ pub mod Scan
 pub mod FlagLaws
 pub mod Lists
 pub mod ListLaws
+pub mod Arguments

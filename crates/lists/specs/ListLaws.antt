@@ -1,15 +1,14 @@
 -- Laws of the pool: what is read of a registration is its inputs and outputs, and one registration more extends it. Assumes nothing.
-use mathlib.Core.Path.{_≡_, refl, sym, ap, _∙_, subst}
-use mathlib.Core.Logic.{_⊎_, inl, inr, ⊎-elim}
+use mathlib.Core.Path.{_≡_, refl, sym, ap, _∙_}
+use mathlib.Core.Logic.{_⊎_, inl, inr}
 use mathlib.Core.List.{List, [], _∷_, _++_, append-assoc, append-nil}
-use mathlib.Core.Bool.{Bool, true, false, cond}
-use Prim.Native.Nat.{ℕ, zero, suc, _+_, _-_, _*_, _/_, _%_, _^_, _≤_, _<_}
-use native.Mathlib.Nat.{add-zero}
+use mathlib.Core.Bool.{true, false}
+use Prim.Native.Nat.{ℕ, zero, suc, _+_, _-_, _*_, _/_, _%_, _≤_, _<_}
 use native.Mathlib.Numerals.{add-one}
 use native.Mathlib.Omega.{arith}
 use lib.Dec.{ltb}
 use lib.ListN.{length, getD, set, take, drop, length-append, length-take, length-drop, length-set, take-append-drop, List·getD-append}
-use lib.Seq.{take-at, drop-at, take-append-le, take-all, take-suc, take-length, getD-append-seam, getD-set-same, getD-set-other, paste, paste-zero, paste-suc, take-take, length-take-le}
+use lib.Seq.{take-at, drop-at, take-append-le, take-all, take-suc, take-length, getD-append-seam, getD-set-same, getD-set-other, paste, paste-zero, paste-suc, length-take-le}
 use borrow.Author.Tests.{ltb-true, ltb-false}
 use Rattle.rules.specs.Model.{Reg, Model, reg-of}
 use Rattle.rules.specs.Checks.{pooled}

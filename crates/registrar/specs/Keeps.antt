@@ -2,21 +2,21 @@
 -- advancing after a set and after a placing; and that only the first two quarters matter. Assumes nothing.
 use mathlib.Core.Path.{_≡_, refl, sym, _∙_, ap, subst}
 use mathlib.Core.Logic.{_⊎_, inl, inr, ⊎-elim}
-use mathlib.Core.List.{List, [], _∷_, _++_, List·Memᴰ, List·Memᴰ·head, List·Memᴰ·tail, List·Memᴰ·not-nil}
-use mathlib.Core.Bool.{Bool, true, false, cond}
-use Prim.Native.Nat.{ℕ, zero, suc, _+_, _-_, _*_, _≤_, _<_}
-use native.Mathlib.Nat.{suc-ne-zero, suc-inj}
+use mathlib.Core.List.{List, [], _∷_, _++_, List·Memᴰ, List·Memᴰ·not-nil}
+use mathlib.Core.Bool.{cond}
+use Prim.Native.Nat.{ℕ, suc, _+_, _-_, _*_, _≤_, _<_}
+use native.Mathlib.Nat.{suc-ne-zero}
 use native.Mathlib.Numerals.{add-one}
 use native.Mathlib.Omega.{arith}
 use lib.Dec.{eqb}
-use lib.ListN.{length, getD, set, take, drop, length-set}
+use lib.ListN.{length, getD, set, take, length-set}
 use lib.Seq.{getD-set-same, getD-set-other, getD-take, drop-set-lt}
 use borrow.Author.Tests.{eq-eqb, ne-eqb}
 use Rattle.rules.specs.Model.{Pending, due, left, queue, push}
-use Rattle.registrar.specs.Delayed.{newest, occurs, pends, Sorted, Chain, Linked, Delayed, Later, Joins, Stacks, LinksOnly, relinked, top-of, spliced, head-of, last-of, Chained, Oldest, Splices, Advancing, AdvancesSet, AdvancesPlaced}
-use Rattle.registrar.specs.Queue.{From, lt-or-le, eq-or-ne, push-append, push-onto, push-twice, due-none, left-all, due-split, left-split, left-in, left-sorted, left-from, newest-none, newest-left, newest-due, down, down-due, occurs-append, occurs-push, pends-split, newest-pends, newest-apart, queue-in, queue-pends, queue-sorted, queue-newest, queue-others, pends-none}
+use Rattle.registrar.specs.Delayed.{newest, occurs, pends, Chain, Linked, Delayed, Later, Joins, Stacks, LinksOnly, relinked, top-of, spliced, head-of, last-of, Chained, Oldest, Splices, Advancing, AdvancesSet, AdvancesPlaced}
+use Rattle.registrar.specs.Queue.{From, lt-or-le, eq-or-ne, push-append, push-onto, push-twice, due-none, left-all, due-split, left-split, left-in, left-sorted, left-from, newest-left, newest-due, down, down-due, occurs-push, pends-split, newest-pends, newest-apart, queue-in, queue-pends, queue-sorted, queue-newest, queue-others, pends-none}
 use Rattle.registrar.specs.Chains.{In, in-occurs, chain-same, linked-same, chain-frame, linked-frame, chain-below, chain-bound, links-set, links-refl, links-trans, chain-turn, head-turn, length-turn, links-turn, linked-turn, splice-linked, chain-splice, head-splice, length-splice, links-splice, last-in}
-use Rattle.registrar.specs.Loops.{Places}
+use Rattle.registrar.specs.Loops.{ChainsAt}
 
 -- where all heads are 0 nothing is delayed
 pub delayed-open : (w : List ℕ) (v : ℕ) → 4 * v ≤ length w → ((p : ℕ) → p < v → getD w p 0 ≡ 0) → Delayed w v 0 [] 0 []
@@ -217,7 +217,7 @@ in-down Q ch lo (suc n) all r h =
     ⊎-elim (λ k. all (lo + n) r (omega arith) (omega arith) k) (λ k. in-down Q ch lo n (λ p q a b. all p q a (omega arith)) r k) (in-append r (ch (lo + n)) (down ch lo n) h)
 
 -- the chains of the places below hi
-places-of : (w : List ℕ) (v lo hi : ℕ) (ps : List Pending) (top : ℕ) (st : List ℕ) → Delayed w v lo ps top st → hi ≤ v → Places w v lo hi (λ q. newest q ps)
+places-of : (w : List ℕ) (v lo hi : ℕ) (ps : List Pending) (top : ℕ) (st : List ℕ) → Delayed w v lo ps top st → hi ≤ v → ChainsAt w v lo hi (λ q. newest q ps)
 places-of w v lo hi ps top st d high =
     record {
       long = d .long;
@@ -275,7 +275,7 @@ module _ (w : List ℕ) (v lo hi : ℕ) (ps : List Pending) (d : Delayed w v lo 
   pub set-links : LinksOnly w v (relinked w v 0 chains-down)
   set-links = links-turn chains-down w v 0 down-below
 
-  set-places : Places w v lo hi (λ q. newest q ps)
+  set-places : ChainsAt w v lo hi (λ q. newest q ps)
   set-places = places-of w v lo hi ps 0 [] d high
 
 -- ---- the promises of delay, stack and splice
@@ -362,7 +362,7 @@ placing-end w₀ v lo hi top₀ w p top g e =
 -- ---- the loop of advance_set
 
 pub set-advances : (w : List ℕ) (v lo hi : ℕ) (a : Advancing w v lo hi 0) (t : ℕ) (w′ : List ℕ)
-    → ((ch : ℕ → List ℕ) → Places w v lo hi ch → (t ≡ top-of 0 (down ch lo (hi - lo))) × (w′ ≡ relinked w v 0 (down ch lo (hi - lo)))) → AdvancesSet w v lo hi t w′
+    → ((ch : ℕ → List ℕ) → ChainsAt w v lo hi ch → (t ≡ top-of 0 (down ch lo (hi - lo))) × (w′ ≡ relinked w v 0 (down ch lo (hi - lo)))) → AdvancesSet w v lo hi t w′
 set-advances w v lo hi a t w′ h = record { delayed = λ ps d. go ps d; kept = links }
   where
     go : (ps : List Pending) → Delayed w v lo ps 0 [] → Delayed w′ v hi (left hi ps) t (due hi ps)
@@ -375,5 +375,5 @@ set-advances w v lo hi a t w′ h = record { delayed = λ ps d. go ps d; kept = 
         rw (k .1) (set-links w v lo hi (a .ps) d (a .order) (a .high))
 
 -- the chains of a caller's delayed registrations
-pub advancing-places : (w : List ℕ) (v lo hi top : ℕ) (a : Advancing w v lo hi top) → Places w v lo hi (λ q. newest q (a .ps))
+pub advancing-places : (w : List ℕ) (v lo hi top : ℕ) (a : Advancing w v lo hi top) → ChainsAt w v lo hi (λ q. newest q (a .ps))
 advancing-places w v lo hi top a = places-of w v lo hi (a .ps) top (a .st) (a .delayed) (a .high)

@@ -1,9 +1,8 @@
 -- Laws for the loops of this crate, each by what remains to be done: turning one chain round, turning the chains of several places, and
 -- the walk to a chain's oldest. Assumes nothing.
 use mathlib.Core.Path.{_≡_, refl, sym, _∙_, ap, subst}
-use mathlib.Core.Logic.{_⊎_, inl, inr, ⊎-elim}
 use mathlib.Core.List.{List, [], _∷_, _++_}
-use Prim.Native.Nat.{ℕ, zero, suc, _+_, _-_, _*_, _≤_, _<_}
+use Prim.Native.Nat.{ℕ, suc, _+_, _-_, _*_, _≤_, _<_}
 use native.Mathlib.Nat.{suc-ne-zero}
 use native.Mathlib.Omega.{arith}
 use lib.ListN.{length, getD, set, length-set}
@@ -65,14 +64,14 @@ turn-end w₀ v from onto w h top t z = record { turned = λ l c. rw (chain-uniq
 -- ---- the chains of the places from lo to hi
 
 -- each place from lo to hi has its chain, and no registration is in two
-pub record Places (w : List ℕ) (v lo hi : ℕ) (ch : ℕ → List ℕ) : Type 0 where
+pub record ChainsAt (w : List ℕ) (v lo hi : ℕ) (ch : ℕ → List ℕ) : Type 0 where
   pub long : 4 * v ≤ length w
   pub high : hi ≤ v
   pub at : (p : ℕ) → lo ≤ p → p < hi → Chain w v v (getD w p 0) (ch p)
   pub apart : (p q r : ℕ) → p < hi → q < hi → In r (ch p) → In r (ch q) → p ≡ q
 
 -- the last place's chain is taken off
-places-less : (w : List ℕ) (v lo p t : ℕ) (ch : ℕ → List ℕ) → Places w v lo (p + 1) ch → Places (relinked w v t (ch p)) v lo p ch
+places-less : (w : List ℕ) (v lo p t : ℕ) (ch : ℕ → List ℕ) → ChainsAt w v lo (p + 1) ch → ChainsAt (relinked w v t (ch p)) v lo p ch
 places-less w v lo p t ch s =
     record {
       long = rw (length-turn (ch p) w v t) (s .long);
@@ -87,7 +86,7 @@ places-less w v lo p t ch s =
 -- what is left to do, and what it comes to
 pub record Going (w₀ : List ℕ) (v lo hi onto : ℕ) (ch : ℕ → List ℕ) (w : List ℕ) (p top : ℕ) : Type 0 where
   pub low : lo ≤ p
-  pub left : Places w v lo p ch
+  pub left : ChainsAt w v lo p ch
   pub tops : top-of top (down ch lo (p - lo)) ≡ top-of onto (down ch lo (hi - lo))
   pub links : relinked w v top (down ch lo (p - lo)) ≡ relinked w₀ v onto (down ch lo (hi - lo))
 
@@ -104,7 +103,7 @@ going-more w₀ v lo hi onto ch w p top w′ top′ g l ew et =
       links = rw (ew, et) (sym (relinked-append (ch p) (down ch lo (p - lo)) w v top) ∙ sym (ap (relinked w v top) d) ∙ g .links);
     }
 
-pub going-start : (w : List ℕ) (v lo hi onto : ℕ) (ch : ℕ → List ℕ) → lo ≤ hi → Places w v lo hi ch → Going w v lo hi onto ch w hi onto
+pub going-start : (w : List ℕ) (v lo hi onto : ℕ) (ch : ℕ → List ℕ) → lo ≤ hi → ChainsAt w v lo hi ch → Going w v lo hi onto ch w hi onto
 going-start w v lo hi onto ch l s = record { low = l; left = s; tops = refl; links = refl }
 
 pub going-end : (w₀ : List ℕ) (v lo hi onto : ℕ) (ch : ℕ → List ℕ) (w : List ℕ) (p top : ℕ) → Going w₀ v lo hi onto ch w p top → p ≤ lo

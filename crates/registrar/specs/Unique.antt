@@ -1,14 +1,14 @@
 -- The delayed registrations and the stack are read from storage in one way only, so those that storage holds are the model's.
 -- Assumes nothing.
 use mathlib.Core.Path.{_≡_, refl, sym, _∙_, ap}
-use mathlib.Core.Logic.{_⊎_, inl, inr, ⊎-elim}
+use mathlib.Core.Logic.{_⊎_, inl, inr}
 use mathlib.Core.List.{List, [], _∷_, _++_, List·Memᴰ, List·Memᴰ·head}
-use Prim.Native.Nat.{ℕ, zero, suc, _+_, _-_, _*_, _≤_, _<_}
+use Prim.Native.Nat.{ℕ, zero, suc, _+_, _-_, _≤_, _<_}
 use native.Mathlib.Omega.{arith}
 use lib.ListN.{getD}
 use Rattle.rules.specs.Model.{Pending, left}
 use Rattle.registrar.specs.Delayed.{newest, Sorted, Delayed}
-use Rattle.registrar.specs.Queue.{From, from-tail, lt-or-le, eq-or-ne, left-in, left-sorted, left-from, newest-left, newest-none, newest-same, left-more, left-stop, sorted-from}
+use Rattle.registrar.specs.Queue.{From, from-tail, eq-or-ne, left-in, left-sorted, left-from, newest-left, newest-none, newest-same, left-more, left-stop, sorted-from}
 use Rattle.registrar.specs.Chains.{chain-unique, linked-unique}
 
 -- a chain of place p, newest first, put in front of others

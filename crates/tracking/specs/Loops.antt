@@ -1,14 +1,13 @@
 -- Laws for the loops of this crate, each by what remains to be done: the greatest location, the stamping, the run of tracked places.
 -- Assumes nothing.
 use mathlib.Core.Path.{_≡_, refl, sym, ap, _∙_}
-use mathlib.Core.List.{List, [], _∷_, _++_}
+use mathlib.Core.List.{List}
 use mathlib.Core.Bool.{Bool, true, false}
 use mathlib.Core.Logic.{_⊎_, inl, inr}
-use Prim.Native.Nat.{ℕ, zero, suc, _+_, _*_, _-_, _≤_, _<_, max}
+use Prim.Native.Nat.{ℕ, zero, suc, _+_, _-_, _≤_, _<_, max}
 use native.Mathlib.Nat.{add-zero, sub-zero, zero-add}
 use native.Mathlib.Omega.{arith}
-use lib.ListN.{length, getD, set, take, drop, length-set}
-use lib.Seq.{drop-cons}
+use lib.ListN.{length, getD, set}
 use Rattle.rules.specs.Model.{run-from}
 use Rattle.lists.specs.Part.{part, part-step, part-end, part-begin}
 use Rattle.tracking.specs.Tracking.{peak, stamped, nz}

@@ -13,7 +13,7 @@ use lib.Seq.{getD-set-same, getD-set-other, drop-set-lt}
 use borrow.Author.Tests.{ltb-true, ltb-false, eq-eqb, ne-eqb}
 use Rattle.rules.specs.Guide.{Loc, origin}
 use Rattle.rules.specs.Model.{Located, Model, member, marked, tracked, run-from, watermark, loc-of, later, top, spotted}
-use Rattle.laws.specs.ModelBase.{bool-cases, or-cases, loc-of-left, loc-of-right, marked-append}
+use Rattle.laws.specs.ModelBase.{bool-cases, loc-of-left, loc-of-right, marked-append}
 use Rattle.lists.specs.Part.{Below}
 use Rattle.tracking.specs.Tracking.{peak, stamped, nz, tracked-in}
 

@@ -8,12 +8,12 @@ use borrow.Author.Needs.{needs}
 use native.Mathlib.Omega.{arith}
 use Rattle.registrar.specs.Delayed.{newest}
 use Rattle.registrar.specs.Keeps.{advancing-places, set-advances}
-use Rattle.registrar.specs.Loops.{Places, Going, going-start, going-next, going-chain, going-chained, going-in, going-long, going-end}
+use Rattle.registrar.specs.Loops.{ChainsAt, Going, going-start, going-next, going-chain, going-chained, going-in, going-long, going-end}
 use Rattle.registrar.proofs.advance_set.Statement.{statement}
 use Rattle.registrar.proofs.advance_set.Tie as tie
 
 abbrev Inv-loop : tie.InvT-loop
-Inv-loop w₀ v lo hi p₀ top₀ w p top = (lo ≤ p) × (length w ≡ length w₀) × ((ch : ℕ → List ℕ) → Places w₀ v lo hi ch → Going w₀ v lo hi 0 ch w p top)
+Inv-loop w₀ v lo hi p₀ top₀ w p top = (lo ≤ p) × (length w ≡ length w₀) × ((ch : ℕ → List ℕ) → ChainsAt w₀ v lo hi ch → Going w₀ v lo hi 0 ch w p top)
 
 abbrev μ-loop : tie.MeasureT-loop
 μ-loop w₀ v lo hi p₀ top₀ w p top = p
