@@ -1,0 +1,64 @@
+-- The claim about every list of requests: a chain of requests, each made on state and storage as the one before left them, refused or not,
+-- leaves the guide alone of `rules` after that list, and the numbers are those of `rules`. Assumes nothing.
+use mathlib.Core.Path.{_≡_, refl, _∙_}
+use mathlib.Core.List.{List, [], _∷_, map}
+use Prim.Native.Nat.{ℕ}
+use Rattle.rules.specs.Alone.{Alone as AloneModel, alone, Request, serve-step, serve-all, replies}
+use Rattle.placing.specs.Frame.{Frame, frame-refl, frame-trans}
+use Rattle.alone.specs.declared.Alone.{Alone}
+use Rattle.alone.specs.declared.Reply.{Reply}
+use Rattle.alone.specs.Held.{model, number}
+use Rattle.alone.specs.Served.{Served}
+use Rattle.alone.specs.Opening.{Opens}
+
+-- from x, s, o, t the requests lead with these replies to y, s′, o′, t′
+pub data Chain : Alone → List ℕ → List ℕ → List ℕ → List Request → List Reply → Alone → List ℕ → List ℕ → List ℕ → Type 0 where
+  end : {x : Alone} {s o t : List ℕ} → Chain x s o t [] [] x s o t
+  next : {x x′ y : Alone} {s o t s′ o′ t′ s″ o″ t″ : List ℕ} {q : Request} {qs : List Request} {r : Reply} {rs : List Reply}
+      → Served q x x′ s o t s′ o′ t′ r → Chain x′ s′ o′ t′ qs rs y s″ o″ t″ → Chain x s o t (q ∷ qs) (r ∷ rs) y s″ o″ t″
+
+-- what a chain amounts to
+pub record Linked (x y : Alone) (s o t s′ o′ t′ : List ℕ) (qs : List Request) (rs : List Reply) : Type 0 where
+  pub is : model y s′ o′ ≡ serve-all (x .guide .p) (x .guide .v) qs (model x s o)
+  pub numbers : map number rs ≡ replies (x .guide .p) (x .guide .v) qs (model x s o)
+  pub same-p : y .guide .p ≡ x .guide .p
+  pub same-v : y .guide .v ≡ x .guide .v
+  pub frame : Frame (x .guide .p) (x .guide .written) (y .guide .written) s o t s′ o′ t′
+
+one-more : (P N Q M : ℕ) (q : Request) (qs : List Request) (a b : AloneModel) → Q ≡ P → M ≡ N → b ≡ serve-step P N q a
+    → (serve-all Q M qs b ≡ serve-all P N (q ∷ qs) a) × (replies Q M qs b ≡ replies P N qs (serve-step P N q a))
+unfolding serve-all
+one-more P N Q M q qs a b e f g = (rw (e, f, g), rw (e, f, g))
+
+ap2 : {n m : ℕ} {l k : List ℕ} → n ≡ m → l ≡ k → (n ∷ l) ≡ (m ∷ k)
+ap2 e f = rw (e, f)
+
+named : {A : Type 0} (P Q N M : ℕ) (a b : AloneModel) → P ≡ Q → N ≡ M → a ≡ b → (f : ℕ → ℕ → AloneModel → A) → f P N a ≡ f Q M b
+named P Q N M a b e g h f = rw (e, g, h)
+
+reframe : {p p′ n n′ : ℕ} {s o t s′ o′ t′ : List ℕ} → p′ ≡ p → Frame p′ n n′ s o t s′ o′ t′ → Frame p n n′ s o t s′ o′ t′
+reframe e f = rw e at f
+
+pub linked : {x y : Alone} {s o t s′ o′ t′ : List ℕ} {qs : List Request} {rs : List Reply} → Chain x s o t qs rs y s′ o′ t′ → Linked x y s o t s′ o′ t′ qs rs
+unfolding serve-all replies
+linked {x} {s = s} {o = o} {t = t} end = record { is = refl; numbers = refl; same-p = refl; same-v = refl; frame = frame-refl (x .guide .p) (x .guide .written) s o t }
+linked {x} {s = s} {o = o} (next {q = q} {qs = qs} c rest) =
+    let l = linked rest in
+    let m = one-more (x .guide .p) (x .guide .v) _ _ q qs (model x s o) _ (c .same-p) (c .same-v) (c .is) in
+    record {
+      is = l .is ∙ m .0;
+      numbers = ap2 (c .number-is) (l .numbers ∙ m .1);
+      same-p = l .same-p ∙ c .same-p;
+      same-v = l .same-v ∙ c .same-v;
+      frame = frame-trans (c .frame) (reframe (c .same-p) (l .frame));
+    }
+
+-- from an accepted opening: after every list of requests the guide is the definition's, and so is each number
+pub after-every-list : (p v : ℕ) {x y : Alone} {s o t t₀ s′ o′ t′ : List ℕ} {qs : List Request} {rs : List Reply}
+    → Opens p v 0 x s o t₀ t → Chain x s o t qs rs y s′ o′ t′
+    → (model y s′ o′ ≡ serve-all p v qs alone) × (map number rs ≡ replies p v qs alone)
+after-every-list p v {x} {s = s} {o = o} {qs = qs} a c =
+    let l = linked c in (
+      l .is ∙ named (x .guide .p) p (x .guide .v) v (model x s o) alone (a .p-is) (a .v-is) (a .is refl) (λ P N b. serve-all P N qs b),
+      l .numbers ∙ named (x .guide .p) p (x .guide .v) v (model x s o) alone (a .p-is) (a .v-is) (a .is refl) (λ P N b. replies P N qs b),
+    )

@@ -1,0 +1,33 @@
+-- What the state and the storage of the guide alone stand for: `model`, the guide alone of `rules`; and `Held`, that they are as the calls
+-- before left them. `open` gives it, and push and flush keep it. Assumes nothing.
+use mathlib.Core.List.{List}
+use mathlib.Core.Option.{Option, some, none}
+use Prim.Native.Nat.{ℕ}
+use Rattle.rules.specs.Guide.{Loc}
+use Rattle.rules.specs.Alone.{Alone as AloneModel}
+use Rattle.laws.specs.Alone.{AloneSound}
+use Rattle.buffer.specs.View.{view}
+use Rattle.placing.specs.Stands.{Stands}
+use Rattle.alone.specs.declared.Alone.{Alone}
+use Rattle.alone.specs.declared.Reply.{Reply}
+use Rattle.alone.specs.declared.Reply.the-variants.{At, Released, Rejected}
+
+unfoldable pub model : Alone → List ℕ → List ℕ → AloneModel
+model x s o = record { guide = view (x .guide) s o; pushes = x .pushes }
+
+-- the storage stands, and its model has what every guide alone has after its requests
+pub record Held (x : Alone) (s o t : List ℕ) : Type 0 where
+  pub stands : Stands (x .guide) s o t
+  pub sound : AloneSound (x .guide .p) (x .guide .v) (model x s o)
+
+-- document 01's number for each case of a reply: 0 where the request was accepted
+unfoldable pub number : Reply → ℕ
+number (At span pos) = 0
+number Released = 0
+number (Rejected n) = n
+
+-- and its values: the location that a push was given
+unfoldable pub given : Reply → Option Loc
+given (At span pos) = some (record { span = span; pos = pos })
+given Released = none
+given (Rejected n) = none
