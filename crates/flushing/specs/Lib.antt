@@ -1,0 +1,2 @@
+-- What a flush does to a session and its storage.
+pub mod Released
