@@ -1,0 +1,68 @@
+-- Line 1 has P and line 2 has V. Assumes nothing.
+use native.Mathlib.Omega.{arith}
+use Rattle.jobcalls.specs.Laws.{no-line-1, no-line-2, the-head}
+use mathlib.Core.Path.{sym, _∙_}
+use borrow.Author.Needs.{needs}
+use Rattle.jobcalls.proofs.read_head.Statement.{statement}
+use Rattle.jobcalls.proofs.read_head.Tie as tie
+
+line-at-requires : tie.Need-line-at-requires
+line-at-requires c κs = search needs
+
+parallelism-requires : tie.Need-parallelism-requires
+parallelism-requires c κs = search needs
+
+enum-known-x : tie.Need-enum-known-x
+enum-known-x c = search needs
+
+enum-told : tie.Need-enum-told
+enum-told c = search needs
+
+same-length : tie.Need-same-length
+same-length c = search needs
+
+returns : tie.Need-returns
+returns c = no-line-1 (c .before .before .before .before .before .line-at .ensures) (sym (c .before .before .parallelism .ensures) ∙ c .enum-told .given .1)
+
+line-at-requires-2 : tie.Need-line-at-requires-2
+line-at-requires-2 c κs = (c .before .before .before .before .before .before .before .line-at .ensures .within, omega (arith, c .before .before .before .before .before .before .before .before .before .before .before .pre, c .before .before .before .before .before .before .before .line-at .kept .1 .1 .0))
+
+places-requires : tie.Need-places-requires
+places-requires c κs = search needs
+
+enum-known-y : tie.Need-enum-known-y
+enum-known-y c = search needs
+
+enum-told-2 : tie.Need-enum-told-2
+enum-told-2 c = search needs
+
+same-length-2 : tie.Need-same-length-2
+same-length-2 c = search needs
+
+returns-2 : tie.Need-returns-2
+returns-2 c = no-line-2 (c .before .before .before .before .before .before .before .before .before .before .before .before .before .line-at .ensures) _ (sym (c .before .before .before .before .before .before .before .before .before .before .parallelism .ensures) ∙ c .before .before .before .before .before .before .before .before .x .given .1) (c .before .before .before .before .before .line-at2 .ensures) (sym (c .before .before .places .ensures) ∙ c .enum-told2 .given .1)
+
+same-length-3 : tie.Need-same-length-3
+same-length-3 c = search needs
+
+returns-3 : tie.Need-returns-3
+returns-3 c = the-head (c .before .before .before .before .before .before .before .before .before .before .before .before .before .before .line-at .ensures) _ (sym (c .before .before .before .before .before .before .before .before .before .before .before .parallelism .ensures) ∙ c .before .before .before .before .before .before .before .before .before .x .given .1) (c .before .before .before .before .before .before .line-at2 .ensures) _ (sym (c .before .before .before .places .ensures) ∙ c .before .y .given .1)
+
+pub read-head-spec : {M : Type 1} → statement M
+read-head-spec =
+    tie.close
+    (tie.spec
+    line-at-requires
+    parallelism-requires
+    enum-known-x
+    enum-told
+    same-length
+    returns
+    line-at-requires-2
+    places-requires
+    enum-known-y
+    enum-told-2
+    same-length-2
+    returns-2
+    same-length-3
+    returns-3)
