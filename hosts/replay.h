@@ -1,0 +1,57 @@
+/* The exported call of crate `replay`: a whole list of calls on a freshly opened session.
+   `rt staticlib replay` proves it and writes target/staticlib/libreplay.a; hosts/replay_example.c
+   shows a call. docs/REPLAY.md describes the encoding of the calls. */
+#ifndef REPLAY_H
+#define REPLAY_H
+
+#include <stddef.h>
+#include <stdint.h>
+
+#ifdef __cplusplus
+extern "C" {
+#endif
+
+/* What a session of parallelism P (1 to 64,999) over V places (1 to 16,777,216) needs, in numbers.
+   The pool may have any length: it bounds the input and output numbers of all accepted adds. */
+#define REPLAY_SPANS(p) ((size_t)128 * ((size_t)(p) + 1))
+#define REPLAY_ORDER(v) ((size_t)4 * (size_t)(v))
+#define REPLAY_TALLY(p) ((size_t)(p) + 1)
+#define REPLAY_ROWS(v) ((size_t)5 * (size_t)(v))
+#define REPLAY_MARKS(v) ((size_t)(v))
+#define REPLAY_LOCATIONS(v) ((size_t)(v))
+#define REPLAY_WAITING(v) ((size_t)4 * (size_t)(v))
+
+/* Marks of a place. */
+#define REPLAY_UNTRACKED 0
+#define REPLAY_WRITTEN 32768
+#define REPLAY_SET 49152
+
+/* Opens a session on the lent storage, whose contents before do not matter, and makes all calls.
+   Each slice is a pointer and a count of numbers; slices do not overlap, and no pointer is null,
+   also where the count is 0. Returns 64 times the order's length in entries, or the number of a
+   refusal, and then nothing was written: 15 for a malformed list of calls, 1 for a P or V out of
+   range, 2 for a slice that is too short.
+
+   spans, waiting, pool   the session's own
+   order                  4 numbers an entry: value, added, accepted, parallelism
+   tally                  how many entries have the parallelism 0, 1, .. P
+   rows                   5 numbers a registration: added, accepted, written, order index, parallelism
+   marks, locations       for each place; a location is its span number * 2^32 + its position
+   answers                the number of each call, 0 if it was accepted; one for each call is needed */
+uint64_t replay_calls(uint32_t *spans, size_t spans_count,
+                      uint32_t *order, size_t order_count,
+                      uint32_t *tally, size_t tally_count,
+                      uint32_t *rows, size_t rows_count,
+                      uint16_t *marks, size_t marks_count,
+                      uint64_t *locations, size_t locations_count,
+                      uint64_t *waiting, size_t waiting_count,
+                      uint32_t *pool, size_t pool_count,
+                      uint64_t *answers, size_t answers_count,
+                      const uint64_t *calls, size_t calls_count,
+                      uint64_t p, uint64_t v);
+
+#ifdef __cplusplus
+}
+#endif
+
+#endif

@@ -1,0 +1,50 @@
+/* One call of replay_calls: the job J1 of document 01, its order printed.
+
+       rt staticlib replay
+       gcc -Ihosts hosts/replay_example.c target/staticlib/libreplay.a -o replay_example */
+#include <inttypes.h>
+#include <stdio.h>
+
+#include "replay.h"
+
+#define P 2
+#define V 6
+#define W 16
+
+int main(void) {
+    static uint32_t spans[REPLAY_SPANS(P)], order[REPLAY_ORDER(V)], tally[REPLAY_TALLY(P)];
+    static uint32_t rows[REPLAY_ROWS(V)], pool[W];
+    static uint16_t marks[REPLAY_MARKS(V)];
+    static uint64_t locations[REPLAY_LOCATIONS(V)], waiting[REPLAY_WAITING(V)];
+
+    static const uint64_t calls[] = {
+        1, 0,          /* set 0 */
+        2, 1, 0, 1, 1, /* add, input 0, output 1 */
+        2, 1, 1, 1, 2, /* add, input 1, output 2 */
+        2, 1, 0, 1, 3, /* add, input 0, output 3 */
+        2, 0, 1, 4,    /* add, no input, output 4 */
+        4,             /* final */
+    };
+    uint64_t answers[6];
+
+    uint64_t returned = replay_calls(
+        spans, REPLAY_SPANS(P), order, REPLAY_ORDER(V), tally, REPLAY_TALLY(P),
+        rows, REPLAY_ROWS(V), marks, REPLAY_MARKS(V), locations, REPLAY_LOCATIONS(V),
+        waiting, REPLAY_WAITING(V), pool, W, answers, sizeof answers / sizeof *answers,
+        calls, sizeof calls / sizeof *calls, P, V);
+
+    if (returned % 64 != 0) {
+        printf("refused=%" PRIu64 "\n", returned);
+        return 1;
+    }
+    for (size_t i = 0; i < sizeof answers / sizeof *answers; i++)
+        if (answers[i] != 0)
+            printf("call=%zu refused=%" PRIu64 "\n", i, answers[i]);
+    for (uint64_t i = 0; i < returned / 64; i++) {
+        const uint32_t *entry = order + 4 * i;
+        printf("order=%" PRIu64 " added=%" PRIu32 " accepted=%" PRIu32 " parallelism=%" PRIu32
+               " written=%" PRIu32 "\n",
+               i, entry[1], entry[2], entry[3], rows[5 * entry[1] + 2]);
+    }
+    return 0;
+}

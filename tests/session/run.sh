@@ -1,0 +1,86 @@
+#!/bin/bash
+# Holds the exported call of crate `replay` to the kept sample of the Rust's answers, to the hand-worked
+# cases and to the reference model, and, where the Rust is at hand, to the oracle.
+#
+#   tests/session/run.sh           the short form
+#   tests/session/run.sh --long    more than 100,000 lists and two million calls
+#
+# SESSION_SEED chooses the random lists (default 1). SESSION_LIBRARY names a library to link instead of
+# the one that `rt staticlib replay` proves and writes.
+set -euo pipefail
+cd "$(dirname "$0")/../.."
+
+fail() { echo "tests/session/run.sh: $*" >&2; exit 1; }
+case "${1:-}" in
+  '') random=4000 shapes=500 refused=2000 ;;
+  --long) random=60000 shapes=20000 refused=50000 ;;
+  *) fail "unknown option $1" ;;
+esac
+seed=${SESSION_SEED:-1}
+
+library=${SESSION_LIBRARY:-target/staticlib/libreplay.a}
+if [ -z "${SESSION_LIBRARY:-}" ]; then
+  if ! grep -q '^replay:' crates.txt; then
+    echo "session: crates.txt has no crate replay: NOTHING is compared"
+    exit 0
+  fi
+  rt staticlib replay
+fi
+library=$(realpath "$library")
+path=-Wl,-rpath,$(dirname "$library")
+
+work=target/session
+mkdir -p $work target/reference
+reference=target/reference/reference
+newest=$(ls -t tests/reference/*.rs $reference 2>/dev/null | head -n 1) || true
+[ "$newest" = $reference ] || rustc --edition 2021 -O -o $reference tests/reference/main.rs &
+rustc --edition 2021 -O -C link-arg="$library" -C link-arg="$path" -o $work/session tests/session/main.rs
+wait $! || fail "the reference model is not built"
+
+if [ -d "${ORACLE_SOURCE:-../shared/docs/src}" ]; then
+  oracle/build.sh
+  answer() { target/oracle/oracle; }
+  by="the Rust"
+else
+  echo "session: no Rust source at ${ORACLE_SOURCE:-../shared/docs/src}: NOT compared with the Rust"
+  answer() { $reference runs; }
+  by="the model"
+fi
+
+# told NAME: the runs with answers on standard input, by `replay_calls`.
+told() {
+  echo "session: $1"
+  $work/session runs
+}
+
+# A program in C makes one call, J1 of document 01.
+gcc -std=c11 -Wall -Wextra -Werror -O2 -Ihosts hosts/replay_example.c "$library" "$path" -o $work/example
+$work/example | diff - <(printf '%s\n' \
+  'order=0 added=0 accepted=0 parallelism=2 written=0' \
+  'order=1 added=2 accepted=2 parallelism=2 written=0' \
+  'order=2 added=1 accepted=1 parallelism=2 written=0' \
+  'order=3 added=3 accepted=3 parallelism=1 written=4') || fail "the program in C prints something else"
+echo "session: J1 from C: as document 01 prints it"
+
+# Two at a time: what the other program answers, and what the model answers.
+{
+  cat oracle/sample/placements.txt oracle/sample/sessions.txt | told "the kept sample of the Rust's answers"
+  $reference exhaustive session | answer | told "all short lists, answered by $by"
+} >$work/first.out 2>&1 &
+first=$!
+trap 'kill $first 2>/dev/null || true' EXIT
+{
+  python3 tests/session/hand_worked.py | told "the hand-worked cases"
+  echo "session: openings"
+  $work/session openings
+  echo "session: limits"
+  timeout 300 $work/session limits
+  $reference random session "$seed" $random | answer | told "random lists, answered by $by"
+  $work/session shapes "$seed" $shapes | answer | told "deep cascades, waiting, overfull spans, answered by $by"
+  $reference random session-refused "$seed" $refused | $reference runs |
+    told "random lists with refused calls, answered by the model"
+} >$work/second.out 2>&1 || { cat $work/second.out; fail "a difference, or a failure"; }
+wait $first || { cat $work/first.out; fail "a difference, or a failure"; }
+cat $work/first.out $work/second.out
+awk '/ lists \(/ { lists += $1; for (i = 1; i < NF; i++) if ($(i + 1) == "calls,") calls += $i }
+  END { printf "session: %d lists, %d calls in all, 0 differences\n", lists, calls }' $work/{first,second}.out

@@ -1,0 +1,30 @@
+#!/bin/bash
+# Tests the session's tests: linked with the stand-in (stand_in.rs, the reference model behind the same
+# interface) they must find no difference, and with each of its faults they must find one.
+set -euo pipefail
+cd "$(dirname "$0")/../.."
+
+fail() { echo "tests/session/self_test.sh: $*" >&2; exit 1; }
+work=target/session
+stand_in=$work/stand-in/libreplay.so
+mkdir -p $work/stand-in
+rustc --edition 2021 -O --crate-type cdylib --crate-name replay -o $stand_in tests/session/stand_in.rs
+SESSION_LIBRARY=$stand_in tests/session/run.sh
+
+target/reference/reference random session-refused 1 200 | target/reference/reference runs >$work/refused.txt
+faults=0
+for fault in malformed-writes malformed-accepted refused-opening-writes 10-early held-entry k1 quadratic \
+  chain-reversed refused-writes-mark refused-writes-slot beyond-spans \
+  {beyond,wrong}-{order,tally,rows,pool,locations,waiting,answers,marks}; do
+  noticed=
+  for command in openings runs limits; do
+    STAND_IN_FAULT=$fault $work/session $command <$work/refused.txt >$work/fault.out 2>&1 && continue
+    grep -q DIFFERENCE $work/fault.out || fail "$fault: a failure of another kind in $command"
+    noticed=$command
+    break
+  done
+  [ -n "$noticed" ] || fail "$fault: not noticed"
+  echo "fault $fault: noticed by $noticed: $(grep -m 1 DIFFERENCE $work/fault.out | cut -c 1-110)"
+  faults=$((faults + 1))
+done
+echo "session: $faults faults of the stand-in, each noticed"

@@ -1,0 +1,322 @@
+//! The reference model behind the interface of `replay_calls`, as a library to link the tests with
+//! instead of the proved one: so the tests can be tested. With the name of a fault in the environment
+//! variable STAND_IN_FAULT it does one thing wrong, which the tests must notice.
+
+#[path = "../reference/model.rs"]
+#[allow(dead_code)]
+mod model;
+
+use model::{Lent, Session};
+use std::sync::OnceLock;
+
+const SPANS: usize = 32;
+
+enum Call<'a> {
+    Set(u64),
+    Add(&'a [u64], &'a [u64]),
+    Flush,
+    Final,
+}
+
+struct Lists<'a> {
+    inputs: &'a [u64],
+    outputs: &'a [u64],
+}
+
+struct Slices<'a> {
+    spans: &'a mut [u32],
+    order: &'a mut [u32],
+    tally: &'a mut [u32],
+    rows: &'a mut [u32],
+    marks: &'a mut [u16],
+    locations: &'a mut [u64],
+    waiting: &'a mut [u64],
+    pool: &'a mut [u32],
+    answers: &'a mut [u64],
+}
+
+/// Whether this fault is asked for.
+fn fault(name: &str) -> bool {
+    static FAULT: OnceLock<String> = OnceLock::new();
+    FAULT.get_or_init(|| std::env::var("STAND_IN_FAULT").unwrap_or_default()) == name
+}
+
+/// # Safety
+/// Each pointer and length is a slice, and those written do not overlap with others.
+#[no_mangle]
+pub unsafe extern "C" fn replay_calls(
+    spans: *mut u32,
+    spans_count: usize,
+    order: *mut u32,
+    order_count: usize,
+    tally: *mut u32,
+    tally_count: usize,
+    rows: *mut u32,
+    rows_count: usize,
+    marks: *mut u16,
+    marks_count: usize,
+    locations: *mut u64,
+    locations_count: usize,
+    waiting: *mut u64,
+    waiting_count: usize,
+    pool: *mut u32,
+    pool_count: usize,
+    answers: *mut u64,
+    answers_count: usize,
+    calls: *const u64,
+    calls_count: usize,
+    p: u64,
+    v: u64,
+) -> u64 {
+    use std::slice::{from_raw_parts, from_raw_parts_mut};
+    let slices = Slices {
+        spans: from_raw_parts_mut(spans, spans_count),
+        order: from_raw_parts_mut(order, order_count),
+        tally: from_raw_parts_mut(tally, tally_count),
+        rows: from_raw_parts_mut(rows, rows_count),
+        marks: from_raw_parts_mut(marks, marks_count),
+        locations: from_raw_parts_mut(locations, locations_count),
+        waiting: from_raw_parts_mut(waiting, waiting_count),
+        pool: from_raw_parts_mut(pool, pool_count),
+        answers: from_raw_parts_mut(answers, answers_count),
+    };
+    replay(slices, from_raw_parts(calls, calls_count), p, v)
+}
+
+/// What a replay came to.
+struct Outcome<'a> {
+    session: Session,
+    /// The lists of the accepted adds.
+    accepted: Vec<Lists<'a>>,
+    /// Places that are set, written or promised.
+    taken: Vec<bool>,
+    p: usize,
+    v: usize,
+    calls: usize,
+    /// The place of the last set that was refused with 8.
+    refused_place: Option<usize>,
+    /// Whether the last call was refused.
+    refused_last: bool,
+}
+
+fn replay(mut slices: Slices, calls: &[u64], p: u64, v: u64) -> u64 {
+    let Some(calls) = decode(calls) else {
+        if fault("malformed-writes") {
+            slices.rows[0] = 0;
+        }
+        return 15;
+    };
+    let lent = Lent {
+        spans: slices.spans.len() as u64 / 4,
+        order: slices.order.len() as u64 / 4,
+        rows: slices.rows.len() as u64 / 5,
+        places: slices.marks.len().min(slices.locations.len()) as u64,
+        waiting: slices.waiting.len() as u64,
+        tally: slices.tally.len() as u64,
+        pool: slices.pool.len() as u64 - u64::from(fault("10-early") && !slices.pool.is_empty()),
+    };
+    let session = match Session::open(p, v, &lent) {
+        Ok(_) if slices.answers.len() < calls.len() => return 2,
+        Ok(session) => session,
+        Err(code) => {
+            if fault("refused-opening-writes") && !slices.marks.is_empty() {
+                slices.marks[0] = 0;
+            }
+            return code;
+        }
+    };
+    let mut outcome = Outcome {
+        session,
+        accepted: Vec::new(),
+        taken: vec![false; v as usize],
+        p: p as usize,
+        v: v as usize,
+        calls: calls.len(),
+        refused_place: None,
+        refused_last: false,
+    };
+    for (call, answer) in calls.iter().zip(slices.answers.iter_mut()) {
+        *answer = outcome.call(call);
+    }
+    put(&mut slices, &outcome);
+    put_fault(&mut slices, &outcome);
+    64 * outcome.session.window.order.len() as u64
+}
+
+impl<'a> Outcome<'a> {
+    fn call(&mut self, call: &Call<'a>) -> u64 {
+        let code = match call {
+            Call::Set(place) => self.session.set(*place),
+            Call::Add(inputs, outputs) => self.session.add(inputs, outputs),
+            Call::Flush => self.session.flush(),
+            Call::Final => self.session.final_flush().err().unwrap_or(0),
+        };
+        match (call, code) {
+            (Call::Set(place), 0) => self.taken[*place as usize] = true,
+            (Call::Set(place), 8) => self.refused_place = Some(*place as usize),
+            (Call::Add(inputs, outputs), 0) => {
+                outputs
+                    .iter()
+                    .for_each(|place| self.taken[*place as usize] = true);
+                self.accepted.push(Lists { inputs, outputs });
+            }
+            (Call::Add(_, outputs), _) if fault("quadratic") => look_at_pairs(outputs),
+            _ => {}
+        }
+        self.refused_last = code != 0;
+        code
+    }
+
+    /// The list numbers of the accepted adds.
+    fn list_numbers(&self) -> usize {
+        self.accepted
+            .iter()
+            .map(|lists| lists.inputs.len() + lists.outputs.len())
+            .sum()
+    }
+}
+
+/// Compares all pairs, which is of no use but to take its time.
+fn look_at_pairs(outputs: &[u64]) {
+    for (i, output) in outputs.iter().enumerate() {
+        std::hint::black_box(outputs[..i].contains(output));
+    }
+}
+
+/// Writes what the replay came to into the storage.
+fn put(slices: &mut Slices, outcome: &Outcome) {
+    let Outcome { session, p, v, .. } = outcome;
+    let (window, v) = (&session.window, *v);
+    for (i, span) in window.spans.iter().enumerate() {
+        // A row for each span number, so that rows rotate.
+        let row = (window.first as usize + i) % SPANS;
+        for (q, e) in span.iter().enumerate() {
+            let accepted = e.accepted + u64::from(fault("held-entry") && i == 2);
+            put_tuple(
+                slices.spans,
+                row * (p + 1) + q,
+                [e.value, e.added, accepted, 0],
+            );
+        }
+    }
+    for (i, e) in window.order.iter().enumerate() {
+        let narrow = if fault("k1") {
+            e.parallelism % 32_768
+        } else {
+            e.parallelism
+        };
+        put_tuple(slices.order, i, [e.value, e.added, e.accepted, narrow]);
+    }
+    for (number, count) in slices.tally.iter_mut().zip(&window.tally) {
+        *number = *count as u32;
+    }
+    slices.rows[..5 * v].fill(0);
+    for (i, r) in session.rows.iter().enumerate() {
+        put_tuple(
+            slices.rows,
+            i,
+            [r.added, r.accepted, r.written, r.index, r.parallelism],
+        );
+    }
+    for (i, place) in session.places.iter().enumerate() {
+        slices.marks[i] = place.mark;
+        slices.locations[i] = (place.location.span << 32) + place.location.position;
+    }
+    put_chains(slices.waiting, session, v);
+    let mut start = 0;
+    for (i, Lists { inputs, outputs }) in outcome.accepted.iter().enumerate() {
+        slices.waiting[2 * v + i] = (start as u64 * 65_536) + inputs.len() as u64;
+        for number in inputs.iter().chain(*outputs) {
+            slices.pool[start] = *number as u32;
+            start += 1;
+        }
+    }
+    for (flag, taken) in slices.waiting[3 * v..4 * v].iter_mut().zip(&outcome.taken) {
+        *flag = (*taken).into();
+    }
+}
+
+fn put_tuple<const N: usize>(slice: &mut [u32], i: usize, numbers: [u64; N]) {
+    slice[N * i..N * (i + 1)].copy_from_slice(&numbers.map(|number| number as u32));
+}
+
+/// The chains of those who wait, the newest first.
+fn put_chains(waiting: &mut [u64], session: &Session, v: usize) {
+    waiting[..2 * v].fill(0);
+    for (place, registrations) in &session.waiting {
+        let mut registrations = registrations.clone();
+        if fault("chain-reversed") {
+            registrations.reverse();
+        }
+        let mut below = 0;
+        for registration in registrations {
+            waiting[v + registration as usize] = below;
+            below = registration + 1;
+        }
+        waiting[*place as usize] = below;
+    }
+}
+
+/// Writes one number too many, or a wrong one, if such a fault is asked for.
+fn put_fault(slices: &mut Slices, outcome: &Outcome) {
+    let Outcome { session, p, v, .. } = outcome;
+    let (p, v) = (*p, *v);
+    spoil("spans", slices.spans, 128 * (p + 1));
+    spoil("order", slices.order, 4 * session.window.order.len());
+    spoil("tally", slices.tally, p + 1);
+    spoil("rows", slices.rows, 5 * v);
+    spoil("marks", slices.marks, v);
+    spoil("locations", slices.locations, v);
+    spoil("waiting", slices.waiting, 4 * v);
+    spoil("pool", slices.pool, outcome.list_numbers());
+    spoil("answers", slices.answers, outcome.calls);
+    if let (true, Some(place)) = (fault("refused-writes-mark"), outcome.refused_place) {
+        slices.marks[place] = 49_152;
+    }
+    // A slot past a span's length: only a comparison of all storage shows it.
+    if fault("refused-writes-slot") && outcome.refused_last {
+        slices.spans[128 * (p + 1) - 1] = 0;
+    }
+}
+
+fn spoil<T: From<bool> + Copy + PartialEq>(name: &str, slice: &mut [T], used: usize) {
+    if fault(&format!("beyond-{name}")) && used < slice.len() {
+        slice[used] = false.into();
+    }
+    if fault(&format!("wrong-{name}")) && used > 0 {
+        slice[used - 1] = (slice[used - 1] == false.into()).into();
+    }
+}
+
+fn decode(mut numbers: &[u64]) -> Option<Vec<Call<'_>>> {
+    let mut calls = Vec::new();
+    while let Some((tag, rest)) = numbers.split_first() {
+        numbers = rest;
+        calls.push(match tag {
+            1 => {
+                let (place, rest) = numbers.split_first()?;
+                numbers = rest;
+                Call::Set(*place)
+            }
+            2 => {
+                let (inputs, rest) = counted(numbers)?;
+                let (outputs, rest) = counted(rest)?;
+                numbers = rest;
+                Call::Add(inputs, outputs)
+            }
+            3 => Call::Flush,
+            4 => Call::Final,
+            _ if fault("malformed-accepted") => Call::Flush,
+            _ => return None,
+        });
+    }
+    Some(calls)
+}
+
+fn counted(numbers: &[u64]) -> Option<(&[u64], &[u64])> {
+    let (&count, rest) = numbers.split_first()?;
+    if count > rest.len() as u64 {
+        return None;
+    }
+    Some(rest.split_at(count as usize))
+}

@@ -1,0 +1,292 @@
+//! What a session's storage must say after a list of calls: from the reference model, or from the
+//! answers that the oracle gave in text; and the comparison with storage.
+//!
+//! Of the storage everything is compared that document 01 fixes. It leaves free the layout inside the
+//! waiting storage and the pool; they are read as docs/DECISIONS.md ("Storage") lays them out, and must
+//! give the lists of the accepted adds, who waits under which place, and which places are taken. Of
+//! the spans it leaves free which row a span has, and the slots past its length.
+
+use crate::buffers::Buffers;
+use crate::model;
+use crate::replay::Call;
+
+/// The spans of the window.
+const SPANS: usize = 32;
+
+/// What storage must say. Vectors of tuples have the numbers in the order of oracle/FORMAT.md.
+#[derive(Default)]
+pub struct State {
+    pub order: Vec<[u64; 4]>,
+    /// One for each registration; all other rows are zeros.
+    pub rows: Vec<[u64; 5]>,
+    /// Place, mark, span, position of the places that are tracked, ascending.
+    pub places: Vec<[u64; 4]>,
+    /// The mark plus 1, or 0 where there is none.
+    pub leading: u64,
+    /// Places under which some wait, ascending, with the registrations that do.
+    pub waiting: Vec<(u64, Vec<u64>)>,
+    /// Parallelism and count, where that is not 0.
+    pub tally: Vec<(u64, u64)>,
+    /// The lengths of the window's spans.
+    pub lengths: Vec<u64>,
+    /// Value, added, accepted of the entries in the window, span by span.
+    pub held: Vec<[u64; 3]>,
+}
+
+impl State {
+    pub fn of_model(session: &model::Session) -> Self {
+        let window = &session.window;
+        let entry = |e: &model::Entry| [e.value, e.added, e.accepted, e.parallelism];
+        let row = |r: &model::Row| [r.added, r.accepted, r.written, r.index, r.parallelism];
+        let tracked = session
+            .places
+            .iter()
+            .enumerate()
+            .filter(|(_, place)| place.mark != 0);
+        let counted = window
+            .tally
+            .iter()
+            .enumerate()
+            .filter(|(_, count)| **count != 0);
+        Self {
+            order: window.order.iter().map(entry).collect(),
+            rows: session.rows.iter().map(row).collect(),
+            places: tracked
+                .map(|(i, place)| {
+                    let location = place.location;
+                    [
+                        i as u64,
+                        place.mark.into(),
+                        location.span,
+                        location.position,
+                    ]
+                })
+                .collect(),
+            leading: session.leading,
+            waiting: session
+                .waiting
+                .iter()
+                .map(|(place, registrations)| (*place, registrations.clone()))
+                .collect(),
+            tally: counted.map(|(i, count)| (i as u64, *count)).collect(),
+            lengths: window.spans.iter().map(|span| span.len() as u64).collect(),
+            held: window
+                .spans
+                .iter()
+                .flatten()
+                .map(|e| [e.value, e.added, e.accepted])
+                .collect(),
+        }
+    }
+
+    /// Compares an accepted replay's storage, after calls with these numbers.
+    pub fn compare(
+        &self,
+        buffers: &Buffers,
+        p: u64,
+        calls: &[Call],
+        codes: &[u64],
+    ) -> Result<(), String> {
+        let entries = buffers
+            .returned
+            .map_err(|code| format!("the replay is refused with {code}"))?;
+        for (i, (found, wanted)) in buffers.answers.needed().iter().zip(codes).enumerate() {
+            same(|| format!("the number of call {i}"), *found, *wanted)?;
+        }
+        let what = || "the order's length".to_owned();
+        same(what, entries as u64, self.order.len() as u64)?;
+        self.compare_order(buffers)?;
+        self.compare_rows(buffers)?;
+        self.compare_places(buffers)?;
+        self.compare_tally(buffers)?;
+        self.compare_spans(buffers, p)?;
+        self.compare_waiting(buffers)?;
+        let list_numbers = compare_lists(buffers, calls, codes)?;
+        buffers.check_frame(self.order.len(), list_numbers)
+    }
+
+    fn compare_order(&self, buffers: &Buffers) -> Result<(), String> {
+        let entries = buffers.order.needed().chunks_exact(4);
+        for (i, (found, wanted)) in entries.zip(&self.order).enumerate() {
+            same_tuple("order entry", i, found, wanted)?;
+        }
+        Ok(())
+    }
+
+    fn compare_rows(&self, buffers: &Buffers) -> Result<(), String> {
+        let wanted = self.rows.iter().copied().chain(std::iter::repeat([0; 5]));
+        for (i, (found, wanted)) in buffers
+            .rows
+            .needed()
+            .chunks_exact(5)
+            .zip(wanted)
+            .enumerate()
+        {
+            same_tuple("row", i, found, &wanted)?;
+        }
+        Ok(())
+    }
+
+    fn compare_places(&self, buffers: &Buffers) -> Result<(), String> {
+        let mut tracked = self.places.iter().peekable();
+        let found = buffers
+            .marks
+            .needed()
+            .iter()
+            .zip(buffers.locations.needed());
+        for (i, (&mark, &location)) in found.enumerate() {
+            let wanted = tracked.next_if(|place| place[0] == i as u64);
+            let [_, wanted_mark, span, position] = wanted.copied().unwrap_or_default();
+            if u64::from(mark) != wanted_mark || location != (span << 32) + position {
+                return Err(format!(
+                    "place {i} has mark {mark} and location {},{}, not {wanted_mark} and {span},{position}",
+                    location >> 32,
+                    location & 0xFFFF_FFFF
+                ));
+            }
+        }
+        let leading = buffers.marks.needed().iter().take_while(|mark| **mark != 0);
+        let what = || "the count of leading tracked places".to_owned();
+        same(what, leading.count() as u64, self.leading)
+    }
+
+    fn compare_tally(&self, buffers: &Buffers) -> Result<(), String> {
+        let found = buffers.tally.needed().iter().enumerate();
+        let found = found.filter(|(_, count)| **count != 0);
+        let found: Vec<(u64, u64)> = found
+            .map(|(i, count)| (i as u64, (*count).into()))
+            .collect();
+        match found == self.tally {
+            true => Ok(()),
+            false => Err(format!("the tally is {found:?}, not {:?}", self.tally)),
+        }
+    }
+
+    /// Each span that holds entries has a row of its own that begins with them, their parallelism
+    /// still 0.
+    fn compare_spans(&self, buffers: &Buffers, p: u64) -> Result<(), String> {
+        let row_numbers = 4 * (p as usize + 1);
+        let rows: Vec<&[u32]> = buffers.spans.needed().chunks_exact(row_numbers).collect();
+        let mut taken = [false; SPANS];
+        let mut entries = &self.held[..];
+        for (i, &length) in self
+            .lengths
+            .iter()
+            .enumerate()
+            .filter(|(_, length)| **length != 0)
+        {
+            let (span, rest) = entries.split_at(length as usize);
+            entries = rest;
+            let begins = |row: &[u32]| {
+                row.chunks_exact(4).zip(span).all(|(found, entry)| {
+                    let numbers = entry.iter().copied().chain([0]);
+                    found.iter().map(|number| u64::from(*number)).eq(numbers)
+                })
+            };
+            match (0..SPANS).find(|&row| !taken[row] && begins(rows[row])) {
+                Some(row) => taken[row] = true,
+                None => return Err(format!("no row of the spans has the entries of span {i}")),
+            }
+        }
+        Ok(())
+    }
+
+    /// The chains of the places from the mark on: those who wait, the newest first.
+    fn compare_waiting(&self, buffers: &Buffers) -> Result<(), String> {
+        let waiting = buffers.waiting.needed();
+        let v = waiting.len() / 4;
+        let (heads, links) = (&waiting[..v], &waiting[v..2 * v]);
+        let mut wanted = self.waiting.iter().peekable();
+        for place in self.leading..v as u64 {
+            let wanted = wanted.next_if(|(under, _)| *under == place);
+            let wanted = wanted.map_or(&[][..], |(_, registrations)| registrations);
+            let mut found = Vec::new();
+            let mut link = heads[place as usize];
+            while link != 0 {
+                if link > v as u64 || found.len() > wanted.len() {
+                    return Err(format!(
+                        "the chain under place {place} is broken or too long"
+                    ));
+                }
+                found.push(link - 1);
+                link = links[link as usize - 1];
+            }
+            found.reverse();
+            if found != wanted {
+                return Err(format!(
+                    "under place {place} wait {found:?}, not {wanted:?}"
+                ));
+            }
+        }
+        match wanted.next() {
+            None => Ok(()),
+            Some((place, _)) => Err(format!(
+                "under place {place}, at or below the mark, some wait"
+            )),
+        }
+    }
+}
+
+/// The lists of the accepted adds, read from pool and waiting storage, and the places taken by them
+/// and by the accepted sets. Gives the count of list numbers.
+fn compare_lists(buffers: &Buffers, calls: &[Call], codes: &[u64]) -> Result<usize, String> {
+    let waiting = buffers.waiting.needed();
+    let v = waiting.len() / 4;
+    let (lists, flags) = (&waiting[2 * v..3 * v], &waiting[3 * v..]);
+    let pool = buffers.pool.needed();
+    let mut taken = vec![false; v];
+    let (mut registration, mut used) = (0, 0);
+    for call in calls
+        .iter()
+        .zip(codes)
+        .filter(|(_, code)| **code == 0)
+        .map(|(call, _)| call)
+    {
+        match call {
+            Call::Set(place) => taken[*place as usize] = true,
+            Call::Add(inputs, outputs) => {
+                let wanted = ((used as u64) << 16) + inputs.len() as u64;
+                same(
+                    || format!("where the lists of registration {registration} lie"),
+                    lists[registration],
+                    wanted,
+                )?;
+                let length = inputs.len() + outputs.len();
+                let found = pool[used..used + length]
+                    .iter()
+                    .map(|number| u64::from(*number));
+                if !found.eq(inputs.iter().chain(outputs).copied()) {
+                    return Err(format!("the lists of registration {registration} differ"));
+                }
+                outputs
+                    .iter()
+                    .for_each(|place| taken[*place as usize] = true);
+                used += length;
+                registration += 1;
+            }
+            Call::Flush | Call::Final => {}
+        }
+    }
+    for (place, (flag, taken)) in flags.iter().zip(taken).enumerate() {
+        same(|| format!("the flag of place {place}"), *flag, taken.into())?;
+    }
+    Ok(used)
+}
+
+fn same(what: impl Fn() -> String, found: u64, wanted: u64) -> Result<(), String> {
+    match found == wanted {
+        true => Ok(()),
+        false => Err(format!("{} is {found}, not {wanted}", what())),
+    }
+}
+
+fn same_tuple(what: &str, i: usize, found: &[u32], wanted: &[u64]) -> Result<(), String> {
+    match found
+        .iter()
+        .map(|number| u64::from(*number))
+        .eq(wanted.iter().copied())
+    {
+        true => Ok(()),
+        false => Err(format!("{what} {i} is {found:?}, not {wanted:?}")),
+    }
+}
