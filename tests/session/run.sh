@@ -82,5 +82,9 @@ trap 'kill $first 2>/dev/null || true' EXIT
 } >$work/second.out 2>&1 || { cat $work/second.out; fail "a difference, or a failure"; }
 wait $first || { cat $work/first.out; fail "a difference, or a failure"; }
 cat $work/first.out $work/second.out
-awk '/ lists \(/ { lists += $1; for (i = 1; i < NF; i++) if ($(i + 1) == "calls,") calls += $i }
-  END { printf "session: %d lists, %d calls in all, 0 differences\n", lists, calls }' $work/{first,second}.out
+awk '/^session: / { rust = /the Rust/ }
+  / lists \(/ { for (i = 1; i < NF; i++) if ($(i + 1) == "calls,") calls = $i
+    all_lists += $1; all_calls += calls
+    if (rust) { rust_lists += $1; rust_calls += calls } }
+  END { printf "session: 0 differences in %d lists with %d calls; the Rust answered %d lists with %d calls\n",
+    all_lists, all_calls, rust_lists, rust_calls }' $work/{first,second}.out
