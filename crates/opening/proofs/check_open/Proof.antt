@@ -1,0 +1,32 @@
+-- `opening::check_open` meets its contract: a law for each way out.
+use Rattle.opening.specs.Refusal.{low-p, high-p, low-v, high-v, short-of, enough}
+use mathlib.Core.Path.{sym, _∙_}
+use borrow.Author.Needs.{needs}
+use Rattle.opening.proofs.check_open.Statement.{statement}
+use Rattle.opening.proofs.check_open.Tie as tie
+
+returns : tie.Need-returns
+returns c = low-p _ _ _ (c .if1 .taken)
+
+returns-2 : tie.Need-returns-2
+returns-2 c = high-p _ _ _ (c .before .if1 .left) (c .if2 .taken)
+
+returns-3 : tie.Need-returns-3
+returns-3 c = low-v _ _ _ (c .before .before .if1 .left) (c .before .if2 .left) (c .if3 .taken)
+
+returns-4 : tie.Need-returns-4
+returns-4 c = high-v _ _ _ (c .before .before .before .if1 .left) (c .before .before .if2 .left) (c .before .if3 .left) (c .if4 .taken)
+
+too-short-requires : tie.Need-too-short-requires
+too-short-requires c κs = search needs
+
+returns-5 : tie.Need-returns-5
+returns-5 c = short-of _ _ _ (c .before .before .before .before .before .if1 .left) (c .before .before .before .before .if2 .left) (c .before .before .before .if3 .left) (c .before .before .if4 .left) (sym (c .before .too-short .ensures) ∙ c .if5 .taken)
+
+returns-6 : tie.Need-returns-6
+returns-6 c = enough _ _ _ (c .before .before .before .before .before .if1 .left) (c .before .before .before .before .if2 .left) (c .before .before .before .if3 .left) (c .before .before .if4 .left) (sym (c .before .too-short .ensures) ∙ c .if5 .left)
+
+pub check-open-spec : {M : Type 1} → statement M
+check-open-spec =
+    tie.close
+    (tie.spec returns returns-2 returns-3 returns-4 too-short-requires returns-5 returns-6)

@@ -1,0 +1,3 @@
+-- Opening: its checks, and the fresh session.
+pub mod Refusal
+pub mod Opened
