@@ -36,7 +36,7 @@ ap2 e f = rw (e, f)
 named : {A : Type 0} (P Q N M : ℕ) (a b : AloneModel) → P ≡ Q → N ≡ M → a ≡ b → (f : ℕ → ℕ → AloneModel → A) → f P N a ≡ f Q M b
 named P Q N M a b e g h f = rw (e, g, h)
 
-reframe : {p p′ n n′ : ℕ} {s o t s′ o′ t′ : List ℕ} → p′ ≡ p → Frame p′ n n′ s o t s′ o′ t′ → Frame p n n′ s o t s′ o′ t′
+pub reframe : {p p′ n n′ : ℕ} {s o t s′ o′ t′ : List ℕ} → p′ ≡ p → Frame p′ n n′ s o t s′ o′ t′ → Frame p n n′ s o t s′ o′ t′
 reframe e f = rw e at f
 
 pub linked : {x y : Alone} {s o t s′ o′ t′ : List ℕ} {qs : List Request} {rs : List Reply} → Chain x s o t qs rs y s′ o′ t′ → Linked x y s o t s′ o′ t′ qs rs

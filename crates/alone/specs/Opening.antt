@@ -29,6 +29,7 @@ pub record Opens (p v n : ℕ) (x : Alone) (s o t t′ : List ℕ) : Type 0 wher
   pub is : n ≡ 0 → model x s o ≡ alone
   pub p-is : x .guide .p ≡ p
   pub v-is : x .guide .v ≡ v
+  pub written-is : x .guide .written ≡ 0
   pub rejected : n ≢ 0 → t′ ≡ t
   pub tally-length : length t′ ≡ length t
   pub tally-beyond : (j : ℕ) → p < j → getD t′ j 0 ≡ getD t j 0
@@ -91,6 +92,10 @@ module _ (p v n : ℕ) (x : Alone) (s o t : List ℕ) (eg : x .guide ≡ first-g
   unfolding first-guide
   same-v = ap (λ g. g .v) eg
 
+  none-written : x .guide .written ≡ 0
+  unfolding first-guide
+  none-written = ap (λ g. g .written) eg
+
   pub open-refused : n ≢ 0 → Opens p v n x s o t t
   open-refused z =
       record {
@@ -99,6 +104,7 @@ module _ (p v n : ℕ) (x : Alone) (s o t : List ℕ) (eg : x .guide ≡ first-g
         is = λ k. absurd (z k);
         p-is = same-p;
         v-is = same-v;
+        written-is = none-written;
         rejected = λ k. refl;
         tally-length = refl;
         tally-beyond = λ j k. refl;
@@ -115,6 +121,7 @@ module _ (p v n : ℕ) (x : Alone) (s o t : List ℕ) (eg : x .guide ≡ first-g
         is = λ k. m;
         p-is = same-p;
         v-is = same-v;
+        written-is = none-written;
         rejected = λ k. absurd (k refl);
         tally-length = c .long;
         tally-beyond = cleared-beyond p t t′ c;
