@@ -191,6 +191,7 @@ module _ {s entry read : List ℕ} {at next : ℕ} {l : Line} (n : ℕ) (a : Lin
         past = go (a .past);
         room = omega (arith, t);
         low = omega arith;
+        high = omega arith;
       }
     where
       go : (l ≡ line.Malformed) ⊎ (at + 2 * listed l + 1 ≤ next) → (x ≡ act.Malformed) ⊎ (at + n + 1 ≤ next + n)
@@ -247,6 +248,7 @@ module _ {s entry mid : List ℕ} {at after : ℕ} {l : Line} (i : ℕ) (a : Lin
           past = inr (omega (arith, j, reach));
           room = omega (arith, b .room, ap listed q);
           low = omega arith;
+          high = omega arith;
         }
 
     pub no-second : outputs-of m ≡ items.Malformed → NextCall s at n read act.Malformed (n + 1) next
@@ -259,6 +261,7 @@ module _ {s entry mid : List ℕ} {at after : ℕ} {l : Line} (i : ℕ) (a : Lin
           past = inl refl;
           room = omega arith;
           low = omega arith;
+          high = omega arith;
         }
 
 -- the head: line 1, then line 2

@@ -118,6 +118,7 @@ pub record NextCall (s : List ℕ) (at n : ℕ) (read : List ℕ) (a : Act) (m n
   pub past : (a ≡ act.Malformed) ⊎ (at + m + 1 ≤ next + n)
   pub room : taken-by a ≤ length read
   pub low : m ≤ n + 1
+  pub high : n ≤ m
 
 -- the run of a job with its head read
 abbrev pub runs-from : List ℕ → Head → Bool → Outcome
