@@ -5,6 +5,7 @@ pub mod Checks
 pub mod Calls
 pub mod Alone
 pub mod Summary
+pub mod Record
 pub mod Job
 pub mod Listing
 pub mod Encoding

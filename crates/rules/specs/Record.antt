@@ -1,0 +1,43 @@
+-- Document 01, "The records": what a place's mark and a registration's row are in a model, and what final gives of one. Definitions
+-- only; that the lent marks and rows are these is shown where they are kept (crates tracking and records). Assumes nothing.
+use mathlib.Core.List.{List, [], _∷_}
+use mathlib.Core.Bool.{Bool, true, false}
+use Prim.Native.Nat.{ℕ, suc}
+use lib.ListN.{getD}
+use lib.Dec.{eqb}
+use Rattle.rules.specs.Guide.{Item, Entry, tally}
+use Rattle.rules.specs.Model.{Model, member, marked}
+use Rattle.rules.specs.Summary.{Figures, figures}
+
+-- "A place has a 16-bit mark: 0 untracked, 32,768 written by a registration (with its location), 49,152 set."
+unfoldable pub mark-of : Model → ℕ → ℕ
+mark-of k x = elim (member x (k .sets)) [ true ↦ 49152 | false ↦ elim (marked x (k .located)) [ true ↦ 32768 | false ↦ 0 ] ]
+
+-- "A record row has added, accepted, written (below), order index and parallelism."
+pub record Row : Type 0 where
+  pub added : ℕ
+  pub accepted : ℕ
+  pub written : ℕ
+  pub index : ℕ
+  pub parallelism : ℕ
+
+-- a row that is zeros but for written
+unfoldable pub unfilled : ℕ → Row
+unfilled written = record { added = 0; accepted = 0; written = written; index = 0; parallelism = 0 }
+
+-- "in a row all but written is filled when the entry is appended": by entry e, whose order index is n
+unfoldable pub fill : ℕ → Entry → Row → Row
+fill n e row = record { added = e .item .added; accepted = e .item .accepted; written = row .written; index = n; parallelism = e .parallelism }
+
+-- registration r's row after these entries were appended, the first of them at order index n; an entry fills the row of its added
+unfoldable pub row-after : ℕ → Row → ℕ → List Entry → Row
+row-after r row n [] = row
+row-after r row n (e ∷ es) = row-after r (elim (eqb (e .item .added) r) [ true ↦ fill n e row | false ↦ row ]) (suc n) es
+
+-- the row of registration r: rows start as zeros, and written is the record's
+unfoldable pub row-of : Model → ℕ → Row
+row-of k r = row-after r (unfilled (getD (k .recorded .written) r 0)) 0 (k .guide .order)
+
+-- "An accepted call returns 0, .. final also the summary": the figures of the tally of the order, as final leaves it
+unfoldable pub summary : ℕ → Model → Figures
+summary P k = figures (tally P (k .guide .order))
