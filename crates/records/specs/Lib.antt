@@ -1,3 +1,4 @@
 -- Record rows: how they are filled, and what they then say.
 pub mod Filling
 pub mod Filled
+pub mod RowOf

@@ -2,3 +2,4 @@
 pub mod Tracking
 pub mod Loops
 pub mod Places
+pub mod MarkOf
