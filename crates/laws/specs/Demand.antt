@@ -1,18 +1,18 @@
 -- Demand 3 of the model (document 01's clerk), as one record with a field for each sentence: what holds after a list of calls on a
 -- fresh session. That it holds of every list is `demand-3` in DemandProof; that the code's answers, order, tally, mark, window lengths
--- and waiting registrations are the model's is promised by the calls themselves.
+-- and waiting registrations are the model's is promised by the calls themselves (crates sorter and replay).
 use mathlib.Core.Path.{_≡_}
 use mathlib.Core.List.{List, _++_, List·Memᴰ}
 use mathlib.Core.Logic.{_⊎_, _≢_, _↔_}
 use mathlib.Core.Bool.{true, false}
 use Prim.Native.Nat.{ℕ, _+_, _≤_, _<_}
 use lib.ListN.{length, getD}
-use Rattle.rules.specs.Guide.{Entry, held, tally}
+use Rattle.rules.specs.Guide.{Item, Entry, held, tally}
 use Rattle.rules.specs.Summary.{sum}
 use Rattle.rules.specs.Model.{Model, Pending, watermark, greatest, ready, reg-of, initial}
 use Rattle.rules.specs.Calls.{Call, answer, step, run}
 use Rattle.laws.specs.ModelBase.{In}
-use Rattle.laws.specs.Balance.{wsum}
+use Rattle.laws.specs.Balance.{wsum, hsum, qsum}
 use Rattle.laws.specs.Once.{one-of}
 use Rattle.laws.specs.Delaying.{IsPending, Sorted}
 use Rattle.laws.specs.Order.{nth, written}
@@ -29,9 +29,15 @@ writes k j i = In i ((reg-of k ((nth k j) .item .added)) .outs)
 abbrev pub Covered : Model → ℕ → ℕ → Type 0
 Covered k j a = (j ≤ a) × (a < j + (nth k j) .parallelism) × (a < written k)
 
--- how often a registration stands in the order
+-- how often a registration stands in the order, is held in the window, waits
 abbrev pub times : ℕ → List Entry → ℕ
 times r order = wsum (one-of r) order
+
+abbrev pub held-times : ℕ → List (List Item) → ℕ
+held-times r spans = hsum (one-of r) spans
+
+abbrev pub pending-times : ℕ → List Pending → ℕ
+pending-times r ws = qsum (one-of r) ws
 
 -- of the model k after the calls
 pub record Demand (P N W : ℕ) (calls : List Call) (k : Model) : Type 0 where
@@ -45,10 +51,17 @@ pub record Demand (P N W : ℕ) (calls : List Call) (k : Model) : Type 0 where
   pub together : (j a b i : ℕ) → Covered k j a → Covered k j b → writes k a i → reads k b i → ⊥
   -- the distance: a reader lies at least its writer's parallelism behind it
   pub distance : (a b i : ℕ) → a < written k → b < written k → writes k a i → reads k b i → a + (nth k a) .parallelism ≤ b
+  -- an entry is of an accepted add, and in a session its value equals its added
+  pub known : (j : ℕ) → j < written k → (nth k j) .item .added < length (k .adds)
+  pub value-is-added : (j : ℕ) → j < written k → (nth k j) .item .value ≡ (nth k j) .item .added
+  -- each accepted registration is in the order, or held in the window, or waits, and that once
+  pub somewhere : (r : ℕ) → r < length (k .adds) → times r (k .guide .order) + held-times r (k .guide .spans) + pending-times r (k .pending) ≡ 1
   -- accepted = written + held + waiting
   pub counted : length (k .adds) ≡ written k + held (k .guide .spans) + length (k .pending)
   -- an accepted registration waits exactly when it has inputs and the greatest is above the mark,
   pub pending : (r : ℕ) → r < length (k .adds) → IsPending k r ↔ (ready (watermark N k) ((reg-of k r) .ins) ≡ false)
+  -- and none but accepted ones wait,
+  pub pending-known : (w : Pending) → List·Memᴰ w (k .pending) → w .reg < length (k .adds)
   -- under its greatest input, by ascending place, then by registration
   pub pending-under : (w : Pending) → List·Memᴰ w (k .pending) → w .under ≡ greatest ((reg-of k (w .reg)) .ins)
   pub pending-sorted : Sorted (k .pending)

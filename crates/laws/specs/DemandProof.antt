@@ -22,9 +22,10 @@ use Rattle.laws.specs.Once.{one-place, wsum-one, qsum-one, hsum-one, bel
 use Rattle.laws.specs.Delaying.{IsPending}
 use Rattle.laws.specs.Closed.{stays}
 use Rattle.laws.specs.Order.{nth, written, wd, At, order-here, order-at, bounds}
+use Rattle.laws.specs.Entries.{OfSession, order-entry}
 use Rattle.laws.specs.Tally.{tally-sum, tally-each}
 use Rattle.laws.specs.Sound.{Sound, sound}
-use Rattle.laws.specs.Demand.{reads, writes, Covered, times, Demand}
+use Rattle.laws.specs.Demand.{reads, writes, Covered, times, held-times, pending-times, Demand}
 
 behind-before : (H : List (List Item)) (s q t r : ℕ) → q < len H s → r < len H t → Behind s q t r → start H s + q < start H t + r
 behind-before H s q t r h i (inl b) = omega (arith, start-suc H s, start-mono H (suc s) t (omega arith))
@@ -102,6 +103,17 @@ module _ (P N W : ℕ) (hP : 1 ≤ P) (k : Model) (o : Sound P N W k []) where
   none : (j a c i : ℕ) → Covered k j a → Covered k j c → writes k a i → reads k c i → ⊥
   none j a c i x u y z = omega (arith, far a c i (x .2) (u .2) y z, never-falls j a (x .0) (x .2))
 
+  of-add : (j : ℕ) → j < written k → (nth k j) .item .added < length (k .adds)
+  of-add j h = let a = at j h in rw (a .entry-is) (v .known (a .s) (a .q) (a .within))
+
+  one-number : (j : ℕ) → j < written k → (nth k j) .item .value ≡ (nth k j) .item .added
+  one-number j h = order-entry (OfSession (length (k .adds))) (k .guide .order) j (o .entries .all .in-order) h .0
+
+  -- the balance of one registration's weight
+  in-one-place : (r : ℕ) → r < length (k .adds) → times r (k .guide .order) + held-times r (k .guide .spans) + pending-times r (k .pending) ≡ 1
+  unfolding Balance lsum
+  in-one-place r h = omega (arith, o .balance (one-of r), below-one r (length (k .adds)) h)
+
   count : length (k .adds) ≡ written k + held (k .guide .spans) + length (k .pending)
   unfolding Balance lsum
   count = omega (arith, o .balance (λ x. 1), wsum-one (k .guide .order), hsum-one (k .guide .spans), qsum-one (k .pending), below-all (length (k .adds)))
@@ -141,8 +153,12 @@ demand-3 P N W hP calls =
       earlier = before P N W hP k o;
       together = none P N W hP k o;
       distance = far P N W hP k o;
+      known = of-add P N W hP k o;
+      value-is-added = one-number P N W hP k o;
+      somewhere = in-one-place P N W hP k o;
       counted = count P N W hP k o;
       pending = exactly P N W hP k o;
+      pending-known = λ w h. o .inv .pending-ok w h .0;
       pending-under = λ w h. o .inv .pending-ok w h .1;
       pending-sorted = o .delaying .sorted;
       tallied = tally-each P (k .guide .order) (λ j h. bounds P hP (k .guide) (o .inv .past) (o .inv .core) j h .1);

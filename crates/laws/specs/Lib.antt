@@ -1,5 +1,6 @@
 -- Theorems about the definitions of `rules`. The main ones: `demand-3` (DemandProof), `numbers-fit` (Widths), `sound` and `between`
--- (Sound), `placeable` (Placeable), `alone-sound` (Alone).
+-- (Sound), `placeable` (Placeable), `alone-sound` (Alone),
+-- `alone-numbers-fit` (AloneWidths).
 pub mod Width
 pub mod History
 pub mod Together
@@ -27,3 +28,4 @@ pub mod Demand
 pub mod DemandProof
 pub mod Widths
 pub mod Alone
+pub mod AloneWidths

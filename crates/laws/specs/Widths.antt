@@ -58,7 +58,7 @@ one-of-le p x = go (eqb p x)
     go true = omega arith
     go false = omega arith
 
-having-le : (p : ℕ) (l : List Entry) → having p l ≤ length l
+pub having-le : (p : ℕ) (l : List Entry) → having p l ≤ length l
 unfolding having
 having-le p [] = omega arith
 having-le p (x ∷ l) = omega (arith, having-le p l, one-of-le p (x .parallelism))
