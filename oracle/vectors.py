@@ -5,9 +5,8 @@
 
 Reads oracle/sample (FORMAT.md) and writes crates/vectors/specs/Runs1.antt, Runs2.antt, ..: of each shape
 of session in the sample the smallest runs with a trace and without, and the smallest runs of the guide
-alone. Each file ends in a
-theorem: what the definitions of `rules` give after the run's calls is what the oracle answered. Nothing
-is left to chance: from the same sample come the same files.
+alone. Each file ends in a theorem: what the definitions of `rules` give after the run's calls is what the
+oracle answered. Nothing is left to chance: from the same sample come the same files.
 """
 
 import os
@@ -90,6 +89,21 @@ def filled(pairs, length):
     return counts
 
 
+def closing(answers):
+    """The counts that final fixed; the average's bits, the median, and the two lists with their lengths."""
+    if "final" not in answers:
+        return []
+    low, thousands = trimmed(answers["low"], 128), trimmed(answers["thousands"], 65)
+    return [sum(answers["final"], [])] + answers["average"] + answers["median"] + [[128] + low, [65] + thousands]
+
+
+def trimmed(pairs, length):
+    counts = filled(pairs, length)
+    while counts and counts[-1] == 0:
+        counts.pop()
+    return counts
+
+
 def trace(lines):
     """After each call: its number, what a push returned, the order's length, a session's mark, the window."""
     for line in lines:
@@ -118,8 +132,7 @@ def session(name, lines):
     _, p, v = lines[0].split()[:3]
     a = answers_of(lines)
     waiting = [[tuple_[0], reg] for tuple_ in a["waiting"] for reg in tuple_[1:]]
-    summary = a["final"] + a["median"] if "final" in a else []
-    tables = [a["order"], a["rows"], a["places"], waiting, [filled(a["tally"], int(p) + 1)], a["held"], summary]
+    tables = [a["order"], a["rows"], a["places"], waiting, [filled(a["tally"], int(p) + 1)], a["held"], closing(a)]
     return compared(name, lines, f"calls {p} {v} ({cons(call(c) for c in calls_of(lines))})", tables)
 
 
@@ -155,9 +168,13 @@ RULES = {
     "Checks": "verdict any repeats written-by taken pooled check-closed check-places check-set check-add check-flush check-final",
     "Calls": "checks answer apply-call chosen step run",
     "Alone": "alone holds stray worn check-push check-flush-alone requests reply location serve serve-step serve-all",
-    "Summary": "sum median-from median",
+    "Summary": "sum average median-from median counts thousands figures",
+    "Record": "mark-of unfilled fill row-after row-of summary",
 }
-SHOWN = "at item keep-zero trimmed window entry held-item joined row-from rows-from place-row places-from traced summary after-calls traced-calls where-to served after-requests traced-requests"
+# and of the library's floats
+FLOATS = "round size span climb units odd toBits"
+
+SHOWN = "at item keep-zero trimmed window entry held-item joined row rows-from place-row places-from traced figured closing after-calls traced-calls where-to served after-requests traced-requests"
 OTHER = {"Guide": {"flush": "flush-guide"}, "Model": {"push": "push-stack"}}
 
 TOP = """\
@@ -166,6 +183,7 @@ use mathlib.Core.Path.{_≡_, refl}
 use mathlib.Core.List.{List, [], _∷_, map}
 use mathlib.Core.Option.{none}
 use Prim.Native.Nat.{ℕ}
+use lib.Count.{trailingZeros}
 """
 
 END = """
@@ -177,7 +195,7 @@ agree = refl
 
 
 def head(constructors):
-    lines = [TOP]
+    lines = [TOP, f"use lib.Ieee.{{{', '.join(FLOATS.split())}}}\n"]
     for module, names in RULES.items():
         other = OTHER.get(module, {})
         words = [f"{name} as {other[name]}" if name in other else name for name in names.split()] + constructors.get(module, [])
@@ -187,7 +205,7 @@ def head(constructors):
 
 
 def unfolded():
-    return " ".join(OTHER.get(module, {}).get(name, name) for module, names in RULES.items() for name in names.split()) + " " + SHOWN
+    return " ".join(OTHER.get(module, {}).get(name, name) for module, names in RULES.items() for name in names.split()) + " " + SHOWN + " " + FLOATS + " trailingZeros"
 
 
 def main():

@@ -6,11 +6,14 @@ use mathlib.Core.Option.{Option, some}
 use Prim.Native.Nat.{ℕ, zero, suc}
 use lib.ListN.{length}
 use lib.Dec.{eqb}
+use lib.Ieee.{binary32, toBits}
 use Rattle.rules.specs.Guide.{Loc, Item, Entry, Guide, tally}
-use Rattle.rules.specs.Model.{Model, initial, member, marked, watermark, loc-of}
+use Rattle.rules.specs.Model.{Model, initial, watermark, loc-of}
 use Rattle.rules.specs.Calls.{Call, answer, step, run}
 use Rattle.rules.specs.Alone.{Alone, alone, Request, push, flush, reply, location, serve-step, serve-all}
-use Rattle.rules.specs.Summary.{median}
+use Rattle.rules.specs.Summary.{Figures}
+use Rattle.rules.specs.Record.{Row, mark-of, row-of, summary}
+use Rattle.rules.specs.Job.{job-pool}
 
 -- a run: what the definitions give and what the oracle answered, each as a list of tables
 pub record Compared : Type 0 where
@@ -46,22 +49,18 @@ unfoldable pub joined : List (List Item) → List Item
 joined [] = []
 joined (s ∷ ss) = s ++ joined ss
 
--- a registration's row: added, accepted, written, order index and parallelism, all but written once its entry is appended
-unfoldable pub row-from : ℕ → ℕ → ℕ → List Entry → List ℕ
-row-from r w j [] = 0 ∷ 0 ∷ w ∷ 0 ∷ 0 ∷ []
-row-from r w j (e ∷ es) = elim (eqb r (e .item .added)) [ true ↦ r ∷ e .item .accepted ∷ w ∷ j ∷ e .parallelism ∷ [] | false ↦ row-from r w (suc j) es ]
+-- a registration's row: added, accepted, written, order index and parallelism
+unfoldable pub row : Row → List ℕ
+row w = w .added ∷ w .accepted ∷ w .written ∷ w .index ∷ w .parallelism ∷ []
 
-unfoldable pub rows-from : ℕ → List ℕ → List Entry → List (List ℕ)
-rows-from r [] es = []
-rows-from r (w ∷ ws) es = row-from r w 0 es ∷ rows-from (suc r) ws es
+-- the rows of n registrations from r on
+unfoldable pub rows-from : Model → ℕ → ℕ → List (List ℕ)
+rows-from k zero r = []
+rows-from k (suc n) r = row (row-of k r) ∷ rows-from k n (suc r)
 
 -- a tracked place's mark and location
 unfoldable pub place-row : Model → ℕ → List (List ℕ)
-place-row k x =
-    elim (member x (k .sets)) [
-      | true ↦ (x ∷ 49152 ∷ 0 ∷ 0 ∷ []) ∷ []
-      | false ↦ elim (marked x (k .located)) [ true ↦ (x ∷ 32768 ∷ (loc-of (k .located) x) .span ∷ (loc-of (k .located) x) .pos ∷ []) ∷ [] | false ↦ [] ]
-    ]
+place-row k x = elim (eqb (mark-of k x) 0) [ true ↦ [] | false ↦ (x ∷ mark-of k x ∷ (loc-of (k .located) x) .span ∷ (loc-of (k .located) x) .pos ∷ []) ∷ [] ]
 
 -- those of the f places from x on
 unfoldable pub places-from : Model → ℕ → ℕ → List (List ℕ)
@@ -72,24 +71,30 @@ places-from k (suc f) x = place-row k x ++ places-from k f (suc x)
 unfoldable pub traced : ℕ → ℕ → List Call → Model → List (List ℕ)
 traced P N [] k = []
 traced P N (c ∷ cs) k =
-    let j : Model = step P N 4096 c k in
-    (answer N 4096 c k ∷ length (j .guide .order) ∷ watermark N j ∷ window (j .guide)) ∷ traced P N cs j
+    let j : Model = step P N job-pool c k in
+    (answer N job-pool c k ∷ length (j .guide .order) ∷ watermark N j ∷ window (j .guide)) ∷ traced P N cs j
 
--- the counts that final fixed and the median, once closed
-unfoldable pub summary : ℕ → Model → List (List ℕ)
-summary P k = elim (k .closed) [ true ↦ (k .recorded .registrations ∷ []) ∷ (k .recorded .places ∷ []) ∷ (median (tally P (k .guide .order)) ∷ []) ∷ [] | false ↦ [] ]
+-- what final gives: the average's 32 bits, the median, how many counts of low parallelisms there are and those up to the last that is
+-- not 0, and the same of the sums of thousands
+unfoldable pub figured : Figures → List (List ℕ)
+figured f =
+    (toBits binary32 (f .average) ∷ []) ∷ (f .median ∷ []) ∷ (length (f .low) ∷ trimmed (f .low)) ∷ (length (f .thousands) ∷ trimmed (f .thousands)) ∷ []
 
--- order, rows, places, waiting, tally, held, summary
+-- the counts that final fixed and what it gives, once closed
+unfoldable pub closing : ℕ → Model → List (List ℕ)
+closing P k = elim (k .closed) [ true ↦ (k .recorded .registrations ∷ k .recorded .places ∷ []) ∷ figured (summary P k) | false ↦ [] ]
+
+-- order, rows, places, waiting, tally, held, and what final left
 unfoldable pub after-calls : ℕ → ℕ → List Call → List (List (List ℕ))
 after-calls P N cs =
-    let k : Model = run P N 4096 cs initial in
+    let k : Model = run P N job-pool cs initial in
     map entry (k .guide .order)
-    ∷ rows-from 0 (k .recorded .written) (k .guide .order)
+    ∷ rows-from k (length (k .recorded .written)) 0
     ∷ places-from k N 0
     ∷ map (λ w. w .under ∷ w .reg ∷ []) (k .pending)
     ∷ (tally P (k .guide .order) ∷ [])
     ∷ map held-item (joined (k .guide .spans))
-    ∷ summary P k
+    ∷ closing P k
     ∷ []
 
 -- the same with the trace before it
