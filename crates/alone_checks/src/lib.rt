@@ -5,6 +5,9 @@ ghost use Rattle.rules.specs.Checks.{verdict};
 ghost use Rattle.rules.specs.Alone.{check-alone};
 ghost use Rattle.alone_checks.specs.Numbers.{origin-not, stray-by, push-checks, flush-checks};
 
+// The least last span number at which a push or a flush is refused.
+const LAST: u32 = 4294967264;
+
 // Opening: spans and order in entries, the tally in counts.
 pub fn check_open(p: u32, v: u32, spans: usize, order: usize, tally: usize) -> u32
     ensures { λ r. ⌜ r ≡ verdict (check-alone p v spans order tally) ⌝ }
@@ -81,7 +84,7 @@ pub fn check_push(
     if v <= pushes {
         return 14;
     }
-    if 4294967264 <= last {
+    if LAST <= last {
         return 14;
     }
     if has {
@@ -97,7 +100,7 @@ pub fn check_push(
 pub fn check_flush(last: u32) -> u32
     ensures { λ r. ⌜ r ≡ verdict (flush-checks last) ⌝ }
 {
-    if 4294967264 <= last {
+    if LAST <= last {
         return 14;
     }
     0

@@ -1,0 +1,300 @@
+//! Answers runs of the guide alone (oracle/FORMAT.md) through the exported `guide_replay`, on storage
+//! that is full of other numbers before the opening. After every run it looks that the order's entries
+//! not yet appended and all that lies beyond the needed lengths are as they were.
+//!
+//!   guide runs       runs on standard input, printed again with the answers beside them
+//!   guide refusals   openings that must be refused with 1 or 2 and change nothing
+
+use std::fmt::{Display, Write as _};
+use std::io::{BufWriter, Read, Write};
+use std::process::exit;
+
+extern "C" {
+    #[allow(clippy::too_many_arguments)]
+    fn guide_replay(
+        p: u32,
+        v: u32,
+        requests: *const u32,
+        requests_length: usize,
+        spans: *mut u32,
+        spans_length: usize,
+        order: *mut u32,
+        order_length: usize,
+        tally: *mut u32,
+        tally_length: usize,
+        answers: *mut u32,
+        answers_length: usize,
+    ) -> u32;
+}
+
+/// Numbers of a request and of an answer.
+const REQUEST: usize = 6;
+const ANSWER: usize = 37;
+/// What storage holds before the opening, and how many numbers are lent beyond the needed ones.
+const OTHER: u32 = 0xA5A5_5A5A;
+const BEYOND: usize = 3;
+
+struct Storage {
+    spans: Vec<u32>,
+    order: Vec<u32>,
+    tally: Vec<u32>,
+    answers: Vec<u32>,
+}
+
+impl Storage {
+    fn new(spans: usize, order: usize, tally: usize, answers: usize) -> Self {
+        Self {
+            spans: vec![OTHER; spans],
+            order: vec![OTHER; order],
+            tally: vec![OTHER; tally],
+            answers: vec![OTHER; answers],
+        }
+    }
+
+    fn replay(&mut self, p: u32, v: u32, requests: &[u32]) -> u32 {
+        let Self { spans, order, tally, answers } = self;
+        unsafe {
+            guide_replay(
+                p,
+                v,
+                requests.as_ptr(),
+                requests.len(),
+                spans.as_mut_ptr(),
+                spans.len(),
+                order.as_mut_ptr(),
+                order.len(),
+                tally.as_mut_ptr(),
+                tally.len(),
+                answers.as_mut_ptr(),
+                answers.len(),
+            )
+        }
+    }
+
+    fn untouched(&self) -> bool {
+        [&self.spans, &self.order, &self.tally, &self.answers]
+            .iter()
+            .all(|slice| slice.iter().all(|number| *number == OTHER))
+    }
+}
+
+fn main() {
+    let words: Vec<String> = std::env::args().skip(1).collect();
+    match words.iter().map(String::as_str).collect::<Vec<_>>()[..] {
+        ["runs"] => runs(),
+        ["refusals"] => refusals(),
+        _ => fail("use: runs | refusals"),
+    }
+}
+
+fn fail(message: &str) -> ! {
+    eprintln!("guide: {message}");
+    exit(2)
+}
+
+// ---- Refused openings
+
+fn refusals() {
+    let needed = |p: u32, v: u32| (128 * (p as usize + 1), 4 * v as usize, p as usize + 1);
+    let (s, o, t) = needed(7, 9);
+    let (top_s, _, top_t) = needed(64_999, 9);
+    let (_, top_o, _) = needed(7, 16_777_216);
+    let cases = [
+        (0, 9, s, o, t, 1),
+        (65_000, 9, top_s + 128, o, top_t + 1, 1),
+        (u32::MAX, 9, s, o, t, 1),
+        (7, 0, s, o, t, 1),
+        (7, 16_777_217, s, top_o + 4, t, 1),
+        (0, 0, 0, 0, 0, 1),
+        (7, 9, s - 1, o, t, 2),
+        (7, 9, s, o - 1, t, 2),
+        (7, 9, s, o, t - 1, 2),
+        (7, 9, 0, 0, 0, 2),
+        (64_999, 9, top_s - 1, o, top_t, 2),
+        (7, 16_777_216, s, top_o - 1, t, 2),
+        (7, 9, s, o, t, 0),
+        (64_999, 9, top_s, o, top_t, 0),
+        (7, 16_777_216, s, top_o, t, 0),
+        (1, 1, 256, 4, 2, 0),
+    ];
+    for (p, v, spans, order, tally, want) in cases {
+        let mut storage = Storage::new(spans, order, tally, ANSWER);
+        let got = storage.replay(p, v, &[1, 0, 0, 1, 2, 3]);
+        if got != want || (want != 0) != storage.untouched() {
+            fail(&format!(
+                "opening with P {p}, V {v}, lengths {spans} {order} {tally}: {got}, not {want}, or the storage is not as it should be"
+            ));
+        }
+    }
+    println!("guide: {} openings, refused or not, no difference", cases.len());
+}
+
+// ---- Runs
+
+struct Run {
+    p: u32,
+    v: u32,
+    traced: bool,
+    lines: Vec<String>,
+    requests: Vec<u32>,
+}
+
+fn runs() {
+    let mut input = String::new();
+    if std::io::stdin().read_to_string(&mut input).is_err() {
+        fail("the input can't be read");
+    }
+    let mut out = BufWriter::with_capacity(1 << 16, std::io::stdout());
+    let mut run: Option<Run> = None;
+    for (i, line) in input.lines().enumerate() {
+        let wrong = || -> ! { fail(&format!("line {}: `{line}`", i + 1)) };
+        if line.starts_with('=') {
+            continue;
+        }
+        let words: Vec<&str> = line.split(' ').collect();
+        match (&mut run, &words[..]) {
+            (Some(open), ["end"]) => {
+                put(&mut out, &answer(open));
+                run = None;
+            }
+            (Some(open), _) if line.is_empty() || line.starts_with('#') => open.lines.push(line.to_owned()),
+            (None, _) if line.is_empty() || line.starts_with('#') => put(&mut out, &format!("{line}\n")),
+            (None, ["guide", p, v]) => {
+                let (Some(p), Some(v)) = (number(p), number(v)) else { wrong() };
+                run = Some(Run { p, v, traced: false, lines: Vec::new(), requests: Vec::new() });
+                put(&mut out, &format!("{line}\n"));
+            }
+            (Some(open), ["trace"]) if open.requests.is_empty() => {
+                open.traced = true;
+                put(&mut out, "trace\n");
+            }
+            (Some(open), _) => {
+                let Some(request) = request(&words) else { wrong() };
+                open.lines.push(line.to_owned());
+                open.requests.extend(request);
+            }
+            (None, _) => wrong(),
+        }
+    }
+    if run.is_some() {
+        fail("the last run has no `end`");
+    }
+    if out.flush().is_err() {
+        exit(1);
+    }
+}
+
+fn put(out: &mut impl Write, text: &str) {
+    if out.write_all(text.as_bytes()).is_err() {
+        exit(1);
+    }
+}
+
+fn number(word: &str) -> Option<u32> {
+    word.parse().ok()
+}
+
+fn request(words: &[&str]) -> Option<[u32; REQUEST]> {
+    match words {
+        ["flush"] => Some([0; REQUEST]),
+        ["push", value, added, accepted, after] => {
+            let (kind, span, position) = match after.split_once(',') {
+                None if *after == "-" => (1, 0, 0),
+                Some((span, position)) => (2, number(span)?, number(position)?),
+                None => return None,
+            };
+            Some([kind, span, position, number(value)?, number(added)?, number(accepted)?])
+        }
+        _ => None,
+    }
+}
+
+/// The run's lines with the answers beside them, in the words of FORMAT.md.
+fn answer(run: &Run) -> String {
+    let (p, v) = (run.p as usize, run.v as usize);
+    let calls = run.requests.len() / REQUEST;
+    let (spans, order, tally) = (128 * (p + 1), 4 * v, p + 1);
+    let mut storage = Storage::new(spans + BEYOND, order + BEYOND, tally + BEYOND, calls * ANSWER + BEYOND);
+    let code = storage.replay(run.p, run.v, &run.requests);
+    let mut text = String::new();
+    if code != 0 {
+        if !storage.untouched() {
+            fail("a refused opening changed the storage");
+        }
+        for line in &run.lines {
+            let _ = writeln!(text, "{line}");
+        }
+        let _ = writeln!(text, "= refused open,{code}\nend");
+        return text;
+    }
+    let answers: Vec<&[u32]> = storage.answers[..calls * ANSWER].chunks(ANSWER).collect();
+    let mut made = answers.iter();
+    let (mut refused, mut locations) = (Vec::new(), Vec::new());
+    for line in &run.lines {
+        let _ = writeln!(text, "{line}");
+        if line.is_empty() || line.starts_with('#') {
+            continue;
+        }
+        let Some(answer) = made.next() else { fail("fewer answers than calls") };
+        let (code, location) = (answer[0], format!("{},{}", answer[1], answer[2]));
+        let pushed = code == 0 && line != "flush";
+        if run.traced {
+            let location = if pushed { &location } else { "-" };
+            let _ = writeln!(text, "= at {code} {location} {} {}", answer[3], window(answer));
+        }
+        if code != 0 {
+            refused.push(format!("{},{code}", answers.len() - made.len() - 1));
+        }
+        if pushed {
+            locations.push(location);
+        }
+    }
+    let mut fresh = [0; ANSWER];
+    fresh[4] = 0;
+    let last: &[u32] = answers.last().copied().unwrap_or(&fresh);
+    let written = last[3] as usize;
+    if storage.spans[spans..].iter().any(|n| *n != OTHER)
+        || storage.order[4 * written..].iter().any(|n| *n != OTHER)
+        || storage.tally[tally..].iter().any(|n| *n != OTHER)
+        || storage.answers[calls * ANSWER..].iter().any(|n| *n != OTHER)
+    {
+        fail("storage beyond the needed lengths, or of entries not yet appended, was changed");
+    }
+    say(&mut text, "refused", refused);
+    say(&mut text, "locations", locations);
+    say(&mut text, "order", storage.order[..4 * written].chunks(4).map(tuple));
+    let counts = storage.tally[..tally].iter().enumerate();
+    say(&mut text, "tally", counts.filter(|(_, n)| **n != 0).map(|(i, n)| format!("{i},{n}")));
+    let _ = writeln!(text, "= window {}", window(last));
+    // A span's row is its number modulo 32.
+    let held = (0..32).flat_map(|i| {
+        let row = (last[4] as usize + i) % 32 * (p + 1);
+        storage.spans[4 * row..].chunks(4).take(last[5 + i] as usize).map(|entry| tuple(&entry[..3]))
+    });
+    say(&mut text, "held", held);
+    text.push_str("end\n");
+    text
+}
+
+fn tuple(numbers: &[u32]) -> String {
+    numbers.iter().map(u32::to_string).collect::<Vec<_>>().join(",")
+}
+
+/// Span 0's number, and the lengths up to the last that is not 0.
+fn window(answer: &[u32]) -> String {
+    let lengths = &answer[5..];
+    let shown = lengths.iter().rposition(|length| *length != 0).map_or(0, |i| i + 1);
+    let mut text = answer[4].to_string();
+    for length in &lengths[..shown] {
+        let _ = write!(text, " {length}");
+    }
+    text
+}
+
+fn say(text: &mut String, word: &str, tuples: impl IntoIterator<Item = impl Display>) {
+    let _ = write!(text, "= {word}");
+    for tuple in tuples {
+        let _ = write!(text, " {tuple}");
+    }
+    text.push('\n');
+}
