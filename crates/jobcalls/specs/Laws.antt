@@ -350,7 +350,7 @@ module _ {s entry mid : List ℕ} {after : ℕ} {l : Line} (a : LineAt s 0 entry
       ∙ ap (λ (x : List (List ℕ)). acts-1 (line-as l mid) x rag) (sym (a .others))
 
   pub no-line-1 : parallelism-of l ≡ number.Malformed → HeadRead s (head.Malformed 1)
-  no-line-1 e = record { runs = λ rag. at-1 rag ∙ by-1 l mid (lines (drop after s)) rag e; starts = tt }
+  no-line-1 e = record { runs = λ rag. at-1 rag ∙ by-1 l mid (lines (drop after s)) rag e; starts = omega arith }
 
   module _ (P : ℕ) (p : parallelism-of l ≡ number.Value P) {exit : List ℕ} {next : ℕ} {m : Line} (b : LineAt s after mid exit 0 m next) where
     at-2 : (rag : Bool) → run-job (lines s) rag ≡ acts-2 P (line-as m exit) (lines (drop next s)) rag
@@ -361,7 +361,7 @@ module _ {s entry mid : List ℕ} {after : ℕ} {l : Line} (a : LineAt s 0 entry
         ∙ ap (λ (x : List (List ℕ)). acts-2 P (line-as m exit) x rag) (sym (b .others))
 
     pub no-line-2 : places-of m ≡ number.Malformed → HeadRead s (head.Malformed 2)
-    no-line-2 e = record { runs = λ rag. at-2 rag ∙ by-2 P m exit (lines (drop next s)) rag e; starts = tt }
+    no-line-2 e = record { runs = λ rag. at-2 rag ∙ by-2 P m exit (lines (drop next s)) rag e; starts = omega arith }
 
     pub the-head : (N : ℕ) → places-of m ≡ number.Value N → HeadRead s (head.Sizes P N next)
     unfolding acts-2

@@ -126,9 +126,9 @@ runs-from s (head.Malformed n) rag = rule.rejected n 15
 runs-from s (head.Sizes P N next) rag =
     on-line 2 (verdict (check-open P N job-sizes)) (run-lines P N job-pool 3 none (lines (drop next s)) rag initial)
 
--- what follows the head starts within the job
+-- what follows the head starts within the job; a refused line is one of the head's two
 abbrev pub starts-in : List ℕ → Head → Type 0
-starts-in s (head.Malformed n) = Unit {0}
+starts-in s (head.Malformed n) = n ≤ 2
 starts-in s (head.Sizes P N next) = (2 ≤ next) × ((next ≤ length s) × (ragged (drop next s) ≡ ragged s))
 
 -- the head of the job s was read
