@@ -55,43 +55,67 @@ module _ (l : List ℕ) (at : ℕ) where
   add-none middle (inl x) e = inl (refl, rw (x .1, add-front))
   add-none middle (inr x) e = absurd (omega (arith, x .0))
 
+  -- two counted lists, one after the other
+  pub add-whole : (middle r : ℕ) → counted (drop at l) ≡ some (record { items = take (middle - (at + 1)) (drop (at + 1) l); rest = drop middle l })
+      → counted (drop middle l) ≡ some (record { items = take (r - (middle + 1)) (drop (middle + 1) l); rest = drop r l })
+      → add-front (counted (drop at l)) ≡ some (record { call = add (take (middle - (at + 1)) (drop (at + 1) l)) (take (r - (middle + 1)) (drop (middle + 1) l)); rest = drop r l })
+  unfolding add-front add-outs
+  add-whole middle r x y = rw (x, add-front) (rw (y, add-outs))
+
   pub add-some : (middle r : ℕ) → ListEnds l at middle → (middle ≡ 0 → ⊥) → ListEnds l middle r → Ends (add-front (counted (drop at l))) l at r
   unfolding add-front add-outs
   add-some middle r (inl x) e y = absurd (e (x .0))
   add-some middle r (inr x) e (inl y) = inl (y .0, rw (x .2, add-front) (rw (y .1, add-outs)))
   add-some middle r (inr x) e (inr y) =
-      inr (add (take (middle - (at + 1)) (drop (at + 1) l)) (take (r - (middle + 1)) (drop (middle + 1) l)), omega (arith, x .0, y .0), y .1, rw (x .2, add-front) (rw (y .2, add-outs)))
+      inr (add (take (middle - (at + 1)) (drop (at + 1) l)) (take (r - (middle + 1)) (drop (middle + 1) l)), omega (arith, x .0, y .0), y .1, add-whole middle r (x .2) (y .2))
 
   module _ (h : at < length l) where
     front-at : front (drop at l) ≡ front (getD l at 0 ∷ drop (at + 1) l)
     front-at = let s : at + 1 ≡ suc at = omega arith in ap front (drop-cons l at 0 h ∙ ap (λ n. getD l at 0 ∷ drop n l) (sym s))
 
-    pub call-add : (r : ℕ) → getD l at 0 ≡ 2 → Ends (add-front (counted (drop (at + 1) l))) l (at + 1) r → Ends (front (drop at l)) l at r
+    -- the call that starts at `at`, by its tag
+    pub front-set : getD l at 0 ≡ 1 → at + 1 < length l → front (drop at l) ≡ some (record { call = set (getD l (at + 1) 0); rest = drop (at + 2) l })
+    unfolding front set-front
+    front-set e k = let s : suc (at + 1) ≡ at + 2 = omega arith in front-at ∙ rw e (rw (drop-cons l (at + 1) 0 k, s))
+
+    pub front-set-short : getD l at 0 ≡ 1 → length l ≤ at + 1 → front (drop at l) ≡ none
+    unfolding front set-front
+    front-set-short e k = front-at ∙ rw e (rw (drop-of-length-le l k))
+
+    pub front-add : getD l at 0 ≡ 2 → front (drop at l) ≡ add-front (counted (drop (at + 1) l))
     unfolding front
-    call-add r e (inl x) = inl (x .0, front-at ∙ rw e (x .1))
-    call-add r e (inr x) = inr (x .0, omega (arith, x .1), x .2, front-at ∙ rw e (x .3))
+    front-add e = front-at ∙ rw e refl
+
+    pub front-flush : getD l at 0 ≡ 3 → front (drop at l) ≡ some (record { call = flush; rest = drop (at + 1) l })
+    unfolding front
+    front-flush e = front-at ∙ rw e refl
+
+    pub front-final : getD l at 0 ≡ 4 → front (drop at l) ≡ some (record { call = final; rest = drop (at + 1) l })
+    unfolding front
+    front-final e = front-at ∙ rw e refl
+
+    pub front-other : (getD l at 0 ≡ 1 → ⊥) → (getD l at 0 ≡ 2 → ⊥) → (getD l at 0 ≡ 3 → ⊥) → (getD l at 0 ≡ 4 → ⊥) → front (drop at l) ≡ none
+    unfolding front
+    front-other a b c d = front-at ∙ rw (ne-eqb (getD l at 0) 1 a, ne-eqb (getD l at 0) 2 b, ne-eqb (getD l at 0) 3 c, ne-eqb (getD l at 0) 4 d, front)
+
+    pub call-add : (r : ℕ) → getD l at 0 ≡ 2 → Ends (add-front (counted (drop (at + 1) l))) l (at + 1) r → Ends (front (drop at l)) l at r
+    call-add r e (inl x) = inl (x .0, front-add e ∙ x .1)
+    call-add r e (inr x) = inr (x .0, omega (arith, x .1), x .2, front-add e ∙ x .3)
 
     pub call-flush : getD l at 0 ≡ 3 → Ends (front (drop at l)) l at (at + 1)
-    unfolding front
-    call-flush e = inr (flush, omega arith, omega arith, front-at ∙ rw e refl)
+    call-flush e = inr (flush, omega arith, omega arith, front-flush e)
 
     pub call-final : getD l at 0 ≡ 4 → Ends (front (drop at l)) l at (at + 1)
-    unfolding front
-    call-final e = inr (final, omega arith, omega arith, front-at ∙ rw e refl)
+    call-final e = inr (final, omega arith, omega arith, front-final e)
 
     pub call-set : getD l at 0 ≡ 1 → at + 1 < length l → Ends (front (drop at l)) l at (at + 2)
-    unfolding front set-front
-    call-set e k =
-        let s : suc (at + 1) ≡ at + 2 = omega arith in
-        inr (set (getD l (at + 1) 0), omega arith, omega arith, front-at ∙ rw e (rw (drop-cons l (at + 1) 0 k, s)))
+    call-set e k = inr (set (getD l (at + 1) 0), omega arith, omega arith, front-set e k)
 
     pub call-set-short : getD l at 0 ≡ 1 → length l ≤ at + 1 → Ends (front (drop at l)) l at 0
-    unfolding front set-front
-    call-set-short e k = inl (refl, front-at ∙ rw e (rw (drop-of-length-le l k)))
+    call-set-short e k = inl (refl, front-set-short e k)
 
     pub call-other : (getD l at 0 ≡ 1 → ⊥) → (getD l at 0 ≡ 2 → ⊥) → (getD l at 0 ≡ 3 → ⊥) → (getD l at 0 ≡ 4 → ⊥) → Ends (front (drop at l)) l at 0
-    unfolding front
-    call-other a b c d = inl (refl, front-at ∙ rw (ne-eqb (getD l at 0) 1 a, ne-eqb (getD l at 0) 2 b, ne-eqb (getD l at 0) 3 c, ne-eqb (getD l at 0) 4 d, front))
+    call-other a b c d = inl (refl, front-other a b c d)
 
 -- the count at `at`: n calls were read, and the rest is still to be read
 pub record Counting (l : List ℕ) (at n : ℕ) : Type 0 where

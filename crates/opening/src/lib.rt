@@ -50,7 +50,7 @@ fn too_short(
 }
 
 // The number of the first check of opening that fails, or 0.
-fn check_open(
+pub fn check_open(
     p: u64,
     v: u64,
     spans: usize,
@@ -113,7 +113,7 @@ fn clear(
 }
 
 // A session of parallelism p and v places just opened.
-fn fresh(p: u32, v: u32) -> Session
+pub fn fresh(p: u32, v: u32) -> Session
     ensures { λ s. ⌜ s ≡ first-session p v ⌝ }
 {
     let g = guide::fresh(p, v);

@@ -1,0 +1,35 @@
+-- What the checks of set and add ask and promise: whatever test the flags are those of, the number is that of the checks with this test, and
+-- the storage is as it was. Definitions only. Assumes nothing.
+use mathlib.Core.Path.{_≡_}
+use mathlib.Core.List.{List, _++_}
+use mathlib.Core.Bool.{Bool}
+use Prim.Native.Nat.{ℕ, _*_, _≤_}
+use lib.ListN.{length}
+use Rattle.rules.specs.Checks.{verdict}
+use Rattle.lists.specs.Part.{Below}
+use Rattle.lists.specs.Flags.{Flags}
+use Rattle.checking.specs.Parts.{set-checks, list-checks, state-checks}
+
+pub record ChecksSet (w : List ℕ) (closed : Bool) (v x n : ℕ) : Type 0 where
+  pub is : (t : ℕ → Bool) → Flags v t w → n ≡ verdict (set-checks closed v x t)
+
+-- the flags are those of some test
+pub record MayCheck (w outs : List ℕ) (v used inputs room : ℕ) : Type 0 where
+  pub taken : ℕ → Bool
+  pub flags : Flags v taken w
+  pub below : Below v outs
+  pub fits : used ≤ room
+  pub few : inputs ≤ 65535
+
+pub record ChecksState (w outs : List ℕ) (v added used inputs room n : ℕ) (w′ : List ℕ) : Type 0 where
+  pub is : (t : ℕ → Bool) → Flags v t w → n ≡ verdict (state-checks v t outs added used inputs room)
+  pub same : w′ ≡ w
+
+pub record MayAdd (w : List ℕ) (v used room : ℕ) : Type 0 where
+  pub taken : ℕ → Bool
+  pub flags : Flags v taken w
+  pub fits : used ≤ room
+
+pub record ChecksAdd (w ins outs : List ℕ) (closed : Bool) (v added used room n : ℕ) (w′ : List ℕ) : Type 0 where
+  pub is : (t : ℕ → Bool) → Flags v t w → n ≡ verdict (list-checks closed v ins outs ++ state-checks v t outs added used (length ins) room)
+  pub same : w′ ≡ w

@@ -1,0 +1,2 @@
+-- The lists of an accepted registration.
+pub mod Entering

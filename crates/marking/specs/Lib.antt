@@ -1,0 +1,2 @@
+-- A set place.
+pub mod Marking

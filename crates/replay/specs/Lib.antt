@@ -1,0 +1,5 @@
+-- A list of calls replayed on a fresh session.
+pub mod Replay
+pub mod Making
+pub mod Turn
+pub mod Running

@@ -1,0 +1,89 @@
+-- Making one call of an encoded list: what its numbers say, by its tag, and that the call was made. Assumes nothing.
+use mathlib.Core.Path.{_≡_, refl, sym, ap, _∙_, subst}
+use mathlib.Core.List.{List, [], _∷_}
+use mathlib.Core.Logic.{_⊎_, inl, inr}
+use mathlib.Core.Option.{Option, some, none}
+use Prim.Native.Nat.{ℕ, suc, _+_, _-_, _≤_, _<_}
+use native.Mathlib.Omega.{arith}
+use native.Mathlib.Decide.{ℕ-discrete}
+use lib.ListN.{length, getD, take, drop}
+use Rattle.rules.specs.Calls.{Call, set, add, flush, final}
+use Rattle.rules.specs.Encoding.{Front, Counted, counted, add-front, add-outs, front}
+use Rattle.encoding.specs.Ends.{ListEnds, front-set, front-set-short, front-add, front-flush, front-final, front-other, add-whole}
+use Rattle.session.specs.declared.Session.{Session}
+use Rattle.session.specs.Storage.{Storage}
+use Rattle.sorter.specs.Promise.{Called}
+use Rattle.replay.specs.Replay.{Made, Readable}
+
+never : (f : Front) (o : Option Front) → o ≡ some f → o ≡ none → ⊥
+never f o e d = let z : _≡_ {A = ℕ} 0 1 = cc in omega arith
+
+module _ (l : List ℕ) (at : ℕ) (R : Readable l at) where
+  -- a set has its place
+  pub set-inside : getD l at 0 ≡ 1 → at + 1 < length l
+  set-inside e = go (ℕ-discrete (length l) (at + 1))
+    where
+      go : Dec (length l ≡ at + 1) → at + 1 < length l
+      go (yes y) = absurd (never (R .read) (front (drop at l)) (R .is) (front-set-short l at (R .inside) e (omega arith)))
+      go (no n) = omega (arith, R .inside, n)
+
+  module _ (n : ℕ) (s s′ : Session) (σ σ′ : Storage) where
+    pub made-set : getD l at 0 ≡ 1 → Called (set (getD l (at + 1) 0)) n s s′ σ σ′ → Made l at n (at + 2) s s′ σ σ′
+    made-set e c =
+        record {
+          call = set (getD l (at + 1) 0);
+          is = front-set l at (R .inside) e (set-inside e);
+          past = omega arith;
+          within = omega (arith, set-inside e);
+          called = c;
+        }
+
+    pub made-flush : getD l at 0 ≡ 3 → Called flush n s s′ σ σ′ → Made l at n (at + 1) s s′ σ σ′
+    made-flush e c = record { call = flush; is = front-flush l at (R .inside) e; past = omega arith; within = omega (arith, R .inside); called = c }
+
+    -- no other tag is left
+    pub made-final : (getD l at 0 ≡ 1 → ⊥) → (getD l at 0 ≡ 2 → ⊥) → (getD l at 0 ≡ 3 → ⊥) → Called final n s s′ σ σ′ → Made l at n (at + 1) s s′ σ σ′
+    made-final x y z c =
+        record {
+          call = final;
+          is = front-final l at (R .inside) tag;
+          past = omega arith;
+          within = omega (arith, R .inside);
+          called = c;
+        }
+      where
+        tag : getD l at 0 ≡ 4
+        tag = elim (ℕ-discrete (getD l at 0) 4) [ yes e ↦ e | no w ↦ absurd (never (R .read) (front (drop at l)) (R .is) (front-other l at (R .inside) x y z w)) ]
+
+  -- an add has both lists
+  module _ (tag : getD l at 0 ≡ 2) (middle next : ℕ) (X : ListEnds l (at + 1) middle) (Y : ListEnds l middle next) where
+    record Whole : Type 0 where
+      ordered : at + 1 < middle
+      first : counted (drop (at + 1) l) ≡ some (record { items = take (middle - (at + 1 + 1)) (drop (at + 1 + 1) l); rest = drop middle l })
+      between : middle < next
+      inside : next ≤ length l
+      second : counted (drop middle l) ≡ some (record { items = take (next - (middle + 1)) (drop (middle + 1) l); rest = drop next l })
+
+    whole : Whole
+    unfolding add-front add-outs
+    whole = go X Y
+      where
+        go : ListEnds l (at + 1) middle → ListEnds l middle next → Whole
+        go (inl x) y = absurd (never (R .read) (front (drop at l)) (R .is) (front-add l at (R .inside) tag ∙ ap add-front (x .1)))
+        go (inr x) (inl y) = absurd (never (R .read) (front (drop at l)) (R .is) (front-add l at (R .inside) tag ∙ ap add-front (x .2) ∙ ap (λ (o : Option Counted). add-outs (take (middle - (at + 1 + 1)) (drop (at + 1 + 1) l)) o) (y .1)))
+        go (inr x) (inr y) = record { ordered = x .0; first = x .2; between = y .0; inside = y .1; second = y .2 }
+
+    pub add-inside : (at + 2 ≤ middle) × ((middle + 1 ≤ next) × (next ≤ length l))
+    add-inside = let w = whole in (omega (arith, w .ordered), (omega (arith, w .between), w .inside))
+
+    pub made-add : (n : ℕ) (s s′ : Session) (σ σ′ : Storage) → Called (add (take (middle - (at + 2)) (drop (at + 2) l)) (take (next - (middle + 1)) (drop (middle + 1) l))) n s s′ σ σ′ → Made l at n next s s′ σ σ′
+    made-add n s s′ σ σ′ c =
+        let w = whole in
+        let e : at + 1 + 1 ≡ at + 2 = omega arith in
+        record {
+          call = add (take (middle - (at + 1 + 1)) (drop (at + 1 + 1) l)) (take (next - (middle + 1)) (drop (middle + 1) l));
+          is = front-add l at (R .inside) tag ∙ add-whole l (at + 1) middle next (w .first) (w .second);
+          past = omega (arith, w .ordered, w .between);
+          within = w .inside;
+          called = rw e c;
+        }

@@ -1,0 +1,189 @@
+-- The loop of a replay as a function's promise: from a fresh session, whatever list the numbers decode to, all its calls are made. And
+-- the whole of a replay, from the count of the calls, opening's promise and the loop's. Assumes nothing.
+use mathlib.Core.Path.{_≡_, refl, sym, ap, _∙_, subst}
+use mathlib.Core.List.{List, [], _∷_, _++_}
+use mathlib.Core.Bool.{Bool, true, false, _||_}
+use mathlib.Core.Option.{Option, some, none}
+use Prim.Native.Nat.{ℕ, _+_, _*_, _-_, _≤_, _<_}
+use native.Mathlib.Omega.{arith}
+use lib.Dec.{ltb, eqb}
+use lib.ListN.{length, take, set}
+use borrow.Author.Tests.{lt-ltb, le-ltb, eq-eqb, ne-eqb}
+use Rattle.rules.specs.Model.{Model, initial}
+use Rattle.rules.specs.Checks.{Check, verdict, too-short, check-open, check-range}
+use Rattle.rules.specs.Calls.{Call, run, answers}
+use Rattle.rules.specs.Encoding.{decode}
+use Rattle.laws.specs.Accepted.{verdict-head}
+use Rattle.laws.specs.ModelBase.{bool-cases}
+use Rattle.laws.specs.Demand.{Demand}
+use mathlib.Core.Logic.{_⊎_, inl, inr}
+use Rattle.encoding.specs.Ends.{Counts}
+use Rattle.guide.specs.Fresh.{first-guide}
+use Rattle.session.specs.declared.Session.{Session}
+use Rattle.session.specs.Storage.{Storage, storage, Frame, frame-refl, frame-trans}
+use Rattle.session.specs.Rep.{Rep}
+use Rattle.opening.specs.Opened.{sizes, first-session, Opens, Enough, enough-of}
+use Rattle.sorter.specs.Promise.{Asks}
+use Rattle.replay.specs.Replay.{replay-number, Ran, Replays, Exported, Made, Readable}
+use Rattle.replay.specs.Turn.{Running, running-start, running-asks, running-readable, made-few, running-turn, running-end}
+
+-- a fresh session, and numbers that are the calls `all`, for whose own numbers there is room
+pub record Starts (P N : ℕ) (all : List Call) (l : List ℕ) (s : Session) (σ : Storage) (out : List ℕ) : Type 0 where
+  pub positive : 1 ≤ P
+  pub is : decode l ≡ some all
+  pub room : length all ≤ length out
+  pub rep : Rep P N initial s σ
+  pub first : s .guide .written ≡ 0
+
+pub record MayRun (l : List ℕ) (s : Session) (σ : Storage) (out : List ℕ) : Type 0 where
+  pub P : ℕ
+  pub N : ℕ
+  pub all : List Call
+  pub starts : Starts P N all l s σ out
+
+-- all calls are made
+pub record Runs (l : List ℕ) (s : Session) (σ : Storage) (out : List ℕ) (s′ : Session) (τ : Storage) (out′ : List ℕ) : Type 0 where
+  pub ran : (P N : ℕ) (all : List Call) → Starts P N all l s σ out → Ran P N all s′ σ τ out out′
+
+-- midway
+pub record Midrun (l : List ℕ) (s₀ : Session) (σ₀ : Storage) (out₀ : List ℕ) (s : Session) (σ : Storage) (out : List ℕ) (at n : ℕ) : Type 0 where
+  pub running : (P N : ℕ) (all : List Call) → Starts P N all l s₀ σ₀ out₀ → Running P N l all σ₀ out₀ s σ out at n
+
+pub midrun-begins : (l : List ℕ) (s : Session) (σ : Storage) (out : List ℕ) → Midrun l s σ out s σ out 0 0
+midrun-begins l s σ out = record {
+  running = λ P N all S.
+      running-start P N l all σ out (S .positive) (S .is) (S .room) s σ (S .rep)
+      (subst (λ (n : ℕ). Frame P N 0 n σ σ) (sym (S .first)) (frame-refl P N 0 σ));
+}
+
+module _ (l : List ℕ) (s₀ : Session) (σ₀ : Storage) (out₀ : List ℕ) (ask : MayRun l s₀ σ₀ out₀) (s : Session) (σ : Storage) (out : List ℕ) (at n : ℕ) (M : Midrun l s₀ σ₀ out₀ s σ out at n) where
+  pub here : Running (ask .P) (ask .N) l (ask .all) σ₀ out₀ s σ out at n
+  here = M .running (ask .P) (ask .N) (ask .all) (ask .starts)
+
+  pub midrun-asks : at < length l → Asks s σ × Readable l at
+  midrun-asks h =
+      (running-asks (ask .P) (ask .N) l (ask .all) σ₀ out₀ s σ out at n here, running-readable (ask .P) (ask .N) l (ask .all) σ₀ out₀ s σ out at n here h)
+
+  module _ (h : at < length l) (s′ : Session) (σ′ : Storage) (num next : ℕ) (D : Made l at num next s s′ σ σ′) where
+    -- there is room for the call's number
+    pub midrun-room : n < length out
+    midrun-room = omega (arith, made-few (ask .P) (ask .N) l (ask .all) σ₀ out₀ s σ out at n here h s′ σ′ num next D, here .room, here .long)
+
+    pub midrun-turn : Midrun l s₀ σ₀ out₀ s′ σ′ (set out n num) next (n + 1)
+    midrun-turn = record { running = λ P N all S. running-turn P N l all σ₀ out₀ s σ out at n (M .running P N all S) h s′ σ′ num next D }
+
+    pub midrun-less : length l - next < length l - at
+    midrun-less = omega (arith, D .past, D .within)
+
+  pub midrun-ends : length l ≤ at → Runs l s₀ σ₀ out₀ s σ out
+  midrun-ends h = record { ran = λ P N all S. running-end P N l all σ₀ out₀ s σ out at n (M .running P N all S) h }
+
+-- the same from the storage before it was opened
+moved : (P N : ℕ) (cs : List Call) (s : Session) (σ τ υ : Storage) (out out′ : List ℕ) → τ .pool ≡ σ .pool → Frame P N 0 0 σ τ → Ran P N cs s τ υ out out′ → Ran P N cs s σ υ out out′
+moved P N cs s σ τ υ out out′ e f r =
+    let el : length (τ .pool) ≡ length (σ .pool) = ap length e in
+    record {
+      numbers = subst (λ (W : ℕ). take (length cs) out′ ≡ answers P N W cs initial) el (r .numbers);
+      rep = subst (λ (W : ℕ). Rep P N (run P N W cs initial) s υ) el (r .rep);
+      demand = subst (λ (W : ℕ). Demand P N W cs (run P N W cs initial)) el (r .demand);
+      frame = frame-trans P N 0 0 (s .guide .written) σ τ υ f (r .frame);
+      long = r .long;
+      beyond = r .beyond;
+    }
+
+first-written : (p v : ℕ) → (first-session p v) .guide .written ≡ 0
+unfolding first-guide
+first-written p v = refl
+
+-- the number of a replay
+verdict-first : (cs ds : List Check) → (verdict cs ≡ 0 → ⊥) → verdict (cs ++ ds) ≡ verdict cs
+unfolding verdict
+verdict-first [] ds h = absurd (h refl)
+verdict-first (c ∷ cs) ds h = go (bool-cases (c .fails)) (λ z. verdict-first cs ds z)
+  where
+    go : (c .fails ≡ true) ⊎ (c .fails ≡ false) → ((verdict cs ≡ 0 → ⊥) → verdict (cs ++ ds) ≡ verdict cs) → verdict (c ∷ (cs ++ ds)) ≡ verdict (c ∷ cs)
+    go (inl e) f = rw (e, verdict)
+    go (inr e) f = rw (e, verdict) (f (λ z. h (rw (e, verdict) z)))
+
+module _ (P N : ℕ) (l : List ℕ) (σ : Storage) (out : List ℕ) where
+  abbrev Passed : Type 0
+  Passed = ((ltb P 1 || ltb 64999 P) ≡ false) × (((ltb N 1 || ltb 16777216 N) ≡ false) × (too-short P N (sizes σ) ≡ false))
+
+  passed : 0 ≡ verdict (check-open P N (sizes σ)) → Passed
+  unfolding check-open check-range
+  passed e =
+      let x = verdict-head _ _ (sym e) (omega arith) in
+      let y = verdict-head _ _ (x .1) (omega arith) in
+      let z = verdict-head _ _ (y .1) (omega arith) in
+      (x .0, (y .0, z .0))
+
+  passed-open : (c : Check) → 0 ≡ verdict (check-open P N (sizes σ)) → verdict (check-open P N (sizes σ) ++ (c ∷ [])) ≡ verdict (c ∷ [])
+  unfolding check-open check-range verdict
+  passed-open c e =
+      let x = passed e in
+      rw (x .0, x .1 .0, x .1 .1)
+
+  module _ (well : Bool) (many : ℕ) (C : Counts l well many) where
+    pub replay-malformed : (s : Session) → well ≡ false → Replays P N l 15 s σ σ out out
+    unfolding replay-number
+    replay-malformed s e =
+        record {
+          number-is = rw (C .malformed e);
+          refused = λ z. (refl, refl);
+          ran = λ z. absurd (omega arith);
+        }
+
+    module _ (w : well ≡ true) where
+      pub replay-refused : (n : ℕ) (s : Session) → n ≡ verdict (check-open P N (sizes σ)) → (n ≡ 0 → ⊥) → Replays P N l n s σ σ out out
+      unfolding replay-number
+      replay-refused n s e h =
+          record {
+            number-is = rw (C .formed w .1) (e ∙ sym (verdict-first (check-open P N (sizes σ)) _ (λ z. h (e ∙ z))));
+            refused = λ z. (refl, refl);
+            ran = λ z. absurd (h z);
+          }
+
+      pub replay-no-room : (s : Session) → 0 ≡ verdict (check-open P N (sizes σ)) → length out < many → Replays P N l 2 s σ σ out out
+      unfolding replay-number verdict
+      replay-no-room s e h =
+          let f : ltb (length out) (length (C .formed w .0)) ≡ true = lt-ltb (length out) (length (C .formed w .0)) (omega (arith, C .formed w .2)) in
+          record {
+            number-is = rw (C .formed w .1) (sym (passed-open _ e ∙ rw f));
+            refused = λ z. (refl, refl);
+            ran = λ z. absurd (omega arith);
+          }
+
+      starts-of : (n : ℕ) (s : Session) (τ : Storage) → 0 ≡ verdict (check-open P N (sizes σ)) → many ≤ length out → Opens P N n s σ τ → Starts P N (C .formed w .0) l s τ out
+      starts-of n s τ e h O =
+          let z : n ≡ 0 = O .number ∙ sym e in
+          record {
+            positive = enough-of P N σ e .one;
+            is = C .formed w .1;
+            room = omega (arith, C .formed w .2);
+            rep = O .rep z;
+            first = ap (λ (x : Session). x .guide .written) (O .session z) ∙ first-written P N;
+          }
+
+      pub may-run : (n : ℕ) (s : Session) (τ : Storage) → 0 ≡ verdict (check-open P N (sizes σ)) → many ≤ length out → Opens P N n s σ τ → MayRun l s τ out
+      may-run n s τ e h O = record { P = P; N = N; all = C .formed w .0; starts = starts-of n s τ e h O }
+
+      pub replay-done : (n : ℕ) (s s′ : Session) (τ υ : Storage) (out′ : List ℕ) → 0 ≡ verdict (check-open P N (sizes σ)) → many ≤ length out → Opens P N n s σ τ → τ .pool ≡ σ .pool → Runs l s τ out s′ υ out′
+          → Replays P N l 0 s′ σ υ out out′
+      unfolding replay-number verdict
+      replay-done n s s′ τ υ out′ e h O ep R =
+          let z : n ≡ 0 = O .number ∙ sym e in
+          let f : ltb (length out) (length (C .formed w .0)) ≡ false = le-ltb (length out) (length (C .formed w .0)) (omega (arith, C .formed w .2)) in
+          let r = R .ran P N (C .formed w .0) (starts-of n s τ e h O) in
+          record {
+            number-is = rw (C .formed w .1) (sym (passed-open _ e ∙ rw f));
+            refused = λ x. absurd (x refl);
+            ran = λ x. (C .formed w .0, C .formed w .1, moved P N (C .formed w .0) s′ σ τ υ out out′ ep (O .frame z) r);
+          }
+
+-- by one number
+module _ (P N : ℕ) (l : List ℕ) (n : ℕ) (s : Session) (σ τ : Storage) (out out′ : List ℕ) (R : Replays P N l n s σ τ out out′) where
+  pub exported-done : n ≡ 0 → Exported P N l (64 * s .guide .written) σ τ out out′
+  exported-done e = record { number = n; session = s; replays = R; is = rw (eq-eqb n 0 e) }
+
+  pub exported-refused : (n ≡ 0 → ⊥) → Exported P N l n σ τ out out′
+  exported-refused h = record { number = n; session = s; replays = R; is = rw (ne-eqb n 0 h) }

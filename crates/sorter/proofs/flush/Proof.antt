@@ -1,0 +1,64 @@
+-- `sorter::flush` meets its contract: the number is the model's, and 0 lets the work be done.
+use native.Mathlib.Omega.{arith}
+use Rattle.sorter.specs.Numbers.{flush-number}
+use Rattle.sorter.specs.Promise.{called-refused, called-does, may-do}
+use borrow.Author.Needs.{needs}
+use Rattle.sorter.proofs.flush.Statement.{statement}
+use Rattle.sorter.proofs.flush.Tie as tie
+use Rattle.sorter.proofs.flush.Reads as reads
+use Rattle.sorter.proofs.flush.Lts as lts
+use Rattle.checking.proofs.check_flush.Reads as check-flush-reads
+use Rattle.sorter.proofs.do_flush.Reads as do-flush-reads
+
+check-flush-requires : tie.Need-check-flush-requires
+check-flush-requires c κs = search needs
+
+returns : tie.Need-returns
+returns c = called-refused _ _ _ _ (c .if1 .taken) (flush-number _ _ _ (c .before .check-flush .ensures))
+
+do-flush-requires : tie.Need-do-flush-requires
+do-flush-requires c κs = may-do _ _ _ _ (flush-number _ _ _ (c .before .before .before .before .before .before .before .before .before .check-flush .ensures)) (c .before .before .before .before .before .before .before .before .if1 .left) (c .before .before .before .before .before .before .before .before .before .before .before .before .before .before .before .before .before .before .pre)
+
+same-length : tie.Need-same-length
+same-length c = search needs
+
+same-length-2 : tie.Need-same-length-2
+same-length-2 c = search needs
+
+same-length-3 : tie.Need-same-length-3
+same-length-3 c = search needs
+
+same-length-4 : tie.Need-same-length-4
+same-length-4 c = search needs
+
+same-length-5 : tie.Need-same-length-5
+same-length-5 c = search needs
+
+same-length-6 : tie.Need-same-length-6
+same-length-6 c = search needs
+
+same-length-7 : tie.Need-same-length-7
+same-length-7 c = search needs
+
+same-length-8 : tie.Need-same-length-8
+same-length-8 c = search needs
+
+returns-2 : tie.Need-returns-2
+returns-2 c = called-does _ _ _ _ _ _ (flush-number _ _ _ (c .before .before .before .before .before .before .before .before .before .before .before .before .before .before .before .before .check-flush .ensures)) (c .before .before .before .before .before .before .before .before .before .before .before .before .before .before .before .if1 .left) (c .before .before .before .before .before .before .do-flush .ensures)
+
+pub flush-spec : {M : Type 1} → statement M
+flush-spec =
+    tie.close
+    (tie.spec
+    check-flush-requires
+    returns
+    do-flush-requires
+    same-length
+    same-length-2
+    same-length-3
+    same-length-4
+    same-length-5
+    same-length-6
+    same-length-7
+    same-length-8
+    returns-2)

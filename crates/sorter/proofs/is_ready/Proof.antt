@@ -1,0 +1,21 @@
+-- `sorter::is_ready` meets its contract: no inputs, or the greatest decides.
+use native.Mathlib.Omega.{arith}
+use Rattle.sorter.specs.AddWork.{ready-none, ready-some, new-bounds, new-small, new-settles, new-placed, new-waits, add-counts, add-enters, add-new, add-row, add-does}
+use borrow.Author.Needs.{needs}
+use Rattle.sorter.proofs.is_ready.Statement.{statement}
+use Rattle.sorter.proofs.is_ready.Tie as tie
+use Rattle.sorter.proofs.is_ready.Reads as reads
+use Rattle.sorter.proofs.is_ready.Lts as lts
+use Rattle.lists.proofs.greatest.Reads as greatest-reads
+
+returns : tie.Need-returns
+returns c = ready-none _ _ (c .if1 .taken)
+
+greatest-requires : tie.Need-greatest-requires
+greatest-requires c κs = search needs
+
+returns-2 : tie.Need-returns-2
+returns-2 c = ready-some _ _ _ (c .before .if1 .left) (c .greatest .ensures)
+
+pub is-ready-spec : {M : Type 1} → statement M
+is-ready-spec = tie.close (tie.spec returns greatest-requires returns-2)

@@ -1,0 +1,73 @@
+-- `sorter::set` meets its contract: the number is the model's, and 0 lets the work be done.
+use native.Mathlib.Omega.{arith}
+use Rattle.sorter.specs.Numbers.{set-number}
+use Rattle.sorter.specs.Promise.{called-refused, called-does, may-do}
+use borrow.Author.Needs.{needs}
+use Rattle.sorter.proofs.set.Statement.{statement}
+use Rattle.sorter.proofs.set.Tie as tie
+use Rattle.sorter.proofs.set.Reads as reads
+use Rattle.sorter.proofs.set.Lts as lts
+use Rattle.checking.proofs.check_set.Reads as check-set-reads
+use Rattle.sorter.proofs.do_set.Reads as do-set-reads
+use Rattle.sorter.proofs.wide.Reads as wide-reads
+
+wide-requires : tie.Need-wide-requires
+wide-requires c κs = search needs
+
+check-set-requires : tie.Need-check-set-requires
+check-set-requires c κs = search needs
+
+same-length : tie.Need-same-length
+same-length c = search needs
+
+returns : tie.Need-returns
+returns c = called-refused _ _ _ _ (c .if1 .taken) (set-number _ _ _ _ _ (c .before .before .wide .ensures) (c .before .check-set .ensures))
+
+do-set-requires : tie.Need-do-set-requires
+do-set-requires c κs = may-do _ _ _ _ (set-number _ _ _ _ _ (c .before .before .before .before .before .before .before .before .before .before .wide .ensures) (c .before .before .before .before .before .before .before .before .before .check-set .ensures)) (c .before .before .before .before .before .before .before .before .if1 .left) (c .before .before .before .before .before .before .before .before .before .before .before .before .before .before .before .before .before .before .before .before .before .pre)
+
+same-length-2 : tie.Need-same-length-2
+same-length-2 c = search needs
+
+same-length-3 : tie.Need-same-length-3
+same-length-3 c = search needs
+
+same-length-4 : tie.Need-same-length-4
+same-length-4 c = search needs
+
+same-length-5 : tie.Need-same-length-5
+same-length-5 c = search needs
+
+same-length-6 : tie.Need-same-length-6
+same-length-6 c = search needs
+
+same-length-7 : tie.Need-same-length-7
+same-length-7 c = search needs
+
+same-length-8 : tie.Need-same-length-8
+same-length-8 c = search needs
+
+same-length-9 : tie.Need-same-length-9
+same-length-9 c = search needs
+
+returns-2 : tie.Need-returns-2
+returns-2 c = called-does _ _ _ _ _ _ (set-number _ _ _ _ _ (c .before .before .before .before .before .before .before .before .before .before .before .before .before .before .before .before .before .before .before .before .before .before .before .before .before .wide .ensures) (c .before .before .before .before .before .before .before .before .before .before .before .before .before .before .before .before .before .before .before .before .before .before .before .before .check-set .ensures)) (c .before .before .before .before .before .before .before .before .before .before .before .before .before .before .before .before .before .before .before .before .before .before .before .if1 .left) (c .before .before .before .before .before .before .before .before .before .before .before .before .before .before .do-set .ensures)
+
+pub set-spec : {M : Type 1} → statement M
+set-spec =
+    tie.close
+    (tie.spec
+    wide-requires
+    check-set-requires
+    same-length
+    returns
+    do-set-requires
+    same-length-2
+    same-length-3
+    same-length-4
+    same-length-5
+    same-length-6
+    same-length-7
+    same-length-8
+    same-length-9
+    returns-2)

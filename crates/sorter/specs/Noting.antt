@@ -1,0 +1,114 @@
+-- The record's part of a call: a row's written, and what final fixes. From the storage with one row's written changed, the session stands
+-- for the model whose record was changed in the same place. Assumes nothing.
+use mathlib.Core.Path.{_≡_, refl, sym, ap, _∙_, subst}
+use mathlib.Core.List.{List, [], _∷_, _++_}
+use mathlib.Core.Bool.{Bool, true, false}
+use mathlib.Core.Logic.{_⊎_, inl, inr, _≢_}
+use Prim.Native.Nat.{ℕ, zero, suc, _+_, _*_, _-_, _≤_, _<_}
+use native.Mathlib.Omega.{arith}
+use native.Mathlib.Decide.{ℕ-discrete}
+use lib.ListN.{length, getD, set, length-set, length-append, List·getD-append, List·getD-eq-default}
+use lib.Seq.{getD-set-same, getD-set-other, getD-at}
+use Rattle.rules.specs.Guide.{Entry}
+use Rattle.rules.specs.Model.{Model, Recorded, watermark, tracked, with-record, note-add, note-flush, note-final}
+use Rattle.rules.specs.Checks.{taken}
+use Rattle.records.specs.Filled.{Filled, read-row}
+use Rattle.session.specs.declared.Session.{Session}
+use Rattle.session.specs.Storage.{Storage, Beyond, Frame, frame-refl}
+use Rattle.session.specs.Rep.{Guided, Rowed, Tracked, Stored, Counted, Core, RepSt, Rep}
+
+abbrev pub with-rows : Storage → List ℕ → Storage
+with-rows σ rs =
+    record { spans = σ .spans; order = σ .order; tally = σ .tally; rows = rs; marks = σ .marks; locations = σ .locations; waiting = σ .waiting; pool = σ .pool }
+
+-- a row's written is no part of what the order says of it
+pub filled-noted : (N r n : ℕ) (rs : List ℕ) (os : List Entry) → Filled N rs os → Filled N (set rs (5 * r + 2) n) os
+unfolding read-row
+filled-noted N r n rs os f q h =
+    let a = getD-set-other rs (5 * r + 2) (5 * q) n 0 (omega arith) in
+    let b = getD-set-other rs (5 * r + 2) (5 * q + 1) n 0 (omega arith) in
+    let c = getD-set-other rs (5 * r + 2) (5 * q + 3) n 0 (omega arith) in
+    let d = getD-set-other rs (5 * r + 2) (5 * q + 4) n 0 (omega arith) in
+    rw (a, b, c, d) (f q h)
+
+-- the record changes in the row of r alone
+pub rowed-noted : (N r n : ℕ) (k j : Model) (σ : Storage) → r < N → j .guide ≡ k .guide → getD (j .recorded .written) r 0 ≡ n
+    → ((q : ℕ) → q ≢ r → getD (j .recorded .written) q 0 ≡ getD (k .recorded .written) q 0)
+    → Rowed N k σ → Rowed N j (with-rows σ (set (σ .rows) (5 * r + 2) n))
+rowed-noted N r n k j σ h g e o R =
+    record {
+      long = omega (arith, length-set (σ .rows) (5 * r + 2) n, R .long);
+      filled = filled-noted N r n (σ .rows) (j .guide .order) (rw g (R .filled));
+      written = λ q z. elim (ℕ-discrete q r) [
+        | yes y ↦ rw y (getD-set-same (σ .rows) (5 * r + 2) n 0 (omega (arith, R .long)) ∙ sym e)
+        | no y ↦ getD-set-other (σ .rows) (5 * r + 2) (5 * q + 2) n 0 (omega (arith, y)) ∙ R .written q z ∙ sym (o q y)
+      ];
+    }
+
+-- the session with what final fixes
+abbrev pub with-fixed : Session → ℕ → ℕ → Session
+with-fixed s registrations places =
+    record { guide = s .guide; lead = s .lead; added = s .added; used = s .used; delayed = s .delayed; flushes = s .flushes; closed = s .closed; registrations = registrations; places = places }
+
+-- a model with another record
+pub rep-record : (P N : ℕ) (d : Recorded) (k : Model) (s : Session) (σ : Storage) (rs : List ℕ) → Rep P N k s σ → Rowed N (with-record d k) (with-rows σ rs)
+    → Rep P N (with-record d k) (with-fixed s (d .registrations) (d .places)) (with-rows σ rs)
+unfolding with-record watermark tracked taken
+rep-record P N d k s σ rs R W =
+    record {
+      core = record {
+        guided = record { p-is = R .core .guided .p-is; v-is = R .core .guided .v-is; places = R .core .guided .places; stands = R .core .guided .stands; view-is = R .core .guided .view-is; tally-is = R .core .guided .tally-is };
+        rowed = W;
+        tracked = record { places = R .core .tracked .places; lead-is = R .core .tracked .lead-is };
+        stored = record { lists = R .core .stored .lists; flags = R .core .stored .flags };
+      };
+      counted = record {
+        added-is = R .counted .added-is;
+        used-is = R .counted .used-is;
+        flushes-is = R .counted .flushes-is;
+        closed-is = R .counted .closed-is;
+        registrations-is = refl;
+        places-is = refl;
+      };
+      delayed = R .delayed;
+      delayed-is = R .delayed-is;
+    }
+
+appended-other : (ws : List ℕ) (n q : ℕ) → q ≢ length ws → getD (ws ++ (n ∷ [])) q 0 ≡ getD ws q 0
+appended-other [] n zero h = absurd (h refl)
+appended-other [] n (suc q) h = refl
+appended-other (w ∷ ws) n zero h = refl
+appended-other (w ∷ ws) n (suc q) h = appended-other ws n q (λ e. h (ap suc e))
+
+-- the end of add: the new row's written
+pub rep-noted : (P N r n : ℕ) (k : Model) (s : Session) (σ : Storage) → Rep P N k s σ → length (k .recorded .written) ≡ r → r < N → n ≡ length (k .guide .order)
+    → Rep P N (note-add k) s (with-rows σ (set (σ .rows) (5 * r + 2) n))
+unfolding note-add with-record
+rep-noted P N r n k s σ R e h en =
+    let d : Recorded = record { written = k .recorded .written ++ (length (k .guide .order) ∷ []); registrations = k .recorded .registrations; places = k .recorded .places } in
+    let z = rep-record P N d k s σ (set (σ .rows) (5 * r + 2) n) R
+    (rowed-noted N r n k (with-record d k) σ h refl
+    (subst (λ (x : ℕ). getD (k .recorded .written ++ (length (k .guide .order) ∷ [])) x 0 ≡ n) e (getD-at (k .recorded .written) (length (k .guide .order)) [] 0 (length (k .recorded .written)) refl ∙ sym en))
+    (λ q m. appended-other (k .recorded .written) (length (k .guide .order)) q (λ x. m (x ∙ e)))
+    (R .core .rowed)) in
+    subst (λ (x : ℕ). Rep P N (with-record d k) (with-fixed s x (s .places)) (with-rows σ (set (σ .rows) (5 * r + 2) n))) (sym (R .counted .registrations-is))
+    (subst (λ (x : ℕ). Rep P N (with-record d k) (with-fixed s (k .recorded .registrations) x) (with-rows σ (set (σ .rows) (5 * r + 2) n))) (sym (R .counted .places-is)) z)
+
+frame-rows : (P N n : ℕ) (σ : Storage) (rs : List ℕ) → length rs ≡ length (σ .rows) → ((j : ℕ) → 5 * N ≤ j → getD rs j 0 ≡ getD (σ .rows) j 0) → Frame P N n n σ (with-rows σ rs)
+frame-rows P N n σ rs l h =
+    let f = frame-refl P N n σ in
+    record {
+      grows = f .grows;
+      spans = f .spans;
+      order = f .order;
+      before = f .before;
+      tally = f .tally;
+      rows = record { long = l; same = h };
+      marks = f .marks;
+      locations = f .locations;
+      waiting = f .waiting;
+      pool = refl;
+    }
+
+pub frame-noted : (P N n r m : ℕ) (σ : Storage) → r < N → Frame P N n n σ (with-rows σ (set (σ .rows) (5 * r + 2) m))
+frame-noted P N n r m σ h = frame-rows P N n σ (set (σ .rows) (5 * r + 2) m) (length-set (σ .rows) (5 * r + 2) m) (λ j z. getD-set-other (σ .rows) (5 * r + 2) j m 0 (omega arith))

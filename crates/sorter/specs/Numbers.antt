@@ -1,0 +1,59 @@
+-- The numbers that the checks give, from session and storage, are the model's answers. u is V as an index. Assumes nothing.
+use mathlib.Core.Path.{_≡_, refl, sym, ap, _∙_, subst}
+use mathlib.Core.List.{List, [], _∷_, _++_}
+use mathlib.Core.Bool.{Bool}
+use Prim.Native.Nat.{ℕ, _+_, _*_, _≤_}
+use native.Mathlib.Omega.{arith}
+use lib.ListN.{length}
+use Rattle.rules.specs.Model.{Model}
+use Rattle.rules.specs.Checks.{verdict, taken, pooled}
+use Rattle.rules.specs.Calls.{Call, set, add, flush, final, answer}
+use Rattle.lists.specs.Flags.{Flags}
+use Rattle.checking.specs.Parts.{set-checks, list-checks, state-checks, flush-checks, final-checks}
+use Rattle.checking.specs.Contracts.{ChecksSet, MayAdd, ChecksAdd}
+use Rattle.checking.specs.Laws.{answer-set, answer-add, answer-flush, answer-final}
+use Rattle.session.specs.declared.Session.{Session}
+use Rattle.session.specs.Storage.{Storage}
+use Rattle.session.specs.Rep.{Rep}
+use Rattle.sorter.specs.Promise.{Asks}
+
+-- n is the number of the call c for every model that session and storage stand for
+abbrev pub Number : Call → ℕ → Session → Storage → Type 0
+Number c n s σ = (P N : ℕ) (k : Model) → Rep P N k s σ → n ≡ answer N (length (σ .pool)) c k
+
+pub set-number : (x n u : ℕ) (s : Session) (σ : Storage) → u ≡ s .guide .v → ChecksSet (σ .waiting) (s .closed) u x n → Number (set x) n s σ
+set-number x n u s σ eu c P N k R =
+    let e : u ≡ N = eu ∙ R .core .guided .v-is in
+    c .is (taken k) (rw e (R .core .stored .flags))
+    ∙ ap (λ (b : Bool). verdict (set-checks b u x (taken k))) (R .counted .closed-is)
+    ∙ ap (λ (v : ℕ). verdict (set-checks (k .closed) v x (taken k))) e
+    ∙ answer-set N (length (σ .pool)) x k
+
+-- what the checks of add ask
+pub may-check : (u : ℕ) (s : Session) (σ : Storage) → u ≡ s .guide .v → Asks s σ → MayAdd (σ .waiting) u (s .used) (length (σ .pool))
+may-check u s σ eu a =
+    record {
+      taken = taken (a .model);
+      flags = rw (eu ∙ a .rep .core .guided .v-is) (a .rep .core .stored .flags);
+      fits = omega (arith, a .rep .counted .used-is, a .rep .core .stored .lists .fits);
+    }
+
+pub add-number : (ins outs : List ℕ) (n u added : ℕ) (s : Session) (σ : Storage) (w : List ℕ) → u ≡ s .guide .v → added ≡ s .added
+    → ChecksAdd (σ .waiting) ins outs (s .closed) u added (s .used) (length (σ .pool)) n w → Number (add ins outs) n s σ
+add-number ins outs n u added s σ w eu ea c P N k R =
+    let e : u ≡ N = eu ∙ R .core .guided .v-is in
+    c .is (taken k) (rw e (R .core .stored .flags))
+    ∙ ap (λ (b : Bool). verdict (list-checks b u ins outs ++ state-checks u (taken k) outs added (s .used) (length ins) (length (σ .pool)))) (R .counted .closed-is)
+    ∙ ap (λ (v : ℕ). verdict (list-checks (k .closed) v ins outs ++ state-checks v (taken k) outs added (s .used) (length ins) (length (σ .pool)))) e
+    ∙ ap (λ (v : ℕ). verdict (list-checks (k .closed) N ins outs ++ state-checks N (taken k) outs v (s .used) (length ins) (length (σ .pool)))) (ea ∙ R .counted .added-is)
+    ∙ ap (λ (v : ℕ). verdict (list-checks (k .closed) N ins outs ++ state-checks N (taken k) outs (length (k .adds)) v (length ins) (length (σ .pool)))) (R .counted .used-is)
+    ∙ answer-add N (length (σ .pool)) ins outs k
+
+pub flush-number : (n : ℕ) (s : Session) (σ : Storage) → n ≡ verdict (flush-checks (s .closed) (s .flushes)) → Number flush n s σ
+flush-number n s σ e P N k R =
+    e ∙ ap (λ (b : Bool). verdict (flush-checks b (s .flushes))) (R .counted .closed-is) ∙ ap (λ (x : ℕ). verdict (flush-checks (k .closed) x)) (R .counted .flushes-is) ∙ answer-flush N (length (σ .pool)) k
+
+pub final-number : (n : ℕ) (s : Session) (σ : Storage) → n ≡ verdict (final-checks (s .closed) (s .delayed)) → Number final n s σ
+final-number n s σ e P N k R =
+    let d : s .delayed ≡ length (k .pending) = omega (arith, R .delayed-is) in
+    e ∙ ap (λ (b : Bool). verdict (final-checks b (s .delayed))) (R .counted .closed-is) ∙ ap (λ (x : ℕ). verdict (final-checks (k .closed) x)) d ∙ answer-final N (length (σ .pool)) k
