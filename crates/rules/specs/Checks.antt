@@ -37,10 +37,17 @@ unfoldable pub pooled : List Reg → ℕ
 pooled [] = 0
 pooled (a ∷ as′) = length (a .ins) + length (a .outs) + pooled as′
 
+-- "P is the desired parallelism, 1 to 64,999. V is the count of places and the greatest count of registrations, 1 to 16,777,216."
+abbrev pub most-parallelism : ℕ
+most-parallelism = 64999
+
+abbrev pub most-places : ℕ
+most-places = 16777216
+
 -- 1: P or V outside its range
 unfoldable pub check-range : ℕ → ℕ → List Check
 check-range P N =
-    record { fails = ltb P 1 || ltb 64999 P; number = 1 } ∷ (record { fails = ltb N 1 || ltb 16777216 N; number = 1 } ∷ [])
+    record { fails = ltb P 1 || ltb most-parallelism P; number = 1 } ∷ (record { fails = ltb N 1 || ltb most-places N; number = 1 } ∷ [])
 
 -- the lengths of lent storage: spans, order and rows in entries, places with a mark and a location each, numbers of waiting storage,
 -- counts of the tally

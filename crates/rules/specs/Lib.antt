@@ -12,3 +12,4 @@ pub mod Encoding
 pub mod Placements
 pub mod Sessions
 pub mod Listings
+pub mod Edges
