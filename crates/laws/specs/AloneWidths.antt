@@ -31,6 +31,8 @@ pub record AloneWidths (P : ℕ) (a : Alone) : Type 0 where
   pub parallelisms : (j : ℕ) → j < length (a .guide .order) → In16 ((order-nth (a .guide) j) .parallelism)
   pub tally-counts : (p : ℕ) → In32 (getD (tally P (a .guide .order)) p 0)
   pub pushes : In32 (a .pushes)
+  -- no entry ever gets span 0: wherever the next is placed
+  pub not-span-0 : (after : Option Loc) (e : Item) → 1 ≤ (location P after e a) .span
   -- the location that the next push returns, where it is accepted
   pub locations : (after : Option Loc) (e : Item) → a .guide .first + 31 < 4294967264 → In32 ((location P after e a) .span) × In32 ((location P after e a) .pos)
 
@@ -46,6 +48,10 @@ module _ (P N : ℕ) (hP : 1 ≤ P) (tP : P ≤ 64999) (hN : N ≤ 16777216) (a 
         omega (arith, t .pos-is, s .core .capped (p .loc .span)),
       )
 
+  not-0 : (after : Option Loc) (e : Item) → 1 ≤ (location P after e a) .span
+  unfolding location
+  not-0 after e = omega (arith, place-step P (a .guide) (s .past) e hP (s .core) (s .later) after .not-first)
+
   pub alone-widths : AloneWidths P a
   alone-widths =
       record {
@@ -55,6 +61,7 @@ module _ (P N : ℕ) (hP : 1 ≤ P) (tP : P ≤ 64999) (hN : N ≤ 16777216) (a 
         parallelisms = λ j h. omega (arith, alone-parallelisms P N hP a s j h .1);
         tally-counts = λ p. omega (arith, tally-each P (a .guide .order) (λ j h. alone-parallelisms P N hP a s j h .1) p, having-le p (a .guide .order), s .counted, s .few);
         pushes = omega (arith, s .few);
+        not-span-0 = not-0;
         locations = next-fits;
       }
 

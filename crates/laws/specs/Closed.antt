@@ -50,7 +50,7 @@ unfolding run
 run-append P N W [] ds k = refl
 run-append P N W (c ∷ cs) ds k = run-append P N W cs ds _
 
--- no later call changes an item already written
+-- no later call changes an entry already written
 pub stays : (P N W : ℕ) → 1 ≤ P → (cs ds : List Call) → (more : List Entry) × ((run P N W (cs ++ ds) initial) .guide .order ≡ (run P N W cs initial) .guide .order ++ more)
 stays P N W hP cs ds =
     rw (run-append P N W cs ds initial)

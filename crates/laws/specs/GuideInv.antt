@@ -15,7 +15,7 @@ use Rattle.rules.specs.Guide.{Item, parallelism, last-parallelism, annotate, re
 use Rattle.laws.specs.Width.{width-flat, last-width-flat}
 use Rattle.laws.specs.History.{len}
 
--- what the released spans' released depend on
+-- what the released entries depend on
 
 annotate-cong : (f g : ℕ → ℕ) (q : ℕ) (l : List Item) → ((i : ℕ) → i < length l → f (q + i) ≡ g (q + i)) → annotate f q l ≡ annotate g q l
 unfolding annotate

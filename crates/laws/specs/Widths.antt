@@ -5,15 +5,17 @@ use mathlib.Core.Path.{_≡_}
 use mathlib.Core.List.{List, [], _∷_}
 use mathlib.Core.Bool.{Bool, true, false}
 use mathlib.Core.Logic.{_⊎_, inl, inr}
+use mathlib.Core.Option.{Option}
 use Prim.Native.Nat.{ℕ, _+_, _≤_, _<_}
 use native.Mathlib.Omega.{arith}
 use lib.ListN.{length, getD}
 use lib.Dec.{eqb}
-use Rattle.rules.specs.Guide.{Item, Entry, tally}
+use Rattle.rules.specs.Guide.{Loc, Item, Entry, place, tally}
 use Rattle.rules.specs.Model.{Model, marked, loc-of, reg-of, watermark, initial}
 use Rattle.rules.specs.Calls.{Call, run}
 use Rattle.laws.specs.History.{len}
 use Rattle.laws.specs.ModelBase.{In, bool-cases, entry-at, loc-of-none}
+use Rattle.laws.specs.Place.{place-step}
 use Rattle.laws.specs.Once.{one-of}
 use Rattle.laws.specs.Order.{nth, written}
 use Rattle.laws.specs.Tally.{having, tally-each}
@@ -36,6 +38,8 @@ Item32 e = In32 (e .value) × In32 (e .added) × In32 (e .accepted)
 pub record Widths (P N : ℕ) (k : Model) : Type 0 where
   pub last-span : In32 (k .guide .first + 31)
   pub span-numbers : (x : ℕ) → In32 ((loc-of (k .located) x) .span)
+  -- no entry ever gets span 0: wherever the next is placed
+  pub not-span-0 : (after : Option Loc) (e : Item) → 1 ≤ (place P after e (k .guide)) .loc .span
   pub positions : (x : ℕ) → In32 ((loc-of (k .located) x) .pos)
   pub span-lengths : (i : ℕ) → In32 (len (k .guide .spans) i)
   pub order-index : (j : ℕ) → j ≤ written k → In32 j
@@ -83,6 +87,7 @@ module _ (P N W : ℕ) (hP : 1 ≤ P) (tP : P ≤ 64999) (hN : N ≤ 16777216) (
       record {
         last-span = omega (arith, f .low);
         span-numbers = λ x. omega (arith, located-span P N W hP k st s x, f .low);
+        not-span-0 = λ after e. omega (arith, place-step P (k .guide) (s .inv .past) e hP (s .inv .core) (s .inv .later) after .not-first);
         positions = low-position;
         span-lengths = λ i. omega (arith, f .capped i);
         order-index = λ j h. omega (arith, f .room, f .many);
