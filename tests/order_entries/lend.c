@@ -3,16 +3,18 @@
 #include <stddef.h>
 #include <stdint.h>
 #include <stdio.h>
+#include <string.h>
 
 struct order_info {
     uint32_t value, added, accepted;
     uint16_t parallelism;
 };
 
-/* Copies entries `from` to `to` - 1 of the flat order (four numbers an entry) to the same places of
-   the order. Asked: from <= to <= order_length, 4 * to <= flat_length, and each parallelism below 65,536. */
-void order_append_new(struct order_info *order, size_t order_length, const uint32_t *flat, size_t flat_length,
-                      size_t from, size_t to);
+/* Copies entries `from` to `to` - 1 of the flat order (four numbers an entry) to the same indices of
+   the order and returns 0. It returns 2, with the order as it was, unless from <= to <= order_length,
+   4 * to <= flat_length and each parallelism is below 65,536. */
+uint64_t order_append_new(struct order_info *order, size_t order_length, const uint32_t *flat, size_t flat_length,
+                          size_t from, size_t to);
 
 enum { ENTRIES = 1000 };
 
@@ -28,6 +30,26 @@ static int is_untouched(size_t k) {
     return order[k].value == 7 && order[k].added == 7 && order[k].accepted == 7 && order[k].parallelism == 7;
 }
 
+/* Refused with 2, and every struct is as it was. */
+static int is_refused(size_t order_length, size_t flat_length, size_t from, size_t to) {
+    static struct order_info before[ENTRIES];
+    memcpy(before, order, sizeof order);
+    return order_append_new(order, order_length, flat, flat_length, from, to) == 2 &&
+           memcmp(before, order, sizeof order) == 0;
+}
+
+static int refusals_hold(void) {
+    for (size_t k = 0; k < ENTRIES; k++)
+        order[k].value = 7;
+    int hold = is_refused(ENTRIES, 4 * ENTRIES, 6, 5) && is_refused(9, 4 * ENTRIES, 0, 10) &&
+               is_refused(ENTRIES, 4 * 10 - 1, 0, 10) && is_refused(ENTRIES, 4 * ENTRIES, SIZE_MAX, SIZE_MAX) &&
+               is_refused(ENTRIES, 4 * ENTRIES, 0, SIZE_MAX);
+    flat[4 * 5 + 3] = 65536;
+    hold = hold && is_refused(ENTRIES, 4 * ENTRIES, 0, 10);
+    /* what is not copied is not looked at */
+    return hold && order_append_new(order, 10, flat, 4 * 10, 6, 10) == 0 && is_copied(6) && !is_copied(5);
+}
+
 int main(void) {
     _Static_assert(sizeof(struct order_info) == 16, "an entry has 16 bytes");
     for (size_t k = 0; k < ENTRIES; k++)
@@ -40,7 +62,10 @@ int main(void) {
             now = ENTRIES;
         for (size_t i = 4 * written; i < 4 * now; i++)
             flat[i] = (uint32_t)(i % 4 == 3 ? 65535 - i % 1000 : 4000000000u + i);
-        order_append_new(order, ENTRIES, flat, 4 * ENTRIES, written, now);
+        if (order_append_new(order, ENTRIES, flat, 4 * ENTRIES, written, now) != 0) {
+            printf("tests/order_entries: C: call %zu was refused\n", calls);
+            return 1;
+        }
         written = now;
         calls++;
         for (size_t k = 0; k < ENTRIES; k++) {
@@ -50,6 +75,10 @@ int main(void) {
             }
         }
     }
-    printf("tests/order_entries: C: %d entries in %zu calls, as in the flat order\n", ENTRIES, calls);
+    if (!refusals_hold()) {
+        printf("tests/order_entries: C: a refusal is wrong\n");
+        return 1;
+    }
+    printf("tests/order_entries: C: %d entries in %zu calls, as in the flat order; six refusals\n", ENTRIES, calls);
     return 0;
 }

@@ -11,9 +11,9 @@ struct OrderInfo {
 }
 
 extern "C" {
-    // Copies entries `from` to `to` - 1 of the flat order (four numbers an entry) to the same places of
-    // the order. Asked: from <= to <= order_length, 4 * to <= flat_length, and each parallelism below
-    // 65,536. A slice goes as a pointer and a length.
+    // Copies entries `from` to `to` - 1 of the flat order (four numbers an entry) to the same indices of
+    // the order and returns 0. It returns 2, with the order as it was, unless from <= to <= order_length,
+    // 4 * to <= flat_length and each parallelism is below 65,536. A slice goes as a pointer and a length.
     fn order_append_new(
         order: *mut OrderInfo,
         order_length: usize,
@@ -21,13 +21,11 @@ extern "C" {
         flat_length: usize,
         from: usize,
         to: usize,
-    );
+    ) -> u64;
 }
 
-fn append_new(order: &mut [OrderInfo], flat: &[u32], from: usize, to: usize) {
-    assert!(from <= to && to <= order.len() && 4 * to <= flat.len());
-    assert!((from..to).all(|k| flat[4 * k + 3] < 65_536));
-    // SAFETY: pointers and lengths are those of whole slices; what the function asks is looked at above.
+fn append_new(order: &mut [OrderInfo], flat: &[u32], from: usize, to: usize) -> u64 {
+    // SAFETY: pointers and lengths are those of whole slices; the function asks nothing else.
     unsafe { order_append_new(order.as_mut_ptr(), order.len(), flat.as_ptr(), flat.len(), from, to) }
 }
 
@@ -43,7 +41,7 @@ fn main() {
         for (i, number) in flat.iter_mut().enumerate().take(4 * now).skip(4 * written) {
             *number = if i % 4 == 3 { 65_535 - i as u32 % 1000 } else { 4_000_000_000 + i as u32 };
         }
-        append_new(&mut order, &flat, written, now);
+        assert_eq!(append_new(&mut order, &flat, written, now), 0, "call {calls} is accepted");
         written = now;
         calls += 1;
         for (k, (entry, numbers)) in order.iter().zip(flat.chunks_exact(4)).enumerate() {
@@ -53,5 +51,16 @@ fn main() {
             assert!(*entry == wanted, "call {calls}: entry {k} is {entry:?}, not {wanted:?}");
         }
     }
-    println!("tests/order_entries: Rust: {ENTRIES} entries in {calls} calls, as in the flat order");
+    // Refusals leave every struct as it was.
+    let mut order = vec![old; 10];
+    let refused = [(6, 5, 40), (0, 11, 44), (0, 10, 39), (usize::MAX, usize::MAX, 40), (0, usize::MAX, 40)];
+    for (from, to, numbers) in refused {
+        assert_eq!(append_new(&mut order, &flat[..numbers], from, to), 2, "{from} to {to} of {numbers} numbers");
+    }
+    flat[4 * 5 + 3] = 65_536;
+    assert_eq!(append_new(&mut order, &flat, 0, 10), 2, "a parallelism of 17 bits");
+    assert!(order.iter().all(|entry| *entry == old));
+    // What is not copied is not looked at.
+    assert_eq!(append_new(&mut order, &flat, 6, 10), 0);
+    println!("tests/order_entries: Rust: {ENTRIES} entries in {calls} calls, as in the flat order; six refusals");
 }

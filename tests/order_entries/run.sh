@@ -1,6 +1,6 @@
 #!/bin/bash
 # Lends a slice of entry structs to `order_append_new` from C and from Rust, and looks that the new
-# entries stand there and nothing else has changed.
+# entries stand there, that nothing else has changed, and that bad arguments are refused.
 set -euo pipefail
 cd "$(dirname "$0")/../.."
 

@@ -1,9 +1,12 @@
--- What copying entries from the flat order makes of an order of structs. Assumes nothing.
+-- What copying entries from the flat order makes of an order of structs, and when it is refused. Definitions only. Assumes nothing.
 use mathlib.Core.List.{List, [], _∷_, _++_}
-use Prim.Native.Nat.{ℕ, zero, suc, _-_, _≤_, _<_}
-use lib.ListN.{take, drop}
+use mathlib.Core.Bool.{Bool, true, false, _||_}
+use Prim.Native.Nat.{ℕ, zero, suc, _+_, _*_, _-_}
+use lib.ListN.{length, getD, take, drop}
+use lib.Dec.{ltb}
+use Rattle.rules.specs.Checks.{Check, verdict}
 use Rattle.order_entries.specs.declared.OrderInfo.{OrderInfo}
-use Rattle.order_entries.specs.Flat.{Readable, entry-of}
+use Rattle.order_entries.specs.Flat.{entry-of}
 
 -- n entries of the flat order, from entry k on
 unfoldable pub entries : List ℕ → ℕ → ℕ → List OrderInfo
@@ -14,8 +17,12 @@ entries f k (suc n) = entry-of f k ∷ entries f (suc k) n
 unfoldable pub copied : List OrderInfo → List ℕ → ℕ → ℕ → List OrderInfo
 copied o f from to = take from o ++ (entries f from (to - from) ++ drop to o)
 
--- the places are there on both sides
-pub record Ready (room : ℕ) (f : List ℕ) (from to : ℕ) : Type 0 where
-  pub order : from ≤ to
-  pub within : to ≤ room
-  pub readable : (k : ℕ) → k < to → from ≤ k → Readable f k
+-- one of the n entries from entry k on has a parallelism of more than 16 bits
+unfoldable pub wide-entry : List ℕ → ℕ → ℕ → Bool
+wide-entry f k zero = false
+wide-entry f k (suc n) = ltb 65535 (getD f (4 * k + 3) 0) || wide-entry f (suc k) n
+
+-- the copying is refused with 2 where `from` is past `to`, the order of `room` structs or the flat order is too short for `to` entries,
+-- or one of the entries has a parallelism of more than 16 bits
+unfoldable pub check-new : ℕ → List ℕ → ℕ → ℕ → ℕ
+check-new room f from to = verdict (record { fails = ltb to from || (ltb room to || (ltb (length f) (4 * to) || wide-entry f from (to - from))); number = 2 } ∷ [])

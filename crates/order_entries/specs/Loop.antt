@@ -1,14 +1,18 @@
--- Laws of the copying loop: what is copied when nothing is, one entry more, and the length. Assumes nothing.
+-- Laws of the copying loop: what is copied when nothing is, one entry more, and the length; and what is known of the loop once the checks
+-- are done. Assumes nothing.
 use mathlib.Core.Path.{_≡_, refl, sym, ap, _∙_}
 use mathlib.Core.List.{List, [], _∷_, _++_, append-assoc}
 use Prim.Native.Nat.{ℕ, zero, suc, _+_, _-_, _≤_, _<_}
 use native.Mathlib.Numerals.{add-one}
 use native.Mathlib.Omega.{arith}
+use native.Mathlib.Decide.{ℕ-discrete}
 use lib.ListN.{length, take, drop, set, getD, length-append, length-drop}
 use lib.Seq.{drop-cons, length-take-le, set-at}
 use Rattle.order_entries.specs.declared.OrderInfo.{OrderInfo}
-use Rattle.order_entries.specs.Flat.{entry-of}
-use Rattle.order_entries.specs.Copied.{entries, copied}
+use Rattle.rules.specs.Calls.{chosen}
+use Rattle.order_entries.specs.Flat.{Readable, entry-of}
+use Rattle.order_entries.specs.Copied.{entries, copied, check-new}
+use Rattle.order_entries.specs.Checked.{Ready, ready, chosen-done, chosen-same}
 
 entries-length : (f : List ℕ) (k n : ℕ) → length (entries f k n) ≡ n
 unfolding entries
@@ -58,3 +62,32 @@ module _ (o : List OrderInfo) (f : List ℕ) (from k : ℕ) (lo : from ≤ k) wh
           let e : k + 1 - from ≡ suc (k - from) = omega arith in
           let d : from + (k - from) ≡ k = omega arith in
           rw e (entries-more f from (k - from) ∙ ap (λ m. entries f from (k - from) ++ (entry-of f m ∷ [])) d)
+
+-- a loop that copies the entries `from` to `stop` - 1, where n is the copying's number: each can be copied, and at the end the order is
+-- the one that is promised
+pub record Copying (o : List OrderInfo) (f : List ℕ) (from to n stop : ℕ) : Type 0 where
+  pub low : from ≤ stop
+  pub each : (k : ℕ) → from ≤ k → k < stop → (k < length o) × Readable f k
+  pub long : (k : ℕ) → from ≤ k → k ≤ stop → length (copied o f from k) ≡ length o
+  pub last : copied o f from stop ≡ chosen n o (copied o f from to)
+
+pub copying : (o : List OrderInfo) (f : List ℕ) (from to n stop : ℕ) → n ≡ check-new (length o) f from to → stop ≡ chosen n from to → Copying o f from to n stop
+copying o f from to n stop e s = elim (ℕ-discrete n 0) [ yes z ↦ all (ready (length o) f from to (sym e ∙ z)) z (s ∙ chosen-done n from to z) | no z ↦ nothing z (s ∙ chosen-same n from to z) ]
+  where
+    all : Ready (length o) f from to → n ≡ 0 → stop ≡ to → Copying o f from to n stop
+    all r z q =
+        record {
+          low = omega (arith, r .order, q);
+          each = λ k l h. (omega (arith, r .within, q), r .readable k l (omega (arith, h, q)));
+          long = λ k l h. copied-length o f from k l (omega (arith, r .within, h, q));
+          last = ap (copied o f from) q ∙ sym (chosen-done n o (copied o f from to) z);
+        }
+
+    nothing : (n ≡ 0 → ⊥) → stop ≡ from → Copying o f from to n stop
+    nothing z q =
+        record {
+          low = omega (arith, q);
+          each = λ k l h. absurd (omega (arith, l, h, q));
+          long = λ k l h. let j : k ≡ from = omega (arith, l, h, q) in ap (λ m. length (copied o f from m)) j ∙ ap length (copied-none o f from);
+          last = ap (copied o f from) q ∙ copied-none o f from ∙ sym (chosen-same n o (copied o f from to) z);
+        }

@@ -1,18 +1,21 @@
 -- A slice of structs that is kept beside the session's flat order: `Mirrors` says that its first n structs are the order's n entries, and
--- `mirrors-more` that copying the new entries after a call keeps it so. The flat order stands for `rules`' order by `order-of`.
+-- `mirrors-after` that `order_append_new`, accepted after a call, keeps it so. The flat order stands for `rules`' order by `order-of`.
 -- Assumes nothing.
-use mathlib.Core.Path.{_≡_, refl, sym, ap, _∙_}
+use mathlib.Core.Path.{_≡_, refl, sym, ap, _∙_, subst}
 use mathlib.Core.List.{List, [], _∷_, _++_, map, append-assoc, map-append}
 use Prim.Native.Nat.{ℕ, zero, suc, _+_, _-_, _≤_}
 use native.Mathlib.Omega.{arith}
 use lib.ListN.{length, take, drop}
 use lib.Seq.{take-at}
 use Rattle.rules.specs.Guide.{Entry}
-use Rattle.entries.specs.Entries.{row, entry-at, entry-of as stored-entry, item-of}
+use Rattle.rules.specs.Calls.{chosen}
+use Rattle.entries.specs.Entries.{row, entry-of as stored-entry, item-of}
+use Rattle.entries.specs.Stored.{row-add}
 use Rattle.buffer.specs.View.{order-of}
 use Rattle.order_entries.specs.declared.OrderInfo.{OrderInfo}
 use Rattle.order_entries.specs.Flat.{entry-of}
-use Rattle.order_entries.specs.Copied.{entries, copied}
+use Rattle.order_entries.specs.Copied.{entries, copied, check-new}
+use Rattle.order_entries.specs.Checked.{ready, chosen-done}
 use Rattle.order_entries.specs.Loop.{before, copied-length}
 
 -- the order's entry that a struct stands for
@@ -34,15 +37,8 @@ unfolding entries entry stored-entry item-of
 entries-are f k zero = refl
 entries-are f k (suc n) = ap (λ l. entry (entry-of f k) ∷ l) (entries-are f (suc k) n)
 
-row-split : (f : List ℕ) (k n m : ℕ) → row f k (n + m) ≡ row f k n ++ row f (k + n) m
-row-split f k zero m = let e : zero + m ≡ m = omega arith in let d : k + zero ≡ k = omega arith in rw (e, d)
-row-split f k (suc n) m =
-    let e : suc n + m ≡ suc (n + m) = omega arith in
-    let d : k + suc n ≡ suc k + n = omega arith in
-    rw (e, d) (ap (λ l. entry-at f k ∷ l) (row-split f (suc k) n m))
-
--- after a call that left the n entries as they were and wrote entries up to m
-pub mirrors-more : (o : List OrderInfo) (flat flat′ : List ℕ) (n m : ℕ) → Mirrors o flat n → order-of flat′ n ≡ order-of flat n → n ≤ m → m ≤ length o
+-- the new entries copied, after a call that left the n entries as they were and wrote entries up to m
+mirrors-more : (o : List OrderInfo) (flat flat′ : List ℕ) (n m : ℕ) → Mirrors o flat n → order-of flat′ n ≡ order-of flat n → n ≤ m → m ≤ length o
     → Mirrors (copied o flat′ n m) flat′ m
 unfolding order-of copied
 mirrors-more o flat flat′ n m k e h room =
@@ -58,4 +54,12 @@ mirrors-more o flat flat′ n m k e h room =
         let d : n + (m - n) ≡ m = omega arith in
         let z : 0 + n ≡ n = omega arith in
         ap (λ l. l ++ map entry (entries flat′ n (m - n))) (k .same ∙ sym e) ∙ ap (λ l. order-of flat′ n ++ l) (entries-are flat′ n (m - n))
-        ∙ sym (map-append stored-entry (row flat′ 0 n) (row flat′ n (m - n))) ∙ ap (map stored-entry) (sym (ap (λ j. row flat′ 0 j) (sym d) ∙ row-split flat′ 0 n (m - n) ∙ ap (λ j. row flat′ 0 n ++ row flat′ j (m - n)) z))
+        ∙ sym (map-append stored-entry (row flat′ 0 n) (row flat′ n (m - n))) ∙ ap (map stored-entry) (sym (ap (λ j. row flat′ 0 j) (sym d) ∙ row-add flat′ 0 n (m - n) ∙ ap (λ j. row flat′ 0 n ++ row flat′ j (m - n)) z))
+
+-- what `order_append_new` promises of its answer r and of the structs o′, read so
+pub mirrors-after : (o o′ : List OrderInfo) (flat flat′ : List ℕ) (n m r : ℕ) → Mirrors o flat n → order-of flat′ n ≡ order-of flat n → r ≡ check-new (length o) flat′ n m → o′ ≡ chosen r o (copied o flat′ n m) → r ≡ 0
+    → Mirrors o′ flat′ m
+mirrors-after o o′ flat flat′ n m r k e a s z =
+    let f = ready (length o) flat′ n m (sym a ∙ z) in
+    let p : o′ ≡ copied o flat′ n m = s ∙ chosen-done r o (copied o flat′ n m) z in
+    subst (λ (l : List OrderInfo). Mirrors l flat′ m) (sym p) (mirrors-more o flat flat′ n m k e (f .order) (f .within))
