@@ -25,6 +25,12 @@ awk '/^session/ { s = 1 } !s { print } /^end$/ { s = 0 }' oracle/sample/guides.t
 $guide runs <$work/kept | cmp - $work/kept || fail "the kept sample is answered otherwise"
 echo "guide: the kept sample: $(grep -cx end $work/kept) lists, no difference"
 
+for file in stdin stdout; do
+  python3 tests/guide/vectors.py $file | cmp - crates/guide_vectors/$file ||
+    fail "crates/guide_vectors/$file is not what the kept sample gives"
+done
+echo "guide: what guide_vectors is run on is what the kept sample gives"
+
 lists=0 pushes=0
 # compare NAME ASKED GENERATE..: the lists that `reference GENERATE..` writes, answered by ASKED and here.
 compare() {
