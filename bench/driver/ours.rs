@@ -58,13 +58,13 @@ mod linked {
     // A slice goes as a pointer and a length.
     extern "C" {
         #[rustfmt::skip]
-        fn replay(
+        fn replay_calls(
             spans: *mut u32, spans_length: usize, order: *mut u32, order_length: usize,
             tally: *mut u32, tally_length: usize, rows: *mut u32, rows_length: usize,
             marks: *mut u16, marks_length: usize, locations: *mut u64, locations_length: usize,
             waiting: *mut u64, waiting_length: usize, pool: *mut u32, pool_length: usize,
             answers: *mut u64, answers_length: usize, calls: *const u64, calls_length: usize,
-            parallelism: u32, places: u32,
+            parallelism: u64, places: u64,
         ) -> u64;
     }
 
@@ -81,13 +81,14 @@ mod linked {
         let (waiting, pool, answers) = (slice!(waiting), slice!(pool), slice!(answers));
         // SAFETY: each pointer and length is a whole vector's, all of them apart from each other.
         let number = unsafe {
-            replay(
+            replay_calls(
                 spans.0, spans.1, order.0, order.1, tally.0, tally.1, rows.0, rows.1, marks.0,
                 marks.1, locations.0, locations.1, waiting.0, waiting.1, pool.0, pool.1, answers.0,
-                answers.1, calls.as_ptr(), calls.len(), parallelism, places as u32,
+                answers.1, calls.as_ptr(), calls.len(), parallelism as u64, places as u64,
             )
         };
-        assert!(number == 0, "replay refused the list with {number}");
+        // 64 times the order's length, or the number of a refusal.
+        assert!(number % 64 == 0, "replay refused the list with {number}");
     }
 }
 
