@@ -9,7 +9,7 @@ import sys
 
 DOCUMENTS = ["README.md", "docs/STATEMENTS.md", "docs/GUARANTEE.md", "docs/DECISIONS.md"]
 # Named by the documents, with their crates still to come.
-PLANNED = {"sorter", "replay", "job", "host", "order"}
+PLANNED = {"job", "host", "order"}
 
 CODE = re.compile(r"`([^`\n]+)`")
 CITED = re.compile(r"(?:([a-z][a-z0-9_]*)/)?([A-Z][A-Za-z0-9]*)((?:\.[^\s.:(]+)*)$")

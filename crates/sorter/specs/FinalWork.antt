@@ -4,10 +4,10 @@ use mathlib.Core.List.{List, []}
 use Prim.Native.Nat.{ℕ, _+_, _≤_, _<_}
 use native.Mathlib.Omega.{arith}
 use lib.ListN.{length, take}
-use Rattle.rules.specs.Guide.{tally}
 use Rattle.rules.specs.Model.{Model}
 use Rattle.rules.specs.Calls.{final as final-call, answer, apply-call, step}
 use Rattle.rules.specs.Summary.{sum, Figures, figures}
+use Rattle.rules.specs.Record.{summary as summary-of}
 use Rattle.laws.specs.Placeable.{fits-of}
 use Rattle.laws.specs.Sound.{Between, between-step}
 use Rattle.laws.specs.Tally.{tally-sum}
@@ -17,10 +17,10 @@ use Rattle.session.specs.Storage.{Storage}
 use Rattle.session.specs.Rep.{Rep}
 use Rattle.sorter.specs.Promise.{Called, MayDo, Does, step-accepted, positive}
 
--- final's promise: a call's, and the summary is that of the model's tally, or zeros where it was refused
+-- final's promise: a call's, and the summary is the model's, or that of an empty tally where it was refused
 pub record Concludes (n : ℕ) (s s′ : Session) (σ σ′ : Storage) (f : Figures) : Type 0 where
   pub called : Called final-call n s s′ σ σ′
-  pub summary : n ≡ 0 → (P N : ℕ) (k : Model) → Rep P N k s σ → Between P N (length (σ .pool)) k → f ≡ figures (tally P ((step P N (length (σ .pool)) final-call k) .guide .order))
+  pub summary : n ≡ 0 → (P N : ℕ) (k : Model) → Rep P N k s σ → Between P N (length (σ .pool)) k → f ≡ summary-of P (step P N (length (σ .pool)) final-call k)
   pub zeros : (n ≡ 0 → ⊥) → f ≡ figures []
 
 -- the tally of a session can be summed up
@@ -47,6 +47,7 @@ module _ (s t : Session) (σ τ : Storage) (D : Does final-call s t σ τ) where
       tallied-of (a .parallelism) (a .places) (length (σ .pool)) (step (a .parallelism) (a .places) (length (σ .pool)) final-call (a .model)) t τ (x .0) (x .1)
 
   pub concluded : (n : ℕ) → ((P N : ℕ) (k : Model) → Rep P N k s σ → n ≡ answer N (length (σ .pool)) final-call k) → n ≡ 0 → Called final-call 0 s t σ τ → (f : Figures) → f ≡ figures (take (t .guide .p + 1) (τ .tally)) → Concludes 0 s t σ τ f
+  unfolding summary-of
   concluded n h z c f e =
       record {
         called = c;
