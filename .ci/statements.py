@@ -15,7 +15,7 @@ CODE = re.compile(r"`([^`\n]+)`")
 CITED = re.compile(r"(?:([a-z][a-z0-9_]*)/)?([A-Z][A-Za-z0-9]*)((?:\.[^\s.:(]+)*)$")
 CRATES = re.compile(r"\bcrates?\s+`?([a-z][a-z0-9_]*(?:(?:,\s*|\s+and\s+)[a-z][a-z0-9_]*)*)")
 PATH = re.compile(r"\bcrates/([a-z][a-z0-9_]*)")
-PLAIN = re.compile(r"(?<![\w/`])([a-z][a-z0-9_]*)/([A-Z][A-Za-z0-9]*)\b")
+PLAIN = re.compile(r"(?<![\w/`])([a-z][a-z0-9_]*)/([A-Z][A-Za-z0-9]*)\b(?!\.md)")
 # Words that follow `crate` without naming one.
 WORDS = {"and", "below", "beside", "for", "from", "has", "holds", "in", "is", "of", "that", "the", "whose", "with"}
 
