@@ -20,10 +20,6 @@ seed=${SESSION_SEED:-1}
 
 library=${SESSION_LIBRARY:-target/staticlib/libreplay.a}
 if [ -z "${SESSION_LIBRARY:-}" ]; then
-  if ! grep -q '^replay:' crates.txt; then
-    echo "session: crates.txt has no crate replay: NOTHING is compared"
-    exit 0
-  fi
   rt staticlib replay
 fi
 library=$(realpath "$library")
