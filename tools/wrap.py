@@ -1,7 +1,7 @@
 #!/usr/bin/env python3
 """Writes the proofs of thin wrappers over a session that is lent by `&mut`.
 
-    python3 tools/wrap.py crates/session_mut/walks.json && rt fmt
+    for w in crates/*/walks.json; do python3 tools/wrap.py $w; done; rt fmt
 
 A wrapper has the shape
 

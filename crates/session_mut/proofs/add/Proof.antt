@@ -41,11 +41,9 @@ use denote.Triple.Table.{entered, cited}
 use denote.Triple.Walked.{says, needs, Stays, stay-ref, stay-none, stay-none-slice, gave-slice, walkOf, goes-ref, goes-none, goes-none-slice, goes-gave-slice, Walks, ends-at, walked, walk-meets}
 use denote.Exit.{yes}
 use denote.Signature.{Slot, plain}
-use Rattle.rules.specs.Calls.{set as set-call, add as add-call, flush as flush-call}
+use Rattle.rules.specs.Calls.{set as set-call, add as add-call}
 use Rattle.session.specs.Storage.{storage}
-use Rattle.summary.specs.Figured.{figured}
 use Rattle.sorter.specs.Promise.{Asks, Called}
-use Rattle.sorter.specs.FinalWork.{Concludes}
 use Rattle.session.specs.declared.Session.{Session}
 use Rattle.sorter.specs.declared.Answer.{Answer}
 use Rattle.session.proofs.Session as T

@@ -1,4 +1,4 @@
--- `session_mut::flush` meets its contract: a walk of its MIR (written by tools/wrap.py). The session's borrow is opened, the struct is copied out
+-- `flush_mut::flush` meets its contract: a walk of its MIR (written by tools/wrap.py). The session's borrow is opened, the struct is copied out
 -- and passed with the slices, which are given up for good, to `sorter::flush`; the struct that comes back is stored, and the borrow is closed.
 -- Assumes nothing.
 use mathlib.Core.Path.{_≡_, refl, ap, subst}
@@ -41,7 +41,7 @@ use denote.Triple.Table.{entered, cited}
 use denote.Triple.Walked.{says, needs, Stays, stay-ref, stay-none, stay-none-slice, gave-slice, walkOf, goes-ref, goes-none, goes-none-slice, goes-gave-slice, Walks, ends-at, walked, walk-meets}
 use denote.Exit.{yes}
 use denote.Signature.{Slot, plain}
-use Rattle.rules.specs.Calls.{set as set-call, add as add-call, flush as flush-call}
+use Rattle.rules.specs.Calls.{flush as flush-call}
 use Rattle.session.specs.Storage.{storage}
 use Rattle.summary.specs.Figured.{figured}
 use Rattle.sorter.specs.Promise.{Asks, Called}
@@ -56,10 +56,10 @@ use Rattle.sorter.proofs.flush as core
 use Rattle.sorter.proofs.flush.Symbol as core-def
 use Rattle.sorter.proofs.flush.Symbol.{name as #core}
 use Rattle.sorter.proofs.flush.Met as core-thm
-use Rattle.session_mut.proofs.flush.Key.{name as #flush}
-use Rattle.session_mut.proofs.flush as thin
-use Rattle.session_mut.proofs.flush.Statement as stated
-use Rattle.session_mut.proofs.flush.Code as code
+use Rattle.flush_mut.proofs.flush.Key.{name as #flush}
+use Rattle.flush_mut.proofs.flush as thin
+use Rattle.flush_mut.proofs.flush.Statement as stated
+use Rattle.flush_mut.proofs.flush.Code as code
 
 abbrev SessionS : Slot 9
 SessionS = plain (λ _. T.the-row)
