@@ -1,16 +1,18 @@
--- What a writer promises, in a form that composes: text was put at `at`, up to r. Assumes nothing.
+-- What a writer promises, in a form that composes: text was put at `at`, up to r, and all else stays. Assumes nothing.
 use mathlib.Core.List.{List, [], _∷_, _++_, append-assoc, append-nil}
 use mathlib.Core.Path.{_≡_, refl, sym, ap, _∙_, subst}
 use Prim.Native.Nat.{ℕ, suc, _+_, _≤_, _<_}
 use native.Mathlib.Nat.{le-refl}
 use native.Mathlib.Numerals.{add-one}
 use native.Mathlib.Omega.{arith}
-use lib.ListN.{length, length-append, take, set}
-use lib.Seq.{paste, take-paste, take-suc-set, take-length}
+use lib.ListN.{length, length-append, take, drop, set}
+use lib.Seq.{drop-drop, drop-set-lt, drop-paste, paste, take-paste, take-suc-set, take-length}
 
 pub record Wrote (entry exit : List ℕ) (at r : ℕ) (text : List ℕ) : Type 0 where
   pub next : r ≡ at + length text
   pub holds : take r exit ≡ take at entry ++ text
+  -- what stands past the text stays
+  pub rest : drop r exit ≡ drop r entry
 
 -- one text after another
 pub wrote-then : {a b c : List ℕ} {at m r : ℕ} {t u : List ℕ} → Wrote a b at m t → Wrote b c m r u → Wrote a c at r (t ++ u)
@@ -18,20 +20,31 @@ wrote-then {a} {b} {c} {at} {m} {r} {t} {u} x y =
     record {
       next = y .next ∙ ap (λ (k : ℕ). k + length u) (x .next) ∙ rw (length-append t u) (omega arith);
       holds = y .holds ∙ ap (λ (l : List ℕ). l ++ u) (x .holds) ∙ append-assoc (take at a) t u;
+      rest = y .rest ∙ later;
     }
+  where
+    split : (l : List ℕ) → drop r l ≡ drop (length u) (drop m l)
+    split l = ap (λ (k : ℕ). drop k l) (y .next) ∙ sym (drop-drop (length u) m l)
+
+    later : drop r b ≡ drop r a
+    later = split b ∙ ap (drop (length u)) (x .rest) ∙ sym (split a)
 
 -- a byte
 pub wrote-byte : (out : List ℕ) (at b : ℕ) → at < length out → Wrote out (set out at b) at (at + 1) (b ∷ [])
-wrote-byte out at b h = record { next = refl; holds = rw add-one (take-suc-set out at b h) }
+wrote-byte out at b h = record { next = refl; holds = rw add-one (take-suc-set out at b h); rest = drop-set-lt (at + 1) out at b (omega arith) }
 
 -- nothing
 pub wrote-none : (out : List ℕ) (at : ℕ) → Wrote out out at at []
-wrote-none out at = record { next = omega arith; holds = sym (append-nil (take at out)) }
+wrote-none out at = record { next = omega arith; holds = sym (append-nil (take at out)); rest = refl }
 
 -- a word that was copied
 pub wrote-word : (out word : List ℕ) (at : ℕ) → at + length word ≤ length out → Wrote out (paste out at word (length word)) at (at + length word) word
 wrote-word out word at h =
-    record { next = refl; holds = take-paste out at word (length word) (omega arith) (le-refl (length word)) ∙ ap (λ (l : List ℕ). take at out ++ l) (take-length word) }
+    record {
+      next = refl;
+      holds = take-paste out at word (length word) (omega arith) (le-refl (length word)) ∙ ap (λ (l : List ℕ). take at out ++ l) (take-length word);
+      rest = drop-paste out at word (length word) (omega arith) (le-refl (length word));
+    }
 
 -- what was copied, by the copy's own promise
 pub wrote-copy : (out word exit : List ℕ) (at : ℕ) → at + length word ≤ length out → exit ≡ paste out at word (length word) → Wrote out exit at (at + length word) word
