@@ -244,27 +244,24 @@ pub fn add(
         s.used,
         pool.len(),
     );
-    if n != 0 {
-        return Answer {
-            number: n,
-            session: s,
-        };
+    let mut t = s;
+    if n == 0 {
+        t = do_add(
+            s,
+            spans,
+            order,
+            tally,
+            rows,
+            marks,
+            locations,
+            waiting,
+            pool,
+            ins,
+            outs,
+        );
     }
-    let t = do_add(
-        s,
-        spans,
-        order,
-        tally,
-        rows,
-        marks,
-        locations,
-        waiting,
-        pool,
-        ins,
-        outs,
-    );
     Answer {
-        number: 0,
+        number: n,
         session: t,
     }
 }

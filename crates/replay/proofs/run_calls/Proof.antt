@@ -19,23 +19,47 @@ abbrev μ-loop : tie.MeasureT-loop
 loop-holds : tie.Need-loop-holds Inv-loop μ-loop
 loop-holds c = let a = c .before .before .before .before .before .before .before .before .before .before .args in midrun-begins (now (a .calls)) (a .s) (storage (now (a .spans)) (now (a .order)) (now (a .tally)) (now (a .rows)) (now (a .marks)) (now (a .locations)) (now (a .waiting)) (now (a .pool))) (now (a .answers))
 
-make-call-requires : tie.Need-make-call-requires Inv-loop μ-loop
-make-call-requires c κs = let a = c .before .before .before .before .before .before .before .before .before .before .before .before .before .before .before .before .before .before .before .before .args in let q = c .before .before .before .before .before .before .before .before .before .loop in midrun-asks (now (a .calls)) (a .s) (storage (now (a .spans)) (now (a .order)) (now (a .tally)) (now (a .rows)) (now (a .marks)) (now (a .locations)) (now (a .waiting)) (now (a .pool))) (now (a .answers)) (c .before .before .before .before .before .before .before .before .before .before .before .before .before .before .before .before .before .before .before .before .pre) (q .z) (storage (q .spans) (q .order) (q .tally) (q .rows) (q .marks) (q .locations) (q .waiting) (q .pool)) (q .answers) (q .at) (q .n) (q .inv) (c .before .before .before .before .before .before .before .before .loop-test .taken)
+mul-if1 : tie.Need-mul-if1 Inv-loop μ-loop
+mul-if1 c = omega (arith, c .loop-test .taken, c .before .before .before .before .before .before .before .before .before .before .before .before .good)
+
+shared-slice-read-if1 : tie.Need-shared-slice-read-if1 Inv-loop μ-loop
+shared-slice-read-if1 c = c .before .loop-test .taken
+
+make-add-requires : tie.Need-make-add-requires Inv-loop μ-loop
+make-add-requires c κs = let a = c .before .before .before .before .before .before .before .before .before .before .before .before .before .before .before .before .before .before .before .before .before .before .args in let q = c .before .before .before .before .before .before .before .before .before .before .before .loop in let m = midrun-asks (now (a .calls)) (a .s) (storage (now (a .spans)) (now (a .order)) (now (a .tally)) (now (a .rows)) (now (a .marks)) (now (a .locations)) (now (a .waiting)) (now (a .pool))) (now (a .answers)) (c .before .before .before .before .before .before .before .before .before .before .before .before .before .before .before .before .before .before .before .before .before .before .pre) (q .z) (storage (q .spans) (q .order) (q .tally) (q .rows) (q .marks) (q .locations) (q .waiting) (q .pool)) (q .answers) (q .at) (q .n) (q .inv) (c .before .before .before .before .before .before .before .before .before .before .loop-test .taken) in (m .0, (m .1, c .before .before .before .before .before .before .before .before .if1 .taken))
 
 mul-answers : tie.Need-mul-answers Inv-loop μ-loop
-mul-answers c = let a = c .before .before .before .before .before .before .before .before .before .before .before .before .before .before .before .before .before .before .before .before .before .before .before .before .before .before .before .before .before .before .before .before .before .before .before .before .before .args in let q = c .before .before .before .before .before .before .before .before .before .before .before .before .before .before .before .before .before .before .before .before .before .before .before .before .before .before .loop in let u = c .before .before .before .before .before .before .before .before .before .before .before .before .before .before .before .before .make-call in omega (arith, midrun-room (now (a .calls)) (a .s) (storage (now (a .spans)) (now (a .order)) (now (a .tally)) (now (a .rows)) (now (a .marks)) (now (a .locations)) (now (a .waiting)) (now (a .pool))) (now (a .answers)) (c .before .before .before .before .before .before .before .before .before .before .before .before .before .before .before .before .before .before .before .before .before .before .before .before .before .before .before .before .before .before .before .before .before .before .before .before .before .pre) (q .z) (storage (q .spans) (q .order) (q .tally) (q .rows) (q .marks) (q .locations) (q .waiting) (q .pool)) (q .answers) (q .at) (q .n) (q .inv) (c .before .before .before .before .before .before .before .before .before .before .before .before .before .before .before .before .before .before .before .before .before .before .before .before .before .loop-test .taken) (u .result .session) (storage (u .last .1 .0) (u .last .1 .1 .0) (u .last .1 .1 .1 .0) (u .last .1 .1 .1 .1 .0) (u .last .1 .1 .1 .1 .1 .0) (u .last .1 .1 .1 .1 .1 .1 .0) (u .last .1 .1 .1 .1 .1 .1 .1 .0) (u .last .1 .1 .1 .1 .1 .1 .1 .1 .0)) (u .result .number) (u .result .next) (u .ensures), here (now (a .calls)) (a .s) (storage (now (a .spans)) (now (a .order)) (now (a .tally)) (now (a .rows)) (now (a .marks)) (now (a .locations)) (now (a .waiting)) (now (a .pool))) (now (a .answers)) (c .before .before .before .before .before .before .before .before .before .before .before .before .before .before .before .before .before .before .before .before .before .before .before .before .before .before .before .before .before .before .before .before .before .before .before .before .before .pre) (q .z) (storage (q .spans) (q .order) (q .tally) (q .rows) (q .marks) (q .locations) (q .waiting) (q .pool)) (q .answers) (q .at) (q .n) (q .inv) .long, c .before .before .before .before .before .before .before .before .before .before .before .before .before .before .before .before .before .before .before .before .before .before .before .before .before .before .before .before .before .before .before .before .before .before .before .before .before .good)
+mul-answers c = let a = c .before .before .before .before .before .before .before .before .before .before .before .before .before .before .before .before .before .before .before .before .before .before .before .before .before .before .before .before .before .before .before .before .before .before .before .before .before .before .before .args in let q = c .before .before .before .before .before .before .before .before .before .before .before .before .before .before .before .before .before .before .before .before .before .before .before .before .before .before .before .before .loop in let u = c .before .before .before .before .before .before .before .before .before .before .before .before .before .before .before .before .make-add in omega (arith, midrun-room (now (a .calls)) (a .s) (storage (now (a .spans)) (now (a .order)) (now (a .tally)) (now (a .rows)) (now (a .marks)) (now (a .locations)) (now (a .waiting)) (now (a .pool))) (now (a .answers)) (c .before .before .before .before .before .before .before .before .before .before .before .before .before .before .before .before .before .before .before .before .before .before .before .before .before .before .before .before .before .before .before .before .before .before .before .before .before .before .before .pre) (q .z) (storage (q .spans) (q .order) (q .tally) (q .rows) (q .marks) (q .locations) (q .waiting) (q .pool)) (q .answers) (q .at) (q .n) (q .inv) (c .before .before .before .before .before .before .before .before .before .before .before .before .before .before .before .before .before .before .before .before .before .before .before .before .before .before .before .loop-test .taken) (u .result .session) (storage (u .last .1 .0) (u .last .1 .1 .0) (u .last .1 .1 .1 .0) (u .last .1 .1 .1 .1 .0) (u .last .1 .1 .1 .1 .1 .0) (u .last .1 .1 .1 .1 .1 .1 .0) (u .last .1 .1 .1 .1 .1 .1 .1 .0) (u .last .1 .1 .1 .1 .1 .1 .1 .1 .0)) (u .result .number) (u .result .next) (u .ensures), here (now (a .calls)) (a .s) (storage (now (a .spans)) (now (a .order)) (now (a .tally)) (now (a .rows)) (now (a .marks)) (now (a .locations)) (now (a .waiting)) (now (a .pool))) (now (a .answers)) (c .before .before .before .before .before .before .before .before .before .before .before .before .before .before .before .before .before .before .before .before .before .before .before .before .before .before .before .before .before .before .before .before .before .before .before .before .before .before .before .pre) (q .z) (storage (q .spans) (q .order) (q .tally) (q .rows) (q .marks) (q .locations) (q .waiting) (q .pool)) (q .answers) (q .at) (q .n) (q .inv) .long, c .before .before .before .before .before .before .before .before .before .before .before .before .before .before .before .before .before .before .before .before .before .before .before .before .before .before .before .before .before .before .before .before .before .before .before .before .before .before .before .good)
 
 slice-write-answers : tie.Need-slice-write-answers Inv-loop μ-loop
-slice-write-answers c = let a = c .before .before .before .before .before .before .before .before .before .before .before .before .before .before .before .before .before .before .before .before .before .before .before .before .before .before .before .before .before .before .before .before .before .before .before .before .before .args in let q = c .before .before .before .before .before .before .before .before .before .before .before .before .before .before .before .before .before .before .before .before .before .before .before .before .before .before .loop in let u = c .before .before .before .before .before .before .before .before .before .before .before .before .before .before .before .before .make-call in midrun-room (now (a .calls)) (a .s) (storage (now (a .spans)) (now (a .order)) (now (a .tally)) (now (a .rows)) (now (a .marks)) (now (a .locations)) (now (a .waiting)) (now (a .pool))) (now (a .answers)) (c .before .before .before .before .before .before .before .before .before .before .before .before .before .before .before .before .before .before .before .before .before .before .before .before .before .before .before .before .before .before .before .before .before .before .before .before .before .pre) (q .z) (storage (q .spans) (q .order) (q .tally) (q .rows) (q .marks) (q .locations) (q .waiting) (q .pool)) (q .answers) (q .at) (q .n) (q .inv) (c .before .before .before .before .before .before .before .before .before .before .before .before .before .before .before .before .before .before .before .before .before .before .before .before .before .loop-test .taken) (u .result .session) (storage (u .last .1 .0) (u .last .1 .1 .0) (u .last .1 .1 .1 .0) (u .last .1 .1 .1 .1 .0) (u .last .1 .1 .1 .1 .1 .0) (u .last .1 .1 .1 .1 .1 .1 .0) (u .last .1 .1 .1 .1 .1 .1 .1 .0) (u .last .1 .1 .1 .1 .1 .1 .1 .1 .0)) (u .result .number) (u .result .next) (u .ensures)
+slice-write-answers c = let a = c .before .before .before .before .before .before .before .before .before .before .before .before .before .before .before .before .before .before .before .before .before .before .before .before .before .before .before .before .before .before .before .before .before .before .before .before .before .before .before .args in let q = c .before .before .before .before .before .before .before .before .before .before .before .before .before .before .before .before .before .before .before .before .before .before .before .before .before .before .before .before .loop in let u = c .before .before .before .before .before .before .before .before .before .before .before .before .before .before .before .before .make-add in midrun-room (now (a .calls)) (a .s) (storage (now (a .spans)) (now (a .order)) (now (a .tally)) (now (a .rows)) (now (a .marks)) (now (a .locations)) (now (a .waiting)) (now (a .pool))) (now (a .answers)) (c .before .before .before .before .before .before .before .before .before .before .before .before .before .before .before .before .before .before .before .before .before .before .before .before .before .before .before .before .before .before .before .before .before .before .before .before .before .before .before .pre) (q .z) (storage (q .spans) (q .order) (q .tally) (q .rows) (q .marks) (q .locations) (q .waiting) (q .pool)) (q .answers) (q .at) (q .n) (q .inv) (c .before .before .before .before .before .before .before .before .before .before .before .before .before .before .before .before .before .before .before .before .before .before .before .before .before .before .before .loop-test .taken) (u .result .session) (storage (u .last .1 .0) (u .last .1 .1 .0) (u .last .1 .1 .1 .0) (u .last .1 .1 .1 .1 .0) (u .last .1 .1 .1 .1 .1 .0) (u .last .1 .1 .1 .1 .1 .1 .0) (u .last .1 .1 .1 .1 .1 .1 .1 .0) (u .last .1 .1 .1 .1 .1 .1 .1 .1 .0)) (u .result .number) (u .result .next) (u .ensures)
 
 add-n : tie.Need-add-n Inv-loop μ-loop
-add-n c = let a = c .before .before .before .before .before .before .before .before .before .before .before .before .before .before .before .before .before .before .before .before .before .before .before .before .before .before .before .before .before .before .before .before .before .before .before .before .before .before .args in let q = c .before .before .before .before .before .before .before .before .before .before .before .before .before .before .before .before .before .before .before .before .before .before .before .before .before .before .before .loop in let u = c .before .before .before .before .before .before .before .before .before .before .before .before .before .before .before .before .before .make-call in omega (arith, midrun-room (now (a .calls)) (a .s) (storage (now (a .spans)) (now (a .order)) (now (a .tally)) (now (a .rows)) (now (a .marks)) (now (a .locations)) (now (a .waiting)) (now (a .pool))) (now (a .answers)) (c .before .before .before .before .before .before .before .before .before .before .before .before .before .before .before .before .before .before .before .before .before .before .before .before .before .before .before .before .before .before .before .before .before .before .before .before .before .before .pre) (q .z) (storage (q .spans) (q .order) (q .tally) (q .rows) (q .marks) (q .locations) (q .waiting) (q .pool)) (q .answers) (q .at) (q .n) (q .inv) (c .before .before .before .before .before .before .before .before .before .before .before .before .before .before .before .before .before .before .before .before .before .before .before .before .before .before .loop-test .taken) (u .result .session) (storage (u .last .1 .0) (u .last .1 .1 .0) (u .last .1 .1 .1 .0) (u .last .1 .1 .1 .1 .0) (u .last .1 .1 .1 .1 .1 .0) (u .last .1 .1 .1 .1 .1 .1 .0) (u .last .1 .1 .1 .1 .1 .1 .1 .0) (u .last .1 .1 .1 .1 .1 .1 .1 .1 .0)) (u .result .number) (u .result .next) (u .ensures), here (now (a .calls)) (a .s) (storage (now (a .spans)) (now (a .order)) (now (a .tally)) (now (a .rows)) (now (a .marks)) (now (a .locations)) (now (a .waiting)) (now (a .pool))) (now (a .answers)) (c .before .before .before .before .before .before .before .before .before .before .before .before .before .before .before .before .before .before .before .before .before .before .before .before .before .before .before .before .before .before .before .before .before .before .before .before .before .before .pre) (q .z) (storage (q .spans) (q .order) (q .tally) (q .rows) (q .marks) (q .locations) (q .waiting) (q .pool)) (q .answers) (q .at) (q .n) (q .inv) .long, c .before .before .before .before .before .before .before .before .before .before .before .before .before .before .before .before .before .before .before .before .before .before .before .before .before .before .before .before .before .before .before .before .before .before .before .before .before .before .good)
+add-n c = let a = c .before .before .before .before .before .before .before .before .before .before .before .before .before .before .before .before .before .before .before .before .before .before .before .before .before .before .before .before .before .before .before .before .before .before .before .before .before .before .before .before .args in let q = c .before .before .before .before .before .before .before .before .before .before .before .before .before .before .before .before .before .before .before .before .before .before .before .before .before .before .before .before .before .loop in let u = c .before .before .before .before .before .before .before .before .before .before .before .before .before .before .before .before .before .make-add in omega (arith, midrun-room (now (a .calls)) (a .s) (storage (now (a .spans)) (now (a .order)) (now (a .tally)) (now (a .rows)) (now (a .marks)) (now (a .locations)) (now (a .waiting)) (now (a .pool))) (now (a .answers)) (c .before .before .before .before .before .before .before .before .before .before .before .before .before .before .before .before .before .before .before .before .before .before .before .before .before .before .before .before .before .before .before .before .before .before .before .before .before .before .before .before .pre) (q .z) (storage (q .spans) (q .order) (q .tally) (q .rows) (q .marks) (q .locations) (q .waiting) (q .pool)) (q .answers) (q .at) (q .n) (q .inv) (c .before .before .before .before .before .before .before .before .before .before .before .before .before .before .before .before .before .before .before .before .before .before .before .before .before .before .before .before .loop-test .taken) (u .result .session) (storage (u .last .1 .0) (u .last .1 .1 .0) (u .last .1 .1 .1 .0) (u .last .1 .1 .1 .1 .0) (u .last .1 .1 .1 .1 .1 .0) (u .last .1 .1 .1 .1 .1 .1 .0) (u .last .1 .1 .1 .1 .1 .1 .1 .0) (u .last .1 .1 .1 .1 .1 .1 .1 .1 .0)) (u .result .number) (u .result .next) (u .ensures), here (now (a .calls)) (a .s) (storage (now (a .spans)) (now (a .order)) (now (a .tally)) (now (a .rows)) (now (a .marks)) (now (a .locations)) (now (a .waiting)) (now (a .pool))) (now (a .answers)) (c .before .before .before .before .before .before .before .before .before .before .before .before .before .before .before .before .before .before .before .before .before .before .before .before .before .before .before .before .before .before .before .before .before .before .before .before .before .before .before .before .pre) (q .z) (storage (q .spans) (q .order) (q .tally) (q .rows) (q .marks) (q .locations) (q .waiting) (q .pool)) (q .answers) (q .at) (q .n) (q .inv) .long, c .before .before .before .before .before .before .before .before .before .before .before .before .before .before .before .before .before .before .before .before .before .before .before .before .before .before .before .before .before .before .before .before .before .before .before .before .before .before .before .before .good)
 
 loop-less : tie.Need-loop-less Inv-loop μ-loop
-loop-less c = let a = c .before .before .before .before .before .before .before .before .before .before .before .before .before .before .before .before .before .before .before .before .before .before .before .before .before .before .before .before .before .before .before .before .before .before .before .before .before .before .args in let q = c .before .before .before .before .before .before .before .before .before .before .before .before .before .before .before .before .before .before .before .before .before .before .before .before .before .before .before .loop in let u = c .before .before .before .before .before .before .before .before .before .before .before .before .before .before .before .before .before .make-call in midrun-less (now (a .calls)) (a .s) (storage (now (a .spans)) (now (a .order)) (now (a .tally)) (now (a .rows)) (now (a .marks)) (now (a .locations)) (now (a .waiting)) (now (a .pool))) (now (a .answers)) (c .before .before .before .before .before .before .before .before .before .before .before .before .before .before .before .before .before .before .before .before .before .before .before .before .before .before .before .before .before .before .before .before .before .before .before .before .before .before .pre) (q .z) (storage (q .spans) (q .order) (q .tally) (q .rows) (q .marks) (q .locations) (q .waiting) (q .pool)) (q .answers) (q .at) (q .n) (q .inv) (c .before .before .before .before .before .before .before .before .before .before .before .before .before .before .before .before .before .before .before .before .before .before .before .before .before .before .loop-test .taken) (u .result .session) (storage (u .last .1 .0) (u .last .1 .1 .0) (u .last .1 .1 .1 .0) (u .last .1 .1 .1 .1 .0) (u .last .1 .1 .1 .1 .1 .0) (u .last .1 .1 .1 .1 .1 .1 .0) (u .last .1 .1 .1 .1 .1 .1 .1 .0) (u .last .1 .1 .1 .1 .1 .1 .1 .1 .0)) (u .result .number) (u .result .next) (u .ensures)
+loop-less c = let a = c .before .before .before .before .before .before .before .before .before .before .before .before .before .before .before .before .before .before .before .before .before .before .before .before .before .before .before .before .before .before .before .before .before .before .before .before .before .before .before .before .args in let q = c .before .before .before .before .before .before .before .before .before .before .before .before .before .before .before .before .before .before .before .before .before .before .before .before .before .before .before .before .before .loop in let u = c .before .before .before .before .before .before .before .before .before .before .before .before .before .before .before .before .before .make-add in midrun-less (now (a .calls)) (a .s) (storage (now (a .spans)) (now (a .order)) (now (a .tally)) (now (a .rows)) (now (a .marks)) (now (a .locations)) (now (a .waiting)) (now (a .pool))) (now (a .answers)) (c .before .before .before .before .before .before .before .before .before .before .before .before .before .before .before .before .before .before .before .before .before .before .before .before .before .before .before .before .before .before .before .before .before .before .before .before .before .before .before .before .pre) (q .z) (storage (q .spans) (q .order) (q .tally) (q .rows) (q .marks) (q .locations) (q .waiting) (q .pool)) (q .answers) (q .at) (q .n) (q .inv) (c .before .before .before .before .before .before .before .before .before .before .before .before .before .before .before .before .before .before .before .before .before .before .before .before .before .before .before .before .loop-test .taken) (u .result .session) (storage (u .last .1 .0) (u .last .1 .1 .0) (u .last .1 .1 .1 .0) (u .last .1 .1 .1 .1 .0) (u .last .1 .1 .1 .1 .1 .0) (u .last .1 .1 .1 .1 .1 .1 .0) (u .last .1 .1 .1 .1 .1 .1 .1 .0) (u .last .1 .1 .1 .1 .1 .1 .1 .1 .0)) (u .result .number) (u .result .next) (u .ensures)
 
 loop-again : tie.Need-loop-again Inv-loop μ-loop
-loop-again c = let a = c .before .before .before .before .before .before .before .before .before .before .before .before .before .before .before .before .before .before .before .before .before .before .before .before .before .before .before .before .before .before .before .before .before .before .before .before .before .before .args in let q = c .before .before .before .before .before .before .before .before .before .before .before .before .before .before .before .before .before .before .before .before .before .before .before .before .before .before .before .loop in let u = c .before .before .before .before .before .before .before .before .before .before .before .before .before .before .before .before .before .make-call in midrun-turn (now (a .calls)) (a .s) (storage (now (a .spans)) (now (a .order)) (now (a .tally)) (now (a .rows)) (now (a .marks)) (now (a .locations)) (now (a .waiting)) (now (a .pool))) (now (a .answers)) (c .before .before .before .before .before .before .before .before .before .before .before .before .before .before .before .before .before .before .before .before .before .before .before .before .before .before .before .before .before .before .before .before .before .before .before .before .before .before .pre) (q .z) (storage (q .spans) (q .order) (q .tally) (q .rows) (q .marks) (q .locations) (q .waiting) (q .pool)) (q .answers) (q .at) (q .n) (q .inv) (c .before .before .before .before .before .before .before .before .before .before .before .before .before .before .before .before .before .before .before .before .before .before .before .before .before .before .loop-test .taken) (u .result .session) (storage (u .last .1 .0) (u .last .1 .1 .0) (u .last .1 .1 .1 .0) (u .last .1 .1 .1 .1 .0) (u .last .1 .1 .1 .1 .1 .0) (u .last .1 .1 .1 .1 .1 .1 .0) (u .last .1 .1 .1 .1 .1 .1 .1 .0) (u .last .1 .1 .1 .1 .1 .1 .1 .1 .0)) (u .result .number) (u .result .next) (u .ensures)
+loop-again c = let a = c .before .before .before .before .before .before .before .before .before .before .before .before .before .before .before .before .before .before .before .before .before .before .before .before .before .before .before .before .before .before .before .before .before .before .before .before .before .before .before .before .args in let q = c .before .before .before .before .before .before .before .before .before .before .before .before .before .before .before .before .before .before .before .before .before .before .before .before .before .before .before .before .before .loop in let u = c .before .before .before .before .before .before .before .before .before .before .before .before .before .before .before .before .before .make-add in midrun-turn (now (a .calls)) (a .s) (storage (now (a .spans)) (now (a .order)) (now (a .tally)) (now (a .rows)) (now (a .marks)) (now (a .locations)) (now (a .waiting)) (now (a .pool))) (now (a .answers)) (c .before .before .before .before .before .before .before .before .before .before .before .before .before .before .before .before .before .before .before .before .before .before .before .before .before .before .before .before .before .before .before .before .before .before .before .before .before .before .before .before .pre) (q .z) (storage (q .spans) (q .order) (q .tally) (q .rows) (q .marks) (q .locations) (q .waiting) (q .pool)) (q .answers) (q .at) (q .n) (q .inv) (c .before .before .before .before .before .before .before .before .before .before .before .before .before .before .before .before .before .before .before .before .before .before .before .before .before .before .before .before .loop-test .taken) (u .result .session) (storage (u .last .1 .0) (u .last .1 .1 .0) (u .last .1 .1 .1 .0) (u .last .1 .1 .1 .1 .0) (u .last .1 .1 .1 .1 .1 .0) (u .last .1 .1 .1 .1 .1 .1 .0) (u .last .1 .1 .1 .1 .1 .1 .1 .0) (u .last .1 .1 .1 .1 .1 .1 .1 .1 .0)) (u .result .number) (u .result .next) (u .ensures)
+
+make-call-requires : tie.Need-make-call-requires Inv-loop μ-loop
+make-call-requires c κs = let a = c .before .before .before .before .before .before .before .before .before .before .before .before .before .before .before .before .before .before .before .before .before .before .args in let q = c .before .before .before .before .before .before .before .before .before .before .before .loop in midrun-asks (now (a .calls)) (a .s) (storage (now (a .spans)) (now (a .order)) (now (a .tally)) (now (a .rows)) (now (a .marks)) (now (a .locations)) (now (a .waiting)) (now (a .pool))) (now (a .answers)) (c .before .before .before .before .before .before .before .before .before .before .before .before .before .before .before .before .before .before .before .before .before .before .pre) (q .z) (storage (q .spans) (q .order) (q .tally) (q .rows) (q .marks) (q .locations) (q .waiting) (q .pool)) (q .answers) (q .at) (q .n) (q .inv) (c .before .before .before .before .before .before .before .before .before .before .loop-test .taken)
+
+mul-answers-2 : tie.Need-mul-answers-2 Inv-loop μ-loop
+mul-answers-2 c = let a = c .before .before .before .before .before .before .before .before .before .before .before .before .before .before .before .before .before .before .before .before .before .before .before .before .before .before .before .before .before .before .before .before .before .before .before .before .before .before .before .args in let q = c .before .before .before .before .before .before .before .before .before .before .before .before .before .before .before .before .before .before .before .before .before .before .before .before .before .before .before .before .loop in let u = c .before .before .before .before .before .before .before .before .before .before .before .before .before .before .before .before .make-call in omega (arith, midrun-room (now (a .calls)) (a .s) (storage (now (a .spans)) (now (a .order)) (now (a .tally)) (now (a .rows)) (now (a .marks)) (now (a .locations)) (now (a .waiting)) (now (a .pool))) (now (a .answers)) (c .before .before .before .before .before .before .before .before .before .before .before .before .before .before .before .before .before .before .before .before .before .before .before .before .before .before .before .before .before .before .before .before .before .before .before .before .before .before .before .pre) (q .z) (storage (q .spans) (q .order) (q .tally) (q .rows) (q .marks) (q .locations) (q .waiting) (q .pool)) (q .answers) (q .at) (q .n) (q .inv) (c .before .before .before .before .before .before .before .before .before .before .before .before .before .before .before .before .before .before .before .before .before .before .before .before .before .before .before .loop-test .taken) (u .result .session) (storage (u .last .1 .0) (u .last .1 .1 .0) (u .last .1 .1 .1 .0) (u .last .1 .1 .1 .1 .0) (u .last .1 .1 .1 .1 .1 .0) (u .last .1 .1 .1 .1 .1 .1 .0) (u .last .1 .1 .1 .1 .1 .1 .1 .0) (u .last .1 .1 .1 .1 .1 .1 .1 .1 .0)) (u .result .number) (u .result .next) (u .ensures), here (now (a .calls)) (a .s) (storage (now (a .spans)) (now (a .order)) (now (a .tally)) (now (a .rows)) (now (a .marks)) (now (a .locations)) (now (a .waiting)) (now (a .pool))) (now (a .answers)) (c .before .before .before .before .before .before .before .before .before .before .before .before .before .before .before .before .before .before .before .before .before .before .before .before .before .before .before .before .before .before .before .before .before .before .before .before .before .before .before .pre) (q .z) (storage (q .spans) (q .order) (q .tally) (q .rows) (q .marks) (q .locations) (q .waiting) (q .pool)) (q .answers) (q .at) (q .n) (q .inv) .long, c .before .before .before .before .before .before .before .before .before .before .before .before .before .before .before .before .before .before .before .before .before .before .before .before .before .before .before .before .before .before .before .before .before .before .before .before .before .before .before .good)
+
+slice-write-answers-2 : tie.Need-slice-write-answers-2 Inv-loop μ-loop
+slice-write-answers-2 c = let a = c .before .before .before .before .before .before .before .before .before .before .before .before .before .before .before .before .before .before .before .before .before .before .before .before .before .before .before .before .before .before .before .before .before .before .before .before .before .before .before .args in let q = c .before .before .before .before .before .before .before .before .before .before .before .before .before .before .before .before .before .before .before .before .before .before .before .before .before .before .before .before .loop in let u = c .before .before .before .before .before .before .before .before .before .before .before .before .before .before .before .before .make-call in midrun-room (now (a .calls)) (a .s) (storage (now (a .spans)) (now (a .order)) (now (a .tally)) (now (a .rows)) (now (a .marks)) (now (a .locations)) (now (a .waiting)) (now (a .pool))) (now (a .answers)) (c .before .before .before .before .before .before .before .before .before .before .before .before .before .before .before .before .before .before .before .before .before .before .before .before .before .before .before .before .before .before .before .before .before .before .before .before .before .before .before .pre) (q .z) (storage (q .spans) (q .order) (q .tally) (q .rows) (q .marks) (q .locations) (q .waiting) (q .pool)) (q .answers) (q .at) (q .n) (q .inv) (c .before .before .before .before .before .before .before .before .before .before .before .before .before .before .before .before .before .before .before .before .before .before .before .before .before .before .before .loop-test .taken) (u .result .session) (storage (u .last .1 .0) (u .last .1 .1 .0) (u .last .1 .1 .1 .0) (u .last .1 .1 .1 .1 .0) (u .last .1 .1 .1 .1 .1 .0) (u .last .1 .1 .1 .1 .1 .1 .0) (u .last .1 .1 .1 .1 .1 .1 .1 .0) (u .last .1 .1 .1 .1 .1 .1 .1 .1 .0)) (u .result .number) (u .result .next) (u .ensures)
+
+add-n-2 : tie.Need-add-n-2 Inv-loop μ-loop
+add-n-2 c = let a = c .before .before .before .before .before .before .before .before .before .before .before .before .before .before .before .before .before .before .before .before .before .before .before .before .before .before .before .before .before .before .before .before .before .before .before .before .before .before .before .before .args in let q = c .before .before .before .before .before .before .before .before .before .before .before .before .before .before .before .before .before .before .before .before .before .before .before .before .before .before .before .before .before .loop in let u = c .before .before .before .before .before .before .before .before .before .before .before .before .before .before .before .before .before .make-call in omega (arith, midrun-room (now (a .calls)) (a .s) (storage (now (a .spans)) (now (a .order)) (now (a .tally)) (now (a .rows)) (now (a .marks)) (now (a .locations)) (now (a .waiting)) (now (a .pool))) (now (a .answers)) (c .before .before .before .before .before .before .before .before .before .before .before .before .before .before .before .before .before .before .before .before .before .before .before .before .before .before .before .before .before .before .before .before .before .before .before .before .before .before .before .before .pre) (q .z) (storage (q .spans) (q .order) (q .tally) (q .rows) (q .marks) (q .locations) (q .waiting) (q .pool)) (q .answers) (q .at) (q .n) (q .inv) (c .before .before .before .before .before .before .before .before .before .before .before .before .before .before .before .before .before .before .before .before .before .before .before .before .before .before .before .before .loop-test .taken) (u .result .session) (storage (u .last .1 .0) (u .last .1 .1 .0) (u .last .1 .1 .1 .0) (u .last .1 .1 .1 .1 .0) (u .last .1 .1 .1 .1 .1 .0) (u .last .1 .1 .1 .1 .1 .1 .0) (u .last .1 .1 .1 .1 .1 .1 .1 .0) (u .last .1 .1 .1 .1 .1 .1 .1 .1 .0)) (u .result .number) (u .result .next) (u .ensures), here (now (a .calls)) (a .s) (storage (now (a .spans)) (now (a .order)) (now (a .tally)) (now (a .rows)) (now (a .marks)) (now (a .locations)) (now (a .waiting)) (now (a .pool))) (now (a .answers)) (c .before .before .before .before .before .before .before .before .before .before .before .before .before .before .before .before .before .before .before .before .before .before .before .before .before .before .before .before .before .before .before .before .before .before .before .before .before .before .before .before .pre) (q .z) (storage (q .spans) (q .order) (q .tally) (q .rows) (q .marks) (q .locations) (q .waiting) (q .pool)) (q .answers) (q .at) (q .n) (q .inv) .long, c .before .before .before .before .before .before .before .before .before .before .before .before .before .before .before .before .before .before .before .before .before .before .before .before .before .before .before .before .before .before .before .before .before .before .before .before .before .before .before .before .good)
+
+loop-less-2 : tie.Need-loop-less-2 Inv-loop μ-loop
+loop-less-2 c = let a = c .before .before .before .before .before .before .before .before .before .before .before .before .before .before .before .before .before .before .before .before .before .before .before .before .before .before .before .before .before .before .before .before .before .before .before .before .before .before .before .before .args in let q = c .before .before .before .before .before .before .before .before .before .before .before .before .before .before .before .before .before .before .before .before .before .before .before .before .before .before .before .before .before .loop in let u = c .before .before .before .before .before .before .before .before .before .before .before .before .before .before .before .before .before .make-call in midrun-less (now (a .calls)) (a .s) (storage (now (a .spans)) (now (a .order)) (now (a .tally)) (now (a .rows)) (now (a .marks)) (now (a .locations)) (now (a .waiting)) (now (a .pool))) (now (a .answers)) (c .before .before .before .before .before .before .before .before .before .before .before .before .before .before .before .before .before .before .before .before .before .before .before .before .before .before .before .before .before .before .before .before .before .before .before .before .before .before .before .before .pre) (q .z) (storage (q .spans) (q .order) (q .tally) (q .rows) (q .marks) (q .locations) (q .waiting) (q .pool)) (q .answers) (q .at) (q .n) (q .inv) (c .before .before .before .before .before .before .before .before .before .before .before .before .before .before .before .before .before .before .before .before .before .before .before .before .before .before .before .before .loop-test .taken) (u .result .session) (storage (u .last .1 .0) (u .last .1 .1 .0) (u .last .1 .1 .1 .0) (u .last .1 .1 .1 .1 .0) (u .last .1 .1 .1 .1 .1 .0) (u .last .1 .1 .1 .1 .1 .1 .0) (u .last .1 .1 .1 .1 .1 .1 .1 .0) (u .last .1 .1 .1 .1 .1 .1 .1 .1 .0)) (u .result .number) (u .result .next) (u .ensures)
+
+loop-again-2 : tie.Need-loop-again-2 Inv-loop μ-loop
+loop-again-2 c = let a = c .before .before .before .before .before .before .before .before .before .before .before .before .before .before .before .before .before .before .before .before .before .before .before .before .before .before .before .before .before .before .before .before .before .before .before .before .before .before .before .before .args in let q = c .before .before .before .before .before .before .before .before .before .before .before .before .before .before .before .before .before .before .before .before .before .before .before .before .before .before .before .before .before .loop in let u = c .before .before .before .before .before .before .before .before .before .before .before .before .before .before .before .before .before .make-call in midrun-turn (now (a .calls)) (a .s) (storage (now (a .spans)) (now (a .order)) (now (a .tally)) (now (a .rows)) (now (a .marks)) (now (a .locations)) (now (a .waiting)) (now (a .pool))) (now (a .answers)) (c .before .before .before .before .before .before .before .before .before .before .before .before .before .before .before .before .before .before .before .before .before .before .before .before .before .before .before .before .before .before .before .before .before .before .before .before .before .before .before .before .pre) (q .z) (storage (q .spans) (q .order) (q .tally) (q .rows) (q .marks) (q .locations) (q .waiting) (q .pool)) (q .answers) (q .at) (q .n) (q .inv) (c .before .before .before .before .before .before .before .before .before .before .before .before .before .before .before .before .before .before .before .before .before .before .before .before .before .before .before .before .loop-test .taken) (u .result .session) (storage (u .last .1 .0) (u .last .1 .1 .0) (u .last .1 .1 .1 .0) (u .last .1 .1 .1 .1 .0) (u .last .1 .1 .1 .1 .1 .0) (u .last .1 .1 .1 .1 .1 .1 .0) (u .last .1 .1 .1 .1 .1 .1 .1 .0) (u .last .1 .1 .1 .1 .1 .1 .1 .1 .0)) (u .result .number) (u .result .next) (u .ensures)
 
 same-length : tie.Need-same-length Inv-loop μ-loop
 same-length c = let a = c .before .before .before .before .before .before .before .before .before .before .before .before .args in let q = c .before .loop in here (now (a .calls)) (a .s) (storage (now (a .spans)) (now (a .order)) (now (a .tally)) (now (a .rows)) (now (a .marks)) (now (a .locations)) (now (a .waiting)) (now (a .pool))) (now (a .answers)) (c .before .before .before .before .before .before .before .before .before .before .before .before .pre) (q .z) (storage (q .spans) (q .order) (q .tally) (q .rows) (q .marks) (q .locations) (q .waiting) (q .pool)) (q .answers) (q .at) (q .n) (q .inv) .frame .spans .long
@@ -74,12 +98,20 @@ run-calls-spec =
     Inv-loop
     μ-loop
     loop-holds
-    make-call-requires
+    mul-if1
+    shared-slice-read-if1
+    make-add-requires
     mul-answers
     slice-write-answers
     add-n
     loop-less
     loop-again
+    make-call-requires
+    mul-answers-2
+    slice-write-answers-2
+    add-n-2
+    loop-less-2
+    loop-again-2
     same-length
     same-length-2
     same-length-3
