@@ -21,7 +21,9 @@ mkdir -p target/bench
 # The Rust is written for a nightly compiler; its warnings are not ours to mend.
 export RUSTC_BOOTSTRAP=1
 
-links=()
+# Both copies take the small libraries of one tree: two builds of one name do not link into one program.
+small=target/oracle/tree-oracle
+links=(-L "$small")
 for copy in published ordered; do
   from=target/oracle/tree-oracle
   [ $copy = ordered ] || from=target/oracle/tree-oracle-hashed
@@ -34,9 +36,9 @@ for copy in published ordered; do
   library=${library/-C lto=fat/}
   # shellcheck disable=SC2086
   rustc --cap-lints allow $library --crate-type rlib --crate-name $copy \
-    --extern smallvec="$from/libsmallvec.rlib" --extern itertools="$from/libitertools.rlib" \
+    --extern smallvec="$small/libsmallvec.rlib" --extern itertools="$small/libitertools.rlib" \
     -o "target/bench/lib$copy.rlib" "$tree/lib.rs"
-  links+=(--extern $copy="target/bench/lib$copy.rlib" -L "$from")
+  links+=(--extern $copy="target/bench/lib$copy.rlib")
 done
 
 if grep -q '^replay:' crates.txt; then
