@@ -1,0 +1,28 @@
+-- What the host's call promises, by the rules' reply to the job where so many listing bytes are lent (rules, Listing). Assumes nothing.
+use mathlib.Core.List.{List, [], _∷_, _++_}
+use mathlib.Core.Path.{_≡_}
+use Prim.Native.Nat.{ℕ, _+_, _*_, _≤_, _<_}
+use lib.ListN.{length, take, drop}
+use Rattle.rules.specs.Listing as rule
+use Rattle.host.specs.declared.Reply.{Reply}
+use Rattle.host.specs.declared.Reply.the-variants as reply
+
+-- the rules' reply that an answer tells, the listing standing at the start of the bytes
+abbrev pub reply-as : Reply → List ℕ → rule.Reply
+reply-as (reply.Listed n) bytes = rule.listed (take n bytes)
+reply-as (reply.Refused line code) bytes = rule.refused line code
+
+-- the numbers are small, and the listing lies within the bytes
+abbrev pub Small : Reply → List ℕ → Type 0
+Small (reply.Listed n) bytes = (n ≤ length bytes) × (n ≤ 65536)
+Small (reply.Refused line code) bytes = (line ≤ 65541) × (code ≤ 17)
+
+pub record Replied (job entry exit : List ℕ) (r : Reply) : Type 0 where
+  pub is : reply-as r exit ≡ rule.reply (length entry) job
+  pub bytes : exit ≡ rule.bytes-after (rule.reply (length entry) job) entry
+  pub small : Small r exit
+
+-- the exported call: its result and the listing bytes after it
+pub record Called (job entry exit : List ℕ) (r : ℕ) : Type 0 where
+  pub result : r ≡ rule.result (rule.reply (length entry) job)
+  pub bytes : exit ≡ rule.bytes-after (rule.reply (length entry) job) entry
