@@ -8,7 +8,7 @@ use native.Mathlib.Omega.{arith}
 use lib.ListN.{length}
 use lib.Dec.{leb, ltb}
 use borrow.Author.Tests.{lt-ltb, le-ltb, le-leb, lt-leb, leb-false, ltb-false}
-use Rattle.rules.specs.Model.{Reg, Model}
+use Rattle.rules.specs.Model.{Model}
 use Rattle.rules.specs.Checks.{Check, verdict, any, repeats, taken, pooled, check-closed, check-places, check-set, check-add, check-flush, check-final}
 use Rattle.rules.specs.Calls.{set, add, flush, final, checks, answer}
 use Rattle.laws.specs.ModelBase.{In, bool-cases}

@@ -1,8 +1,8 @@
 -- The lists of checks of `rules`, over what the code holds: whether closed, the count of places, the arguments, a test for taken places,
 -- and counts. That they are those of a model is said in Laws. Definitions only. Assumes nothing.
 use mathlib.Core.List.{List, [], _∷_, _++_}
-use mathlib.Core.Bool.{Bool, true, false, _||_}
-use Prim.Native.Nat.{ℕ, _+_, _^_}
+use mathlib.Core.Bool.{Bool, _||_}
+use Prim.Native.Nat.{ℕ, _+_}
 use lib.ListN.{length}
 use lib.Dec.{leb, ltb}
 use Rattle.rules.specs.Checks.{Check, any, repeats, check-places}

@@ -1,14 +1,14 @@
 -- What `decode` makes of a list of numbers, call by call: the call at the front, and then the rest. Assumes nothing.
-use mathlib.Core.Path.{_≡_, refl, sym, ap, _∙_}
+use mathlib.Core.Path.{_≡_, refl, ap}
 use mathlib.Core.List.{List, [], _∷_, _++_}
-use mathlib.Core.Bool.{Bool, true, false}
+use mathlib.Core.Bool.{true, false}
 use mathlib.Core.Logic.{_⊎_, inl, inr}
 use mathlib.Core.Option.{Option, some, none}
 use Prim.Native.Nat.{ℕ, zero, suc, _+_, _-_, _≤_, _<_}
 use native.Mathlib.Omega.{arith}
 use lib.Dec.{leb, eqb}
 use lib.ListN.{length, take, drop, length-drop}
-use Rattle.rules.specs.Calls.{Call, set, add, flush, final}
+use Rattle.rules.specs.Calls.{Call, flush, final}
 use Rattle.rules.specs.Encoding.{Front, Counted, counted, set-front, add-outs, add-front, front, before-all, and-then, unless-empty, decode-from, decode}
 use Rattle.laws.specs.ModelBase.{bool-cases}
 

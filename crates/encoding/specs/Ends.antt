@@ -5,14 +5,14 @@ use mathlib.Core.List.{List, [], _∷_, _++_}
 use mathlib.Core.Bool.{Bool, true, false}
 use mathlib.Core.Logic.{_⊎_, inl, inr}
 use mathlib.Core.Option.{Option, some, none}
-use Prim.Native.Nat.{ℕ, zero, suc, _+_, _-_, _≤_, _<_}
+use Prim.Native.Nat.{ℕ, suc, _+_, _-_, _≤_, _<_}
 use native.Mathlib.Omega.{arith}
-use lib.Dec.{leb, eqb}
+use lib.Dec.{leb}
 use lib.ListN.{length, getD, take, drop, length-append, length-drop, drop-of-length-le}
 use lib.Seq.{drop-cons, drop-drop}
-use borrow.Author.Tests.{le-leb, lt-leb, eq-eqb, ne-eqb}
+use borrow.Author.Tests.{le-leb, lt-leb, ne-eqb}
 use Rattle.rules.specs.Calls.{Call, set, add, flush, final}
-use Rattle.rules.specs.Encoding.{Front, Counted, counted, set-front, add-outs, add-front, front, before-all, and-then, unless-empty, decode-from, decode}
+use Rattle.rules.specs.Encoding.{Front, counted, set-front, add-outs, add-front, front, unless-empty, decode-from, decode}
 use Rattle.encoding.specs.Decode.{decode-none, decode-some, prefix, prefix-more, prefix-none, prefix-some}
 
 -- r is the index past the counted list at `at`, or 0 where there is none

@@ -1,18 +1,18 @@
 -- The work of add: what its steps ask of one another and promise. Its lists are stored, it is placed with what it sets off or waits, and
 -- its row's written is noted. Assumes nothing.
 use mathlib.Core.Path.{_≡_, refl, sym, ap, _∙_, subst}
-use mathlib.Core.List.{List, [], _∷_, _++_}
+use mathlib.Core.List.{List, [], _∷_}
 use mathlib.Core.Bool.{Bool, true, false}
-use Prim.Native.Nat.{ℕ, suc, _+_, _*_, _≤_, _<_}
+use Prim.Native.Nat.{ℕ, _+_, _*_, _≤_, _<_}
 use native.Mathlib.Omega.{arith}
 use lib.Dec.{ltb}
 use lib.ListN.{length, drop, set, length-append}
 use Rattle.rules.specs.Guide.{Guide as GuideModel}
-use Rattle.rules.specs.Model.{Reg, Model, Recorded, watermark, greatest, ready, queue, keep, with-add, settle-all, do-add, note-add}
+use Rattle.rules.specs.Model.{Reg, Model, Recorded, watermark, greatest, ready, with-add, settle-all, do-add, note-add}
 use Rattle.rules.specs.Checks.{pooled}
 use Rattle.rules.specs.Calls.{add as add-call, answer, apply-call}
 use Rattle.laws.specs.Accepted.{AddPassed, add-passed}
-use Rattle.laws.specs.Ceiling.{Ceiling, ended}
+use Rattle.laws.specs.Ceiling.{ended}
 use Rattle.laws.specs.Delaying.{not-ready}
 use Rattle.laws.specs.Kept.{add-same}
 use Rattle.laws.specs.Sound.{Sound, Between, sound-adding}
@@ -24,8 +24,8 @@ use Rattle.session.specs.Storage.{Storage, Frame, frame-trans}
 use Rattle.session.specs.Turn.{with-waiting, waiting-frame}
 use Rattle.session.specs.Settle.{MaySettle, Settles}
 use Rattle.session.specs.Rep.{RepSt, Rep}
-use Rattle.sorter.specs.Promise.{MayDo, Does, framed, positive}
-use Rattle.sorter.specs.Adding.{Unplaced, with-added, with-lists, may-enter, entered-rep, frame-entered, may-stack, may-delay, rep-stacked, rep-waits, lead-is-mark}
+use Rattle.sorter.specs.Promise.{MayDo, Does, framed}
+use Rattle.sorter.specs.Adding.{Unplaced, with-added, with-lists, may-enter, entered-rep, frame-entered, may-delay, rep-stacked, rep-waits, lead-is-mark}
 use Rattle.sorter.specs.Noting.{with-rows, rep-noted, frame-noted}
 
 -- registration r, with inputs ins, has its lists stored and is the model's latest

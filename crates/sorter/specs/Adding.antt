@@ -1,14 +1,14 @@
 -- An accepted add: from what storing its lists and flags leaves, the session stands for the model with that registration, which is then
 -- put on the stack or joins those that wait; and the row's written at the end. Assumes nothing.
 use mathlib.Core.Path.{_≡_, refl, sym, ap, _∙_, subst}
-use mathlib.Core.List.{List, [], _∷_, _++_, List·Memᴰ, List·Memᴰ·head, List·Memᴰ·tail}
-use mathlib.Core.Bool.{Bool, true, false}
+use mathlib.Core.List.{List, [], _∷_, _++_, List·Memᴰ·head, List·Memᴰ·tail}
+use mathlib.Core.Bool.{true, false}
 use mathlib.Core.Logic.{_⊎_, inl, inr}
 use lib.Dec.{ltb}
 use Prim.Native.Nat.{ℕ, suc, _+_, _*_, _-_, _≤_, _<_}
 use native.Mathlib.Omega.{arith}
-use lib.ListN.{length, getD, take, drop, set, length-set, length-append}
-use lib.Seq.{getD-set-other, getD-take, getD-drop}
+use lib.ListN.{length, getD, drop, set, length-set, length-append}
+use lib.Seq.{getD-set-other, getD-take}
 use Rattle.rules.specs.Model.{Reg, Model, Pending, watermark, tracked, greatest, queue, keep, with-add}
 use Rattle.rules.specs.Checks.{taken, pooled}
 use Rattle.laws.specs.Accepted.{AddPassed}
@@ -20,7 +20,7 @@ use Rattle.lists.specs.Flags.{Flags, claimed}
 use Rattle.lists.specs.FlagLaws.{flags-store, flags-add, flags-kept, claimed-length, claimed-low, claimed-beyond}
 use Rattle.lists.specs.Lists.{Lists, cell, stored}
 use Rattle.lists.specs.ListLaws.{lists-low, lists-kept, lists-add, used-few, stored-length}
-use Rattle.registrar.specs.Delayed.{Delayed, Later, Joins, Stacks, occurs, pends}
+use Rattle.registrar.specs.Delayed.{Delayed, Joins, Stacks, occurs}
 use Rattle.registrar.specs.Keeps.{delayed-same}
 use Rattle.registrar.specs.Queue.{pends-none}
 use Rattle.entering.specs.Entering.{entered-waiting, entered-pool, Entering}
@@ -28,7 +28,7 @@ use Rattle.session.specs.declared.Session.{Session}
 use Rattle.session.specs.Storage.{Storage, Frame, frame-refl}
 use Rattle.session.specs.Turn.{with-waiting}
 use Rattle.buffer.specs.declared.Guide.{Guide}
-use Rattle.session.specs.Rep.{Guided, Rowed, Tracked, Stored, Counted, Core, RepSt, Rep}
+use Rattle.session.specs.Rep.{Counted, Core, RepSt, Rep}
 use Rattle.sorter.specs.Setting.{past}
 
 -- all but the stack, and one registration more than those that wait is still to be placed or delayed

@@ -1,9 +1,8 @@
 -- Demand 3 for a caller who makes the calls: a chain of states each of which a call led to, by its promise alone, and that after such a
 -- chain on a fresh session the numbers and the state are the model's, of which `Demand` holds. Assumes nothing.
-use mathlib.Core.Path.{_≡_, refl, sym, ap, _∙_}
+use mathlib.Core.Path.{_≡_, refl, _∙_}
 use mathlib.Core.List.{List, [], _∷_}
 use Prim.Native.Nat.{ℕ, _≤_}
-use native.Mathlib.Omega.{arith}
 use lib.ListN.{length}
 use Rattle.rules.specs.Model.{Model, initial}
 use Rattle.rules.specs.Calls.{Call, answer, step, run, answers}

@@ -1,11 +1,11 @@
 -- What final gives beside a call's promise: the summary of the tally, and that it can be summed up. Assumes nothing.
-use mathlib.Core.Path.{_≡_, refl, sym, ap, _∙_, subst}
-use mathlib.Core.List.{List, []}
-use Prim.Native.Nat.{ℕ, _+_, _≤_, _<_}
+use mathlib.Core.Path.{_≡_, refl, sym, ap, _∙_}
+use mathlib.Core.List.{[]}
+use Prim.Native.Nat.{ℕ, _+_, _≤_}
 use native.Mathlib.Omega.{arith}
 use lib.ListN.{length, take}
 use Rattle.rules.specs.Model.{Model}
-use Rattle.rules.specs.Calls.{final as final-call, answer, apply-call, step}
+use Rattle.rules.specs.Calls.{final as final-call, answer, step}
 use Rattle.rules.specs.Summary.{sum, Figures, figures}
 use Rattle.rules.specs.Record.{summary as summary-of}
 use Rattle.laws.specs.Placeable.{fits-of}

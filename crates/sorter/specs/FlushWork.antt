@@ -1,23 +1,22 @@
 -- The work of flush and of final: what releasing all spans asks, and what is done in the end. Assumes nothing.
-use mathlib.Core.Path.{_≡_, refl, sym, ap, _∙_, subst}
-use mathlib.Core.List.{List, [], _∷_}
-use mathlib.Core.Bool.{Bool, true, false}
-use Prim.Native.Nat.{ℕ, suc, _+_, _*_, _≤_, _<_}
+use mathlib.Core.Path.{_≡_, refl}
+use mathlib.Core.List.{List, []}
+use mathlib.Core.Bool.{Bool, true}
+use Prim.Native.Nat.{ℕ, suc, _+_, _≤_, _<_}
 use native.Mathlib.Omega.{arith}
-use lib.ListN.{length, take}
+use lib.ListN.{length}
 use Rattle.rules.specs.Model.{Model, tracked, watermark, with-record, with-flush, note-flush, note-final, do-flush, do-final}
 use Rattle.rules.specs.Checks.{taken}
-use Rattle.rules.specs.Calls.{Call, flush as flush-call, final as final-call, answer, apply-call}
-use Rattle.laws.specs.Accepted.{flush-passed, final-passed}
-use Rattle.laws.specs.Kept.{Kept}
+use Rattle.rules.specs.Calls.{flush as flush-call, final as final-call, answer, apply-call}
+use Rattle.laws.specs.Accepted.{flush-passed}
 use Rattle.laws.specs.Placeable.{Fits, fits-of}
-use Rattle.laws.specs.Sound.{Sound, Between, sound-kept}
+use Rattle.laws.specs.Sound.{Between, sound-kept}
 use Rattle.buffer.specs.declared.Guide.{Guide}
 use Rattle.flushing.specs.Released.{MayRelease, Releases}
 use Rattle.session.specs.declared.Session.{Session}
-use Rattle.session.specs.Storage.{Storage, storage, Frame}
-use Rattle.session.specs.Rep.{Guided, Core, Counted, RepSt, Rep}
-use Rattle.sorter.specs.Promise.{MayDo, Does, framed, positive}
+use Rattle.session.specs.Storage.{Storage, storage}
+use Rattle.session.specs.Rep.{Core, Rep}
+use Rattle.sorter.specs.Promise.{MayDo, Does, positive}
 
 -- the storage after a release of all spans
 abbrev pub with-order : Storage → List ℕ → List ℕ → List ℕ → Storage

@@ -2,20 +2,19 @@
 -- for the model whose record was changed in the same place. Assumes nothing.
 use mathlib.Core.Path.{_≡_, refl, sym, ap, _∙_, subst}
 use mathlib.Core.List.{List, [], _∷_, _++_}
-use mathlib.Core.Bool.{Bool, true, false}
-use mathlib.Core.Logic.{_⊎_, inl, inr, _≢_}
+use mathlib.Core.Logic.{_≢_}
 use Prim.Native.Nat.{ℕ, zero, suc, _+_, _*_, _-_, _≤_, _<_}
 use native.Mathlib.Omega.{arith}
 use native.Mathlib.Decide.{ℕ-discrete}
-use lib.ListN.{length, getD, set, length-set, length-append, List·getD-append, List·getD-eq-default}
+use lib.ListN.{length, getD, set, length-set}
 use lib.Seq.{getD-set-same, getD-set-other, getD-at}
 use Rattle.rules.specs.Guide.{Entry}
-use Rattle.rules.specs.Model.{Model, Recorded, watermark, tracked, with-record, note-add, note-flush, note-final}
+use Rattle.rules.specs.Model.{Model, Recorded, watermark, tracked, with-record, note-add}
 use Rattle.rules.specs.Checks.{taken}
 use Rattle.records.specs.Filled.{Filled, read-row}
 use Rattle.session.specs.declared.Session.{Session}
-use Rattle.session.specs.Storage.{Storage, Beyond, Frame, frame-refl}
-use Rattle.session.specs.Rep.{Guided, Rowed, Tracked, Stored, Counted, Core, RepSt, Rep}
+use Rattle.session.specs.Storage.{Storage, Frame, frame-refl}
+use Rattle.session.specs.Rep.{Rowed, Rep}
 
 abbrev pub with-rows : Storage → List ℕ → Storage
 with-rows σ rs =

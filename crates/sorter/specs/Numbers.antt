@@ -1,14 +1,13 @@
 -- The numbers that the checks give, from session and storage, are the model's answers. u is V as an index. Assumes nothing.
-use mathlib.Core.Path.{_≡_, refl, sym, ap, _∙_, subst}
-use mathlib.Core.List.{List, [], _∷_, _++_}
+use mathlib.Core.Path.{_≡_, ap, _∙_}
+use mathlib.Core.List.{List, _++_}
 use mathlib.Core.Bool.{Bool}
-use Prim.Native.Nat.{ℕ, _+_, _*_, _≤_}
+use Prim.Native.Nat.{ℕ, _+_}
 use native.Mathlib.Omega.{arith}
 use lib.ListN.{length}
 use Rattle.rules.specs.Model.{Model}
-use Rattle.rules.specs.Checks.{verdict, taken, pooled}
+use Rattle.rules.specs.Checks.{verdict, taken}
 use Rattle.rules.specs.Calls.{Call, set, add, flush, final, answer}
-use Rattle.lists.specs.Flags.{Flags}
 use Rattle.checking.specs.Parts.{set-checks, list-checks, state-checks, flush-checks, final-checks}
 use Rattle.checking.specs.Contracts.{ChecksSet, MayAdd, ChecksAdd}
 use Rattle.checking.specs.Laws.{answer-set, answer-add, answer-flush, answer-final}

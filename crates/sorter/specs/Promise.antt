@@ -2,12 +2,10 @@
 -- state, a refused call leaves everything as it was, and what lies beyond is untouched. Two laws make such a promise: one for a refused
 -- call, one for an accepted one. Assumes nothing.
 use mathlib.Core.Path.{_≡_, refl, sym, ap, _∙_, subst}
-use mathlib.Core.List.{List, [], _∷_}
-use mathlib.Core.Bool.{Bool, true, false}
+use mathlib.Core.List.{List}
 use Prim.Native.Nat.{ℕ, _≤_}
 use native.Mathlib.Omega.{arith}
 use lib.ListN.{length}
-use lib.Dec.{eqb}
 use borrow.Author.Tests.{eq-eqb, ne-eqb}
 use Rattle.rules.specs.Model.{Model}
 use Rattle.rules.specs.Calls.{Call, answer, apply-call, chosen, step}

@@ -1,18 +1,17 @@
 -- A set place: from what marking it leaves of marks and waiting storage, the session stands for the model with that place set, and what
 -- comes off is on the stack. Assumes nothing.
 use mathlib.Core.Path.{_≡_, refl, sym, ap, _∙_, subst}
-use mathlib.Core.List.{List, [], _∷_}
+use mathlib.Core.List.{List, _∷_}
 use Prim.Native.Nat.{ℕ, _+_, _*_, _-_, _≤_, _<_}
 use native.Mathlib.Omega.{arith}
 use lib.ListN.{length, getD, drop, set, length-set}
 use lib.Seq.{getD-set-other, getD-drop, take-set-le}
-use Rattle.rules.specs.Model.{Model, Pending, run-from, watermark, tracked, member, due, left, keep, off, rest, with-set, settle-all, do-set}
+use Rattle.rules.specs.Model.{Model, watermark, tracked, due, left, keep, off, rest, with-set, settle-all, do-set}
 use Rattle.rules.specs.Checks.{taken, pooled}
 use Rattle.rules.specs.Calls.{set as set-call, answer, apply-call}
 use Rattle.laws.specs.CascadeInv.{off-rest}
 use Rattle.laws.specs.Accepted.{set-passed}
 use Rattle.laws.specs.Sound.{Sound, Between, sound-setting}
-use Rattle.tracking.specs.Tracking.{tracked-in}
 use Rattle.tracking.specs.Places.{Places, places-set, run-is}
 use Rattle.lists.specs.Flags.{Flags}
 use Rattle.lists.specs.FlagLaws.{flags-set, flags-kept}
@@ -21,9 +20,9 @@ use Rattle.lists.specs.ListLaws.{lists-low, lists-kept}
 use Rattle.registrar.specs.Delayed.{Delayed}
 use Rattle.marking.specs.Marking.{Marking, Marks}
 use Rattle.session.specs.declared.Session.{Session}
-use Rattle.session.specs.Storage.{Storage, Beyond, Frame, frame-refl, frame-trans}
+use Rattle.session.specs.Storage.{Storage, Frame, frame-refl, frame-trans}
 use Rattle.session.specs.Settle.{MaySettle, Settles}
-use Rattle.session.specs.Rep.{Guided, Rowed, Tracked, Stored, Counted, Core, RepSt, Rep}
+use Rattle.session.specs.Rep.{RepSt, Rep}
 use Rattle.sorter.specs.Promise.{MayDo, Does, framed, positive}
 
 -- lists that agree from n on agree at each index from there

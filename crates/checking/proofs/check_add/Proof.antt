@@ -1,13 +1,8 @@
 -- `checking::check_add` meets its contract: the later checks count where the earlier ones pass.
-use native.Mathlib.Omega.{arith}
 use Rattle.checking.specs.Laws.{add-lists, may-state, add-state}
 use borrow.Author.Needs.{needs}
 use Rattle.checking.proofs.check_add.Statement.{statement}
 use Rattle.checking.proofs.check_add.Tie as tie
-use Rattle.checking.proofs.check_add.Reads as reads
-use Rattle.checking.proofs.check_add.Lts as lts
-use Rattle.checking.proofs.check_lists.Reads as check-lists-reads
-use Rattle.checking.proofs.check_state.Reads as check-state-reads
 
 check-lists-requires : tie.Need-check-lists-requires
 check-lists-requires c κs = search needs

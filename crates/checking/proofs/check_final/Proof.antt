@@ -1,11 +1,7 @@
 -- `checking::check_final` meets its contract: a law for each way out.
 use Rattle.checking.specs.Laws.{final-closed, final-pending, final-good}
-use borrow.Author.Needs.{needs}
-use native.Mathlib.Omega.{arith}
 use Rattle.checking.proofs.check_final.Statement.{statement}
 use Rattle.checking.proofs.check_final.Tie as tie
-use Rattle.checking.proofs.check_final.Reads as reads
-use Rattle.checking.proofs.check_final.Lts as lts
 
 returns : tie.Need-returns
 returns c = final-closed _ _ (c .if1 .taken)

@@ -1,11 +1,7 @@
 -- `checking::check_flush` meets its contract: a law for each way out.
 use Rattle.checking.specs.Laws.{flush-closed, flush-many, flush-good}
-use borrow.Author.Needs.{needs}
-use native.Mathlib.Omega.{arith}
 use Rattle.checking.proofs.check_flush.Statement.{statement}
 use Rattle.checking.proofs.check_flush.Tie as tie
-use Rattle.checking.proofs.check_flush.Reads as reads
-use Rattle.checking.proofs.check_flush.Lts as lts
 
 returns : tie.Need-returns
 returns c = flush-closed _ _ (c .if1 .taken)

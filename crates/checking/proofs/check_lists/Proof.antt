@@ -1,13 +1,9 @@
 -- `checking::check_lists` meets its contract: a law for each way out.
-use native.Mathlib.Omega.{arith}
 use Rattle.checking.specs.Laws.{lists-closed, many-ins, many-outs, witness-ins, witness-outs, outside-ins, outside-outs, lists-good}
 use mathlib.Core.Path.{sym, _∙_}
 use borrow.Author.Needs.{needs}
 use Rattle.checking.proofs.check_lists.Statement.{statement}
 use Rattle.checking.proofs.check_lists.Tie as tie
-use Rattle.checking.proofs.check_lists.Reads as reads
-use Rattle.checking.proofs.check_lists.Lts as lts
-use Rattle.lists.proofs.any_at_least.Reads as any-at-least-reads
 
 returns : tie.Need-returns
 returns c = lists-closed _ _ _ _ (c .if1 .taken)

@@ -1,13 +1,9 @@
 -- `checking::check_set` meets its contract: a law for each way out.
-use native.Mathlib.Omega.{arith}
 use Rattle.checking.specs.Laws.{set-closed, set-witness, set-outside, set-taken, set-free}
 use mathlib.Core.Path.{sym, _∙_}
 use borrow.Author.Needs.{needs}
 use Rattle.checking.proofs.check_set.Statement.{statement}
 use Rattle.checking.proofs.check_set.Tie as tie
-use Rattle.checking.proofs.check_set.Reads as reads
-use Rattle.checking.proofs.check_set.Lts as lts
-use Rattle.lists.proofs.is_taken.Reads as is-taken-reads
 
 returns : tie.Need-returns
 returns c = set-closed _ _ _ _ (c .if1 .taken)

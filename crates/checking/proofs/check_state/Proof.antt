@@ -1,14 +1,9 @@
 -- `checking::check_state` meets its contract: a law for each way out; the storage is what `repeats` left, which is what it was.
-use native.Mathlib.Omega.{arith}
 use Rattle.checking.specs.Laws.{may-repeat, may-look, again, occupied, all-added, pool-full, state-good}
-use mathlib.Core.Path.{refl, sym, _∙_}
+use mathlib.Core.Path.{sym, _∙_}
 use borrow.Author.Needs.{needs}
 use Rattle.checking.proofs.check_state.Statement.{statement}
 use Rattle.checking.proofs.check_state.Tie as tie
-use Rattle.checking.proofs.check_state.Reads as reads
-use Rattle.checking.proofs.check_state.Lts as lts
-use Rattle.lists.proofs.any_taken.Reads as any-taken-reads
-use Rattle.lists.proofs.repeats.Reads as repeats-reads
 
 repeats-requires : tie.Need-repeats-requires
 repeats-requires c κs = may-repeat _ _ _ _ _ _ (c .before .before .before .pre)

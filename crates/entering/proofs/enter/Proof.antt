@@ -1,14 +1,8 @@
 -- `entering::enter` meets its contract: its four steps, one after the other.
-use native.Mathlib.Omega.{arith}
 use Rattle.entering.specs.Entering.{store-ins, store-outs, may-claim, entered}
 use borrow.Author.Needs.{needs}
 use Rattle.entering.proofs.enter.Statement.{statement}
 use Rattle.entering.proofs.enter.Tie as tie
-use Rattle.entering.proofs.enter.Reads as reads
-use Rattle.entering.proofs.enter.Lts as lts
-use Rattle.lists.proofs.claim.Reads as claim-reads
-use Rattle.lists.proofs.set_cell.Reads as set-cell-reads
-use Rattle.lists.proofs.store_list.Reads as store-list-reads
 
 store-list-requires : tie.Need-store-list-requires
 store-list-requires c κs = store-ins _ _ _ _ _ _ _ (c .before .before .before .before .before .pre)

@@ -1,16 +1,10 @@
 -- `marking::mark_set` meets its contract: the marks after the set give the watermark, and the registrar's step what comes off.
-use native.Mathlib.Omega.{arith}
 use Rattle.marking.specs.Marking.{marked-low, marked-advancing, marks-of}
 use lib.ListN.{length-set}
 use mathlib.Core.Path.{_∙_}
 use borrow.Author.Needs.{needs}
 use Rattle.marking.proofs.mark_set.Statement.{statement}
 use Rattle.marking.proofs.mark_set.Tie as tie
-use Rattle.marking.proofs.mark_set.Reads as reads
-use Rattle.marking.proofs.mark_set.Lts as lts
-use Rattle.registrar.proofs.advance_set.Reads as advance-set-reads
-use Rattle.tracking.proofs.advance.Reads as advance-reads
-use Rattle.tracking.proofs.set_mark.Reads as set-mark-reads
 
 set-mark-requires : tie.Need-set-mark-requires
 set-mark-requires c κs = search needs

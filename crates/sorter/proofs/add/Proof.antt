@@ -1,5 +1,4 @@
 -- `sorter::add` meets its contract: the checks leave the storage as it was, the number is the model's, and 0 lets the work be done.
-use native.Mathlib.Omega.{arith}
 use Rattle.sorter.specs.Numbers.{may-check, add-number}
 use Prim.Native.Nat.{ℕ}
 use Rattle.rules.specs.Calls.{Call}
@@ -10,11 +9,6 @@ use mathlib.Core.Path.{_≡_, sym, subst, _∙_}
 use borrow.Author.Needs.{needs}
 use Rattle.sorter.proofs.add.Statement.{statement}
 use Rattle.sorter.proofs.add.Tie as tie
-use Rattle.sorter.proofs.add.Reads as reads
-use Rattle.sorter.proofs.add.Lts as lts
-use Rattle.checking.proofs.check_add.Reads as check-add-reads
-use Rattle.sorter.proofs.do_add.Reads as do-add-reads
-use Rattle.sorter.proofs.wide.Reads as wide-reads
 
 -- the number of an accepted call is 0
 numbered : (c : Call) (n : ℕ) (s s′ : Session) (σ σ′ : Storage) → n ≡ 0 → Called c 0 s s′ σ σ′ → Called c n s s′ σ σ′

@@ -1,15 +1,10 @@
 -- `sorter::do_add` meets its contract: the lists stored, the new registration placed or waiting, its row's written noted.
 use native.Mathlib.Omega.{arith}
-use Rattle.sorter.specs.AddWork.{ready-none, ready-some, new-bounds, new-small, new-settles, new-placed, new-waits, add-counts, add-enters, add-new, add-row, add-does}
+use Rattle.sorter.specs.AddWork.{add-counts, add-enters, add-new, add-row, add-does}
 use mathlib.Core.Path.{_∙_}
 use borrow.Author.Needs.{needs}
 use Rattle.sorter.proofs.do_add.Statement.{statement}
 use Rattle.sorter.proofs.do_add.Tie as tie
-use Rattle.sorter.proofs.do_add.Reads as reads
-use Rattle.sorter.proofs.do_add.Lts as lts
-use Rattle.entering.proofs.enter.Reads as enter-reads
-use Rattle.sorter.proofs.place_new.Reads as place-new-reads
-use Rattle.sorter.proofs.wide.Reads as wide-reads
 
 wide-requires : tie.Need-wide-requires
 wide-requires c κs = search needs

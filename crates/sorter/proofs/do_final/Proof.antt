@@ -1,12 +1,8 @@
 -- `sorter::do_final` meets its contract: what releasing all spans leaves, closed, with registrations and places fixed.
-use native.Mathlib.Omega.{arith}
 use Rattle.sorter.specs.FlushWork.{final-releases, final-counts, final-does}
 use borrow.Author.Needs.{needs}
 use Rattle.sorter.proofs.do_final.Statement.{statement}
 use Rattle.sorter.proofs.do_final.Tie as tie
-use Rattle.sorter.proofs.do_final.Reads as reads
-use Rattle.sorter.proofs.do_final.Lts as lts
-use Rattle.flushing.proofs.release_all.Reads as release-all-reads
 
 release-all-requires : tie.Need-release-all-requires
 release-all-requires c κs = final-releases _ _ (c .before .before .before .before .before .before .before .before .before .before .before .before .pre)

@@ -4,9 +4,6 @@ use Rattle.sorter.specs.FlushWork.{flush-releases, flush-counts, flush-d
 use borrow.Author.Needs.{needs}
 use Rattle.sorter.proofs.do_flush.Statement.{statement}
 use Rattle.sorter.proofs.do_flush.Tie as tie
-use Rattle.sorter.proofs.do_flush.Reads as reads
-use Rattle.sorter.proofs.do_flush.Lts as lts
-use Rattle.flushing.proofs.release_all.Reads as release-all-reads
 
 release-all-requires : tie.Need-release-all-requires
 release-all-requires c κs = flush-releases _ _ (c .before .before .before .before .before .before .before .before .before .before .before .before .pre)

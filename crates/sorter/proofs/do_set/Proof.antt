@@ -1,15 +1,9 @@
 -- `sorter::do_set` meets its contract: the marked place gives the model with it set, and the cascade places what came off.
-use native.Mathlib.Omega.{arith}
 use Rattle.sorter.specs.Setting.{set-marks, set-settles, set-does}
 use mathlib.Core.Path.{_∙_}
 use borrow.Author.Needs.{needs}
 use Rattle.sorter.proofs.do_set.Statement.{statement}
 use Rattle.sorter.proofs.do_set.Tie as tie
-use Rattle.sorter.proofs.do_set.Reads as reads
-use Rattle.sorter.proofs.do_set.Lts as lts
-use Rattle.marking.proofs.mark_set.Reads as mark-set-reads
-use Rattle.session.proofs.settle.Reads as settle-reads
-use Rattle.sorter.proofs.wide.Reads as wide-reads
 
 wide-requires : tie.Need-wide-requires
 wide-requires c κs = search needs

@@ -1,17 +1,10 @@
 -- `sorter::finish` meets its contract: the number is the model's, 0 lets the work be done, and the summary is that of the tally after it.
-use native.Mathlib.Omega.{arith}
 use Rattle.sorter.specs.FinalWork.{not-concluded, final-tallied, concluded}
 use Rattle.sorter.specs.Numbers.{final-number}
 use Rattle.sorter.specs.Promise.{called-refused, called-does, may-do}
 use borrow.Author.Needs.{needs}
 use Rattle.sorter.proofs.finish.Statement.{statement}
 use Rattle.sorter.proofs.finish.Tie as tie
-use Rattle.sorter.proofs.finish.Reads as reads
-use Rattle.sorter.proofs.finish.Lts as lts
-use Rattle.checking.proofs.check_final.Reads as check-final-reads
-use Rattle.sorter.proofs.do_final.Reads as do-final-reads
-use Rattle.sorter.proofs.no_summary.Reads as no-summary-reads
-use Rattle.summary.proofs.finalize.Reads as finalize-reads
 
 check-final-requires : tie.Need-check-final-requires
 check-final-requires c κs = search needs

@@ -1,14 +1,9 @@
 -- `sorter::flush` meets its contract: the number is the model's, and 0 lets the work be done.
-use native.Mathlib.Omega.{arith}
 use Rattle.sorter.specs.Numbers.{flush-number}
 use Rattle.sorter.specs.Promise.{called-refused, called-does, may-do}
 use borrow.Author.Needs.{needs}
 use Rattle.sorter.proofs.flush.Statement.{statement}
 use Rattle.sorter.proofs.flush.Tie as tie
-use Rattle.sorter.proofs.flush.Reads as reads
-use Rattle.sorter.proofs.flush.Lts as lts
-use Rattle.checking.proofs.check_flush.Reads as check-flush-reads
-use Rattle.sorter.proofs.do_flush.Reads as do-flush-reads
 
 check-flush-requires : tie.Need-check-flush-requires
 check-flush-requires c κs = search needs

@@ -1,12 +1,8 @@
 -- `sorter::is_ready` meets its contract: no inputs, or the greatest decides.
-use native.Mathlib.Omega.{arith}
-use Rattle.sorter.specs.AddWork.{ready-none, ready-some, new-bounds, new-small, new-settles, new-placed, new-waits, add-counts, add-enters, add-new, add-row, add-does}
+use Rattle.sorter.specs.AddWork.{ready-none, ready-some}
 use borrow.Author.Needs.{needs}
 use Rattle.sorter.proofs.is_ready.Statement.{statement}
 use Rattle.sorter.proofs.is_ready.Tie as tie
-use Rattle.sorter.proofs.is_ready.Reads as reads
-use Rattle.sorter.proofs.is_ready.Lts as lts
-use Rattle.lists.proofs.greatest.Reads as greatest-reads
 
 returns : tie.Need-returns
 returns c = ready-none _ _ (c .if1 .taken)

@@ -1,15 +1,10 @@
 -- `sorter::no_summary` meets its contract: zeros are the figures of no counts.
 use lib.Ieee.{ofBits, round}
--- `sorter::no_summary` meets its contract: zeros are the figures of no counts.
 use Rattle.rules.specs.Summary.{figures, average, sum, median, median-from, counts, thousands}
 use lib.Ieee.{ofBits, round}
 use mathlib.Core.Path.{refl}
-use borrow.Author.Needs.{needs}
-use native.Mathlib.Omega.{arith}
 use Rattle.sorter.proofs.no_summary.Statement.{statement}
 use Rattle.sorter.proofs.no_summary.Tie as tie
-use Rattle.sorter.proofs.no_summary.Reads as reads
-use Rattle.sorter.proofs.no_summary.Lts as lts
 
 returns : tie.Need-returns
 unfolding figures average sum median median-from counts thousands ofBits round

@@ -1,18 +1,10 @@
 -- `sorter::place_new` meets its contract: it is put on the empty stack and the cascade runs, or it joins those that wait.
 use native.Mathlib.Omega.{arith}
-use Rattle.sorter.specs.AddWork.{ready-none, ready-some, new-bounds, new-small, new-settles, new-placed, new-waits, add-counts, add-enters, add-new, add-row, add-does}
+use Rattle.sorter.specs.AddWork.{new-bounds, new-small, new-settles, new-placed, new-waits}
 use mathlib.Core.Path.{sym, _∙_}
 use borrow.Author.Needs.{needs}
 use Rattle.sorter.proofs.place_new.Statement.{statement}
 use Rattle.sorter.proofs.place_new.Tie as tie
-use Rattle.sorter.proofs.place_new.Reads as reads
-use Rattle.sorter.proofs.place_new.Lts as lts
-use Rattle.lists.proofs.greatest.Reads as greatest-reads
-use Rattle.registrar.proofs.delay.Reads as delay-reads
-use Rattle.registrar.proofs.stack.Reads as stack-reads
-use Rattle.session.proofs.settle.Reads as settle-reads
-use Rattle.sorter.proofs.is_ready.Reads as is-ready-reads
-use Rattle.sorter.proofs.wide.Reads as wide-reads
 
 wide-requires : tie.Need-wide-requires
 wide-requires c κs = search needs

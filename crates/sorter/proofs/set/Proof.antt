@@ -1,15 +1,9 @@
 -- `sorter::set` meets its contract: the number is the model's, and 0 lets the work be done.
-use native.Mathlib.Omega.{arith}
 use Rattle.sorter.specs.Numbers.{set-number}
 use Rattle.sorter.specs.Promise.{called-refused, called-does, may-do}
 use borrow.Author.Needs.{needs}
 use Rattle.sorter.proofs.set.Statement.{statement}
 use Rattle.sorter.proofs.set.Tie as tie
-use Rattle.sorter.proofs.set.Reads as reads
-use Rattle.sorter.proofs.set.Lts as lts
-use Rattle.checking.proofs.check_set.Reads as check-set-reads
-use Rattle.sorter.proofs.do_set.Reads as do-set-reads
-use Rattle.sorter.proofs.wide.Reads as wide-reads
 
 wide-requires : tie.Need-wide-requires
 wide-requires c κs = search needs
