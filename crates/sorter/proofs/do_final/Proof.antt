@@ -1,6 +1,5 @@
 -- `sorter::do_final` meets its contract: what releasing all spans leaves, closed, with registrations and places fixed.
 use Rattle.sorter.specs.FlushWork.{final-releases, final-counts, final-does}
-use borrow.Author.Needs.{needs}
 use Rattle.sorter.proofs.do_final.Statement.{statement}
 use Rattle.sorter.proofs.do_final.Tie as tie
 
@@ -11,13 +10,13 @@ cast-t18 : tie.Need-cast-t18
 cast-t18 c = record { fits = final-counts _ _ (c .before .before .before .before .before .before .before .before .before .before .before .before .before .before .before .before .before .before .before .before .pre) }
 
 same-length : tie.Need-same-length
-same-length c = search needs
+same-length c = c .before .before .before .before .before .before .before .release-all .kept .0
 
 same-length-2 : tie.Need-same-length-2
-same-length-2 c = search needs
+same-length-2 c = c .before .before .before .before .before .before .before .release-all .kept .1 .0
 
 same-length-3 : tie.Need-same-length-3
-same-length-3 c = search needs
+same-length-3 c = c .before .before .before .before .before .before .before .release-all .kept .1 .1 .0
 
 returns : tie.Need-returns
 returns c = final-does _ _ _ _ _ _ (c .before .before .before .before .before .before .before .release-all .ensures)

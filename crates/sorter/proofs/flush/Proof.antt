@@ -1,4 +1,5 @@
 -- `sorter::flush` meets its contract: the number is the model's, and 0 lets the work be done.
+use mathlib.Core.Path.{refl}
 use Rattle.sorter.specs.Numbers.{flush-number}
 use Rattle.sorter.specs.Promise.{called-refused, called-does, may-do}
 use borrow.Author.Needs.{needs}
@@ -15,28 +16,28 @@ do-flush-requires : tie.Need-do-flush-requires
 do-flush-requires c κs = may-do _ _ _ _ (flush-number _ _ _ (c .before .before .before .before .before .before .before .before .before .check-flush .ensures)) (c .before .before .before .before .before .before .before .before .if1 .left) (c .before .before .before .before .before .before .before .before .before .before .before .before .before .before .before .before .before .before .pre)
 
 same-length : tie.Need-same-length
-same-length c = search needs
+same-length c = refl
 
 same-length-2 : tie.Need-same-length-2
-same-length-2 c = search needs
+same-length-2 c = c .before .before .before .before .before .before .do-flush .kept .1 .1 .0
 
 same-length-3 : tie.Need-same-length-3
-same-length-3 c = search needs
+same-length-3 c = c .before .before .before .before .before .before .do-flush .kept .1 .1 .1 .0
 
 same-length-4 : tie.Need-same-length-4
-same-length-4 c = search needs
+same-length-4 c = c .before .before .before .before .before .before .do-flush .kept .1 .1 .1 .1 .0
 
 same-length-5 : tie.Need-same-length-5
-same-length-5 c = search needs
+same-length-5 c = refl
 
 same-length-6 : tie.Need-same-length-6
-same-length-6 c = search needs
+same-length-6 c = refl
 
 same-length-7 : tie.Need-same-length-7
-same-length-7 c = search needs
+same-length-7 c = refl
 
 same-length-8 : tie.Need-same-length-8
-same-length-8 c = search needs
+same-length-8 c = refl
 
 returns-2 : tie.Need-returns-2
 returns-2 c = called-does _ _ _ _ _ _ (flush-number _ _ _ (c .before .before .before .before .before .before .before .before .before .before .before .before .before .before .before .before .check-flush .ensures)) (c .before .before .before .before .before .before .before .before .before .before .before .before .before .before .before .if1 .left) (c .before .before .before .before .before .before .do-flush .ensures)
