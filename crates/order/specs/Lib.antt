@@ -1,0 +1,2 @@
+-- The program's input.
+pub mod Input
