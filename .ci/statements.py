@@ -8,8 +8,6 @@ import re
 import sys
 
 DOCUMENTS = ["README.md", "docs/STATEMENTS.md", "docs/GUARANTEE.md", "docs/DECISIONS.md"]
-# Named by the documents, with their crates still to come.
-PLANNED = {"job", "host", "order"}
 
 CODE = re.compile(r"`([^`\n]+)`")
 CITED = re.compile(r"(?:([a-z][a-z0-9_]*)/)?([A-Z][A-Za-z0-9]*)((?:\.[^\s.:(]+)*)$")
@@ -81,11 +79,11 @@ def main():
             crates, cited = citations(file.read())
         count += len(crates) + len(cited)
         for crate in crates + [crate for crate, _, _ in cited if crate]:
-            if crate not in known | PLANNED:
+            if crate not in known:
                 wrong.append(f"{document}: crate {crate}: crates.txt has none of that name")
         for crate, module, names in cited:
             fault = problem(found, crate, module, names)
-            if fault and crate not in PLANNED:
+            if fault:
                 wrong.append(f"{document}: {crate + '/' if crate else ''}{'.'.join([module] + names)}: {fault}")
     for line in sorted(set(wrong)):
         print(line)
