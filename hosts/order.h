@@ -1,0 +1,38 @@
+/* The exported call of crate `host`: a job's bytes in, its listing's bytes out.
+   `rt staticlib host` proves it and writes target/staticlib/libhost.a; hosts/order_example.c shows a
+   call. What the call promises is rules/specs/Listing.antt: `reply`, `result` and `bytes-after`. */
+#ifndef ORDER_H
+#define ORDER_H
+
+#include <stddef.h>
+#include <stdint.h>
+
+#ifdef __cplusplus
+extern "C" {
+#endif
+
+/* The greatest listing has fewer bytes than this; a job has at most as many. */
+#define ORDER_LISTING_BYTES 65536
+#define ORDER_JOB_BYTES 65536
+
+/* Runs a job. The two slices are a pointer and a count of bytes each, do not overlap, and neither
+   pointer is null, also where the count is 0. Nothing is kept between calls, and calls may run at the
+   same time.
+
+   Returns 64 times the listing's length, the listing then standing at the start of `listing` and what
+   lies behind it untouched; or, for a refused job, 64 times the line plus the number of the refusal
+   (1 to 17), all of `listing` untouched.
+
+   The call works on the stack and needs less than 450 KB of it. */
+uint64_t order_job(const uint8_t *job, size_t job_count, uint8_t *listing, size_t listing_count);
+
+/* A returned number, taken apart. */
+#define ORDER_CODE(returned) ((unsigned)((returned) % 64))     /* 0 if the job was accepted */
+#define ORDER_LENGTH(returned) ((size_t)((returned) / 64))     /* the listing's, if it was */
+#define ORDER_LINE(returned) ((unsigned long)((returned) / 64)) /* the refusal's, if it was not */
+
+#ifdef __cplusplus
+}
+#endif
+
+#endif

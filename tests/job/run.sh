@@ -1,0 +1,79 @@
+#!/bin/bash
+# Holds the program `order` and the exported call of crate `host` to the hand-worked jobs and to the
+# reference model: every refusal that a job can reach, malformed jobs of every form, the boundaries of
+# each limit, random jobs, damaged copies of them and random bytes.
+#
+#   tests/job/run.sh           the short form
+#   tests/job/run.sh --long    ten times as many random jobs
+#
+# JOB_SEED chooses the random jobs (default 1). Where valgrind is at hand a part of it runs under it.
+set -euo pipefail
+cd "$(dirname "$0")/../.."
+
+fail() { echo "tests/job/run.sh: $*" >&2; exit 1; }
+case "${1:-}" in
+  '') times=1 ;;
+  --long) times=10 ;;
+  *) fail "unknown option $1" ;;
+esac
+seed=${JOB_SEED:-1}
+
+work=target/job
+mkdir -p $work target/reference
+rt staticlib host >$work/staticlib.log 2>&1 || { tail -n 20 $work/staticlib.log >&2; fail "rt staticlib host"; }
+rt check order >$work/order.log 2>&1 || { tail -n 20 $work/order.log >&2; fail "rt check order"; }
+library=$(realpath target/staticlib/libhost.a)
+order=target/bin/order
+
+reference=target/reference/reference
+newest=$(ls -t tests/reference/*.rs $reference 2>/dev/null | head -n 1) || true
+[ "$newest" = $reference ] || rustc --edition 2021 -O -o $reference tests/reference/main.rs
+gcc -std=c11 -Wall -Wextra -Werror -O2 -Ihosts hosts/order_example.c "$library" -o $work/example
+gcc -std=c11 -Wall -Wextra -Werror -O2 -g -Ihosts tests/job/host.c "$library" -o $work/host
+rustc --edition 2021 -O -D warnings -C link-arg="$library" -o $work/job tests/job/main.rs
+
+# J1 of document 01, by the program and by the program in C.
+diff crates/order/stdout <($order <crates/order/stdin) || fail "J1 by the program"
+diff crates/order/stdout <($work/example <crates/order/stdin) || fail "J1 from C"
+echo "job: J1 by the program and from C: as document 01 prints it"
+
+# The hand-worked jobs and random ones, by program and call, each job in a process of its own.
+$reference jobs "$seed" $((400 * times)) >$work/random.cases
+python3 tests/reference/check.py jobs $order
+python3 tests/reference/check.py jobs $work/random.cases $order
+python3 tests/reference/check.py host $work/host
+python3 tests/reference/check.py host $work/random.cases $work/host
+
+# The same random jobs' listings, made from the oracle's dump.
+if [ -d "${ORACLE_SOURCE:-../shared/docs/src}" ]; then
+  oracle/build.sh
+  python3 tests/reference/listings.py $work/random.cases target/oracle/oracle
+else
+  echo "job: no Rust source at ${ORACLE_SOURCE:-../shared/docs/src}: NOT compared with the Rust"
+fi
+
+# From Rust, on a thread with 2 MB of stack, beside the model.
+$work/job edges
+$work/job jobs "$seed" $((4000 * times))
+$work/job bytes "$seed" $((20000 * times))
+$work/job stack
+
+# Standard input or output that fails is said on standard error.
+said() { [ -s $work/said ] || fail "$1: nothing on standard error"; }
+$order <. 2>$work/said >$work/out || true
+said "a directory as standard input"
+[ ! -s $work/out ] || fail "a directory as standard input: something was printed"
+$order <crates/order/stdin >/dev/full 2>$work/said || true
+said "a full device as standard output"
+$order <crates/order/stdin >&- 2>$work/said || true
+said "no standard output"
+echo "job: a failing read and a failing write are said on standard error"
+
+if command -v valgrind >/dev/null; then
+  $reference jobs "$((seed + 1))" 12 >$work/grind.cases
+  python3 tests/reference/check.py jobs $work/grind.cases valgrind -q --error-exitcode=9 $order
+  python3 tests/reference/check.py host $work/grind.cases valgrind -q --error-exitcode=9 $work/host
+  echo "job: 12 jobs by program and call under valgrind: no error"
+else
+  echo "job: no valgrind: NOTHING is run under it"
+fi
