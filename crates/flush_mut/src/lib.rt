@@ -4,7 +4,7 @@ ghost use mathlib.Core.Path.{_≡_};
 ghost use Rattle.rules.specs.Calls.{flush as flush-call};
 ghost use Rattle.session.specs.Storage.{storage};
 ghost use Rattle.summary.specs.Figured.{figured};
-ghost use Rattle.sorter.specs.Promise.{Asks, Called};
+ghost use Rattle.admitting.specs.Promise.{Asks, Called};
 ghost use Rattle.sorter.specs.FinalWork.{Concludes};
 use session::Session;
 use sorter::Finished;

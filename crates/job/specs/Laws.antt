@@ -15,7 +15,7 @@ use Rattle.laws.specs.Sound.{Between, between-initial}
 use Rattle.session.specs.declared.Session.{Session}
 use Rattle.session.specs.Storage.{Storage}
 use Rattle.session.specs.Rep.{Rep}
-use Rattle.sorter.specs.Promise.{Asks}
+use Rattle.admitting.specs.Promise.{Asks}
 use Rattle.opening.specs.Opened.{Opens, enough-of}
 use Rattle.jobcalls.specs.Told.{HeadRead}
 use Rattle.jobcalls.specs.declared.Head.{Head}

@@ -22,7 +22,7 @@ use Rattle.jobtext.specs.Pieces.{bool, lines-more, lines-last, ragged-last, bef
 use Rattle.session.specs.declared.Session.{Session}
 use Rattle.session.specs.Storage.{Storage}
 use Rattle.session.specs.Rep.{Rep}
-use Rattle.sorter.specs.Promise.{Asks, Called}
+use Rattle.admitting.specs.Promise.{Asks, Called}
 use Rattle.sorter.specs.Chain.{follows-step}
 use Rattle.jobcalls.specs.declared.Act.{Act}
 use Rattle.jobcalls.specs.declared.Act.the-variants as act

@@ -13,7 +13,7 @@ use Rattle.laws.specs.Sound.{Between}
 use Rattle.session.specs.declared.Session.{Session}
 use Rattle.session.specs.Storage.{Storage}
 use Rattle.session.specs.Rep.{Rep}
-use Rattle.sorter.specs.Promise.{Asks, Called}
+use Rattle.admitting.specs.Promise.{Asks, Called}
 use Rattle.jobcalls.specs.declared.Act.{Act}
 use Rattle.jobcalls.specs.declared.Act.the-variants as act
 use Rattle.jobcalls.specs.Told.{call-of, taken-by}

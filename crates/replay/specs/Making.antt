@@ -12,7 +12,7 @@ use Rattle.rules.specs.Encoding.{Front, Counted, counted, add-front, add-outs, 
 use Rattle.encoding.specs.Ends.{ListEnds, front-set, front-set-short, front-add, front-flush, front-final, front-other, add-whole}
 use Rattle.session.specs.declared.Session.{Session}
 use Rattle.session.specs.Storage.{Storage}
-use Rattle.sorter.specs.Promise.{Called}
+use Rattle.admitting.specs.Promise.{Called}
 use Rattle.replay.specs.Replay.{Made, Readable}
 
 never : (f : Front) (o : Option Front) → o ≡ some f → o ≡ none → ⊥

@@ -16,7 +16,7 @@ use Rattle.session.specs.declared.Session.{Session}
 use Rattle.session.specs.Storage.{Storage, Frame}
 use Rattle.session.specs.Rep.{Rep}
 use Rattle.opening.specs.Opened.{sizes}
-use Rattle.sorter.specs.Promise.{Called}
+use Rattle.admitting.specs.Promise.{Called}
 
 -- the number of a replay: 15 for numbers that are no list of calls; then what opening refuses, and 2 where there is no room for the
 -- calls' numbers

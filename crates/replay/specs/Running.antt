@@ -23,7 +23,7 @@ use Rattle.session.specs.declared.Session.{Session}
 use Rattle.session.specs.Storage.{Storage, storage, Frame, frame-refl, frame-trans}
 use Rattle.session.specs.Rep.{Rep}
 use Rattle.opening.specs.Opened.{sizes, first-session, Opens, Enough, enough-of}
-use Rattle.sorter.specs.Promise.{Asks}
+use Rattle.admitting.specs.Promise.{Asks}
 use Rattle.replay.specs.Replay.{replay-number, Ran, Replays, Exported, Made, Readable}
 use Rattle.replay.specs.Turn.{Running, running-start, running-asks, running-readable, made-few, running-turn, running-end}
 

@@ -18,7 +18,7 @@ use Rattle.encoding.specs.Decode.{decode-none, decode-some}
 use Rattle.session.specs.declared.Session.{Session}
 use Rattle.session.specs.Storage.{Storage, Frame, frame-trans}
 use Rattle.session.specs.Rep.{Rep}
-use Rattle.sorter.specs.Promise.{Asks, Called}
+use Rattle.admitting.specs.Promise.{Asks, Called}
 use Rattle.sorter.specs.Chain.{follows-step}
 use Rattle.replay.specs.Replay.{Ran, Made, Readable}
 

@@ -3,7 +3,7 @@ ghost use mathlib.Core.Path.{_≡_};
 ghost use Prim.Native.Nat.{ℕ, _+_, _*_, _≤_, _<_};
 ghost use lib.ListN.{length, getD};
 ghost use Rattle.session.specs.Storage.{storage};
-ghost use Rattle.sorter.specs.Promise.{Asks};
+ghost use Rattle.admitting.specs.Promise.{Asks};
 ghost use Rattle.replay.specs.Replay.{Made, Readable, Replays, Exported};
 ghost use Rattle.replay.specs.Running.{MayRun, Runs};
 use session::Session;

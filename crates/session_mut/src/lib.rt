@@ -2,7 +2,7 @@
 // the same promise. A refused call leaves session and storage as they were.
 ghost use Rattle.rules.specs.Calls.{set as set-call, add as add-call};
 ghost use Rattle.session.specs.Storage.{storage};
-ghost use Rattle.sorter.specs.Promise.{Asks, Called};
+ghost use Rattle.admitting.specs.Promise.{Asks, Called};
 use session::Session;
 
 // Sets place x: the call's number.

@@ -12,7 +12,7 @@ use Rattle.laws.specs.DemandProof.{demand-3}
 use Rattle.session.specs.declared.Session.{Session}
 use Rattle.session.specs.Storage.{Storage}
 use Rattle.session.specs.Rep.{Rep}
-use Rattle.sorter.specs.Promise.{Called}
+use Rattle.admitting.specs.Promise.{Called}
 
 -- calls cs with numbers ns lead from s with σ to s′ with σ′; nothing else writes them meanwhile
 pub data Chain : Session → Storage → List Call → List ℕ → Session → Storage → Type 0 where

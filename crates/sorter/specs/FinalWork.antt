@@ -15,7 +15,7 @@ use Rattle.summary.specs.Figured.{Tallied}
 use Rattle.session.specs.declared.Session.{Session}
 use Rattle.session.specs.Storage.{Storage}
 use Rattle.session.specs.Rep.{Rep}
-use Rattle.sorter.specs.Promise.{Called, MayDo, Does, step-accepted, positive}
+use Rattle.admitting.specs.Promise.{Called, MayDo, Does, step-accepted, positive}
 
 -- final's promise: a call's, and the summary is the model's, or that of an empty tally where it was refused
 pub record Concludes (n : ℕ) (s s′ : Session) (σ σ′ : Storage) (f : Figures) : Type 0 where

@@ -16,7 +16,7 @@ use Rattle.flushing.specs.Released.{MayRelease, Releases}
 use Rattle.session.specs.declared.Session.{Session}
 use Rattle.session.specs.Storage.{Storage, storage}
 use Rattle.session.specs.Rep.{Core, Rep}
-use Rattle.sorter.specs.Promise.{MayDo, Does, positive}
+use Rattle.admitting.specs.Promise.{MayDo, Does, positive}
 
 -- the storage after a release of all spans
 abbrev pub with-order : Storage → List ℕ → List ℕ → List ℕ → Storage

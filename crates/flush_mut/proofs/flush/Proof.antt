@@ -44,7 +44,7 @@ use denote.Signature.{Slot, plain}
 use Rattle.rules.specs.Calls.{flush as flush-call}
 use Rattle.session.specs.Storage.{storage}
 use Rattle.summary.specs.Figured.{figured}
-use Rattle.sorter.specs.Promise.{Asks, Called}
+use Rattle.admitting.specs.Promise.{Asks, Called}
 use Rattle.sorter.specs.FinalWork.{Concludes}
 use Rattle.session.specs.declared.Session.{Session}
 use Rattle.sorter.specs.declared.Answer.{Answer}

@@ -43,7 +43,7 @@ use denote.Exit.{yes}
 use denote.Signature.{Slot, plain}
 use Rattle.rules.specs.Calls.{set as set-call, add as add-call}
 use Rattle.session.specs.Storage.{storage}
-use Rattle.sorter.specs.Promise.{Asks, Called}
+use Rattle.admitting.specs.Promise.{Asks, Called}
 use Rattle.session.specs.declared.Session.{Session}
 use Rattle.sorter.specs.declared.Answer.{Answer}
 use Rattle.session.proofs.Session as T

@@ -1,10 +1,10 @@
 -- `sorter::add` meets its contract: the checks leave the storage as it was, the number is the model's, and 0 lets the work be done.
-use Rattle.sorter.specs.Numbers.{may-check, add-number}
+use Rattle.admitting.specs.Numbers.{may-check, add-number}
 use Prim.Native.Nat.{ℕ}
 use Rattle.rules.specs.Calls.{Call}
 use Rattle.session.specs.declared.Session.{Session}
 use Rattle.session.specs.Storage.{Storage}
-use Rattle.sorter.specs.Promise.{Called, refused-checked, may-checked, called-checked}
+use Rattle.admitting.specs.Promise.{Called, refused-checked, may-checked, called-checked}
 use mathlib.Core.Path.{_≡_, sym, subst, _∙_}
 use borrow.Author.Needs.{needs}
 use Rattle.sorter.proofs.add.Statement.{statement}

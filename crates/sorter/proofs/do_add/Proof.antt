@@ -2,7 +2,7 @@
 use mathlib.Core.Path.{_∙_}
 use lib.ListN.{length-set}
 use native.Mathlib.Omega.{arith}
-use Rattle.sorter.specs.AddWork.{add-counts, add-enters, add-new, add-row, add-does}
+use Rattle.admitting.specs.AddWork.{add-counts, add-enters, add-new, add-row, add-does}
 use borrow.Author.Needs.{needs}
 use Rattle.sorter.proofs.do_add.Statement.{statement}
 use Rattle.sorter.proofs.do_add.Tie as tie

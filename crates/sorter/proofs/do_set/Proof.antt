@@ -1,6 +1,6 @@
 -- `sorter::do_set` meets its contract: the marked place gives the model with it set, and the cascade places what came off.
 use mathlib.Core.Path.{_∙_}
-use Rattle.sorter.specs.Setting.{set-marks, set-settles, set-does}
+use Rattle.admitting.specs.Setting.{set-marks, set-settles, set-does}
 use borrow.Author.Needs.{needs}
 use Rattle.sorter.proofs.do_set.Statement.{statement}
 use Rattle.sorter.proofs.do_set.Tie as tie

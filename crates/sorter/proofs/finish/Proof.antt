@@ -1,8 +1,8 @@
 -- `sorter::finish` meets its contract: the number is the model's, 0 lets the work be done, and the summary is that of the tally after it.
 use mathlib.Core.Path.{refl}
 use Rattle.sorter.specs.FinalWork.{not-concluded, final-tallied, concluded}
-use Rattle.sorter.specs.Numbers.{final-number}
-use Rattle.sorter.specs.Promise.{called-refused, called-does, may-do}
+use Rattle.admitting.specs.Numbers.{final-number}
+use Rattle.admitting.specs.Promise.{called-refused, called-does, may-do}
 use borrow.Author.Needs.{needs}
 use Rattle.sorter.proofs.finish.Statement.{statement}
 use Rattle.sorter.proofs.finish.Tie as tie

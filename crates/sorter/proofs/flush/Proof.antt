@@ -1,7 +1,7 @@
 -- `sorter::flush` meets its contract: the number is the model's, and 0 lets the work be done.
 use mathlib.Core.Path.{refl}
-use Rattle.sorter.specs.Numbers.{flush-number}
-use Rattle.sorter.specs.Promise.{called-refused, called-does, may-do}
+use Rattle.admitting.specs.Numbers.{flush-number}
+use Rattle.admitting.specs.Promise.{called-refused, called-does, may-do}
 use borrow.Author.Needs.{needs}
 use Rattle.sorter.proofs.flush.Statement.{statement}
 use Rattle.sorter.proofs.flush.Tie as tie

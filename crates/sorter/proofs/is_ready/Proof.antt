@@ -1,5 +1,5 @@
 -- `sorter::is_ready` meets its contract: no inputs, or the greatest decides.
-use Rattle.sorter.specs.AddWork.{ready-none, ready-some}
+use Rattle.admitting.specs.AddWork.{ready-none, ready-some}
 use borrow.Author.Needs.{needs}
 use Rattle.sorter.proofs.is_ready.Statement.{statement}
 use Rattle.sorter.proofs.is_ready.Tie as tie

@@ -1,7 +1,7 @@
 -- `sorter::place_new` meets its contract: it is put on the empty stack and the cascade runs, or it joins those that wait.
 use mathlib.Core.Path.{_∙_, sym}
 use native.Mathlib.Omega.{arith}
-use Rattle.sorter.specs.AddWork.{new-bounds, new-small, new-settles, new-placed, new-waits}
+use Rattle.admitting.specs.AddWork.{new-bounds, new-small, new-settles, new-placed, new-waits}
 use borrow.Author.Needs.{needs}
 use Rattle.sorter.proofs.place_new.Statement.{statement}
 use Rattle.sorter.proofs.place_new.Tie as tie

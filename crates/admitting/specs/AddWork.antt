@@ -24,9 +24,9 @@ use Rattle.session.specs.Storage.{Storage, Frame, frame-trans}
 use Rattle.session.specs.Turn.{with-waiting, waiting-frame}
 use Rattle.session.specs.Settle.{MaySettle, Settles}
 use Rattle.session.specs.Rep.{RepSt, Rep}
-use Rattle.sorter.specs.Promise.{MayDo, Does, framed}
-use Rattle.sorter.specs.Adding.{Unplaced, with-added, with-lists, may-enter, entered-rep, frame-entered, may-delay, rep-stacked, rep-waits, lead-is-mark}
-use Rattle.sorter.specs.Noting.{with-rows, rep-noted, frame-noted}
+use Rattle.admitting.specs.Promise.{MayDo, Does, framed}
+use Rattle.admitting.specs.Adding.{Unplaced, with-added, with-lists, may-enter, entered-rep, frame-entered, may-delay, rep-stacked, rep-waits, lead-is-mark}
+use Rattle.admitting.specs.Noting.{with-rows, rep-noted, frame-noted}
 
 -- registration r, with inputs ins, has its lists stored and is the model's latest
 pub record MayPlaceNew (ins : List ℕ) (r : ℕ) (s : Session) (σ : Storage) : Type 0 where

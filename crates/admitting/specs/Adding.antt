@@ -29,7 +29,7 @@ use Rattle.session.specs.Storage.{Storage, Frame, frame-refl}
 use Rattle.session.specs.Turn.{with-waiting}
 use Rattle.buffer.specs.declared.Guide.{Guide}
 use Rattle.session.specs.Rep.{Counted, Core, RepSt, Rep}
-use Rattle.sorter.specs.Setting.{past}
+use Rattle.admitting.specs.Setting.{past}
 
 -- all but the stack, and one registration more than those that wait is still to be placed or delayed
 pub record Unplaced (P N : ℕ) (k : Model) (s : Session) (σ : Storage) : Type 0 where

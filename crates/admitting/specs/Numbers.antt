@@ -14,7 +14,7 @@ use Rattle.checking.specs.Laws.{answer-set, answer-add, answer-flush, answer-fi
 use Rattle.session.specs.declared.Session.{Session}
 use Rattle.session.specs.Storage.{Storage}
 use Rattle.session.specs.Rep.{Rep}
-use Rattle.sorter.specs.Promise.{Asks}
+use Rattle.admitting.specs.Promise.{Asks}
 
 -- n is the number of the call c for every model that session and storage stand for
 abbrev pub Number : Call → ℕ → Session → Storage → Type 0

@@ -23,7 +23,7 @@ use Rattle.session.specs.declared.Session.{Session}
 use Rattle.session.specs.Storage.{Storage, Frame, frame-refl, frame-trans}
 use Rattle.session.specs.Settle.{MaySettle, Settles}
 use Rattle.session.specs.Rep.{RepSt, Rep}
-use Rattle.sorter.specs.Promise.{MayDo, Does, framed, positive}
+use Rattle.admitting.specs.Promise.{MayDo, Does, framed, positive}
 
 -- lists that agree from n on agree at each index from there
 pub past : (n i : ℕ) (w w′ : List ℕ) → n ≤ i → drop n w′ ≡ drop n w → getD w′ i 0 ≡ getD w i 0

@@ -1,0 +1,8 @@
+-- What a call of a session promises; a set or an add admitted, and what is then left to be placed.
+pub mod Promise
+pub mod Setting
+pub mod Adding
+pub mod Noting
+pub mod AddWork
+pub mod Numbers
+pub mod Admitted
