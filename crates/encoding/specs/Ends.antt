@@ -12,6 +12,7 @@ use lib.ListN.{length, getD, take, drop, length-append, length-drop, drop-of-len
 use lib.Seq.{drop-cons, drop-drop}
 use borrow.Author.Tests.{le-leb, lt-leb, ne-eqb}
 use Rattle.rules.specs.Calls.{Call, set, add, flush, final}
+use Rattle.laws.specs.History.{lt-or-le}
 use Rattle.rules.specs.Encoding.{Front, counted, set-front, add-outs, add-front, front, unless-empty, decode-from, decode}
 use Rattle.encoding.specs.Decode.{decode-none, decode-some, prefix, prefix-more, prefix-none, prefix-some}
 
@@ -49,6 +50,18 @@ module _ (l : List ℕ) (at : ℕ) where
       let s : at + 1 ≡ suc at = omega arith in
       let t : at + 1 + n ≡ suc at + getD l at 0 = omega arith in
       inr (omega arith, omega arith, ap counted (drop-cons l at 0 h) ∙ rw (e, counted) (rw (m, t, s, drop-drop)))
+
+  -- a list that is there lies inside
+  pub list-there : (counted (drop at l) ≡ none → ⊥) → (at < length l) × (getD l at 0 ≤ length l - 1 - at)
+  list-there h = go (lt-or-le at (length l))
+    where
+      none-of : ListEnds l at 0 → counted (drop at l) ≡ none
+      none-of (inl x) = x .1
+      none-of (inr x) = absurd (omega (arith, x .0))
+
+      go : (at < length l) ⊎ (length l ≤ at) → (at < length l) × (getD l at 0 ≤ length l - 1 - at)
+      go (inr x) = absurd (h (none-of (list-past x)))
+      go (inl x) = elim (lt-or-le (length l - 1 - at) (getD l at 0)) [ inl y ↦ absurd (h (none-of (list-short (getD l at 0) refl x y))) | inr y ↦ (x, y) ]
 
   pub add-none : (middle : ℕ) → ListEnds l at middle → middle ≡ 0 → Ends (add-front (counted (drop at l))) l at 0
   unfolding add-front

@@ -1,5 +1,6 @@
 // A list of calls encoded as numbers: where a call ends, and how many calls there are. Nothing is written.
 ghost use mathlib.Core.Path.{_≡_};
+ghost use mathlib.Core.Option.{none};
 ghost use Prim.Native.Nat.{ℕ, _+_, _≤_, _<_};
 ghost use lib.ListN.{length, drop};
 ghost use Rattle.rules.specs.Encoding.{front, add-front, counted};
@@ -24,6 +25,14 @@ pub fn list_end(calls: &[u64], at: usize) -> usize
         return 0;
     }
     at + 1 + n
+}
+
+// The index past the counted list that starts at `at`, where there is one.
+pub fn past_list(calls: &[u64], at: usize) -> usize
+    requires { ⌜ (counted (drop at (now calls)) ≡ none → ⊥) ⌝ }
+    ensures { λ r. ⌜ ListEnds (now (calls .entry)) at r ⌝ }
+{
+    at + 1 + short(calls[at])
 }
 
 // The index past the two counted lists that start at `at`, or 0 where they are not there.
