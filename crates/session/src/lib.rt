@@ -144,9 +144,9 @@ fn place_one(
         parallelism: 0,
     };
     let d = guide::push(g, spans, order, tally, a.has, a.span, a.pos, e);
-    let h = d.guide;
-    records::fill_rows(order, n, h.written - n, rows);
+    records::fill_rows(order, n, d.guide.written - n, rows);
     let to = settle_outputs(marks, locs, pool, a.at, a.n, d.span, d.pos, v, lead);
+    let h = d.guide;
     Moved { guide: h, lead: to }
 }
 
@@ -167,8 +167,7 @@ fn place_next(
     requires { ⌜ MayTurn c s (storage (now spans) (now order) (now tally) (now rows) (now marks) (now locs) (now waiting) (now pool)) top ⌝ }
     ensures { λ z. ⌜ Turns c s (storage (now (spans .entry)) (now (order .entry)) (now (tally .entry)) (now (rows .entry)) (now (marks .entry)) (now (locs .entry)) (now (waiting .entry)) (now (pool .entry))) top (z .session) (storage (now (spans .exit)) (now (order .exit)) (now (tally .exit)) (now (rows .exit)) (now (marks .exit)) (now (locs .exit)) (now (waiting .exit)) (now (pool .entry))) (z .top) ⌝ }
 {
-    let g = s.guide;
-    let v = wide(g.v);
+    let v = wide(s.guide.v);
     let lead = s.lead;
     let r = top - 1;
     let under = registrar::next(waiting, v, r as usize);
@@ -181,16 +180,16 @@ fn place_next(
         locs,
         waiting,
         pool,
-        g,
+        s.guide,
         lead,
         s.added,
         s.used,
         r as u32,
         c,
     );
-    let h = m.guide;
     let to = m.lead;
     let over = registrar::advance_placed(waiting, v, lead, to, under);
+    let h = m.guide;
     let z = Session {
         guide: h,
         lead: to,

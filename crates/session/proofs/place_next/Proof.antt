@@ -12,22 +12,22 @@ wide-requires : tie.Need-wide-requires
 wide-requires c κs = search needs
 
 sub-r : tie.Need-sub-r
-sub-r c = let a = c .before .before .before .before .before .before .before .before .before .before .args in let x = turn-top (a .c) (a .s) (storage (now (a .spans)) (now (a .order)) (now (a .tally)) (now (a .rows)) (now (a .marks)) (now (a .locs)) (now (a .waiting)) (now (a .pool))) (a .top) (c .before .before .before .before .before .before .before .before .before .before .pre) in omega (arith, x .1 .0)
+sub-r c = let a = c .before .before .before .before .before .before .before .before .before .args in let x = turn-top (a .c) (a .s) (storage (now (a .spans)) (now (a .order)) (now (a .tally)) (now (a .rows)) (now (a .marks)) (now (a .locs)) (now (a .waiting)) (now (a .pool))) (a .top) (c .before .before .before .before .before .before .before .before .before .pre) in omega (arith, x .1 .0)
 
 next-requires : tie.Need-next-requires
-next-requires c κs = let a = c .before .before .before .before .before .before .before .before .before .before .before .args in let x = turn-top (a .c) (a .s) (storage (now (a .spans)) (now (a .order)) (now (a .tally)) (now (a .rows)) (now (a .marks)) (now (a .locs)) (now (a .waiting)) (now (a .pool))) (a .top) (c .before .before .before .before .before .before .before .before .before .before .before .pre) in (omega (arith, x .0, c .before .wide .ensures), omega (arith, x .1 .1 .1 .0, c .before .wide .ensures))
+next-requires c κs = let a = c .before .before .before .before .before .before .before .before .before .before .args in let x = turn-top (a .c) (a .s) (storage (now (a .spans)) (now (a .order)) (now (a .tally)) (now (a .rows)) (now (a .marks)) (now (a .locs)) (now (a .waiting)) (now (a .pool))) (a .top) (c .before .before .before .before .before .before .before .before .before .before .pre) in (omega (arith, x .0, c .before .wide .ensures), omega (arith, x .1 .1 .1 .0, c .before .wide .ensures))
 
 cast-place-one : tie.Need-cast-place-one
-cast-place-one c = let a = c .before .before .before .before .before .before .before .before .before .before .before .before .before .before .before .before .before .before .before .args in let x = turn-top (a .c) (a .s) (storage (now (a .spans)) (now (a .order)) (now (a .tally)) (now (a .rows)) (now (a .marks)) (now (a .locs)) (now (a .waiting)) (now (a .pool))) (a .top) (c .before .before .before .before .before .before .before .before .before .before .before .before .before .before .before .before .before .before .before .pre) in omega (arith, x .0, x .1 .1 .0)
+cast-place-one c = let a = c .before .before .before .before .before .before .before .before .before .before .before .before .before .before .before .before .before .before .args in let x = turn-top (a .c) (a .s) (storage (now (a .spans)) (now (a .order)) (now (a .tally)) (now (a .rows)) (now (a .marks)) (now (a .locs)) (now (a .waiting)) (now (a .pool))) (a .top) (c .before .before .before .before .before .before .before .before .before .before .before .before .before .before .before .before .before .before .pre) in omega (arith, x .0, x .1 .1 .0)
 
 place-one-requires : tie.Need-place-one-requires
-place-one-requires c κs = let a = c .before .before .before .before .before .before .before .before .before .before .before .before .before .before .before .before .before .before .before .args in turn-place (a .c) (a .s) (storage (now (a .spans)) (now (a .order)) (now (a .tally)) (now (a .rows)) (now (a .marks)) (now (a .locs)) (now (a .waiting)) (now (a .pool))) (a .top) (c .before .before .before .before .before .before .before .before .before .before .before .before .before .before .before .before .before .before .before .pre)
+place-one-requires c κs = let a = c .before .before .before .before .before .before .before .before .before .before .before .before .before .before .before .before .before .before .args in turn-place (a .c) (a .s) (storage (now (a .spans)) (now (a .order)) (now (a .tally)) (now (a .rows)) (now (a .marks)) (now (a .locs)) (now (a .waiting)) (now (a .pool))) (a .top) (c .before .before .before .before .before .before .before .before .before .before .before .before .before .before .before .before .before .before .pre)
 
 advance-placed-requires : tie.Need-advance-placed-requires
-advance-placed-requires c κs = let a = c .before .before .before .before .before .before .before .before .before .before .before .before .before .before .before .before .before .before .before .before .before .before .before .before .before .before .before .before .before .before .before .before .before .before .args in let u = c .before .before .before .before .before .before .before .before .before .before .before .before .before .before .place-one in turn-advance (a .c) (a .s) (storage (now (a .spans)) (now (a .order)) (now (a .tally)) (now (a .rows)) (now (a .marks)) (now (a .locs)) (now (a .waiting)) (now (a .pool))) (a .top) (c .before .before .before .before .before .before .before .before .before .before .before .before .before .before .before .before .before .before .before .before .before .before .before .before .wide .result) (c .before .before .before .before .before .before .before .before .before .before .before .before .before .before .before .before .before .before .before .before .before .before .next .result) (c .before .before .before .before .before .before .before .before .before .before .before .before .before .before .before .before .before .before .before .before .before .before .before .before .wide .ensures) (c .before .before .before .before .before .before .before .before .before .before .before .before .before .before .before .before .before .before .before .before .before .before .next .ensures) (u .result .guide) (u .result .lead) (storage (u .last .0) (u .last .1 .0) (u .last .1 .1 .0) (u .last .1 .1 .1 .0) (u .last .1 .1 .1 .1 .0) (u .last .1 .1 .1 .1 .1 .0) (now (a .waiting)) (now (a .pool))) (u .ensures) (c .before .before .before .before .before .before .before .before .before .before .before .before .before .before .before .before .before .before .before .before .before .before .before .before .before .before .before .before .before .before .before .before .before .before .pre)
+advance-placed-requires c κs = let a = c .before .before .before .before .before .before .before .before .before .before .before .before .before .before .before .before .before .before .before .before .before .before .before .before .before .before .before .before .before .before .before .before .args in let u = c .before .before .before .before .before .before .before .before .before .before .before .before .before .place-one in turn-advance (a .c) (a .s) (storage (now (a .spans)) (now (a .order)) (now (a .tally)) (now (a .rows)) (now (a .marks)) (now (a .locs)) (now (a .waiting)) (now (a .pool))) (a .top) (c .before .before .before .before .before .before .before .before .before .before .before .before .before .before .before .before .before .before .before .before .before .before .before .wide .result) (c .before .before .before .before .before .before .before .before .before .before .before .before .before .before .before .before .before .before .before .before .before .next .result) (c .before .before .before .before .before .before .before .before .before .before .before .before .before .before .before .before .before .before .before .before .before .before .before .wide .ensures) (c .before .before .before .before .before .before .before .before .before .before .before .before .before .before .before .before .before .before .before .before .before .next .ensures) (u .result .guide) (u .result .lead) (storage (u .last .0) (u .last .1 .0) (u .last .1 .1 .0) (u .last .1 .1 .1 .0) (u .last .1 .1 .1 .1 .0) (u .last .1 .1 .1 .1 .1 .0) (now (a .waiting)) (now (a .pool))) (u .ensures) (c .before .before .before .before .before .before .before .before .before .before .before .before .before .before .before .before .before .before .before .before .before .before .before .before .before .before .before .before .before .before .before .before .pre)
 
-sub-t39 : tie.Need-sub-t39
-sub-t39 c = let a = c .before .before .before .before .before .before .before .before .before .before .before .before .before .before .before .before .before .before .before .before .before .before .before .before .before .before .before .before .before .before .before .before .before .before .before .before .before .before .args in let x = turn-top (a .c) (a .s) (storage (now (a .spans)) (now (a .order)) (now (a .tally)) (now (a .rows)) (now (a .marks)) (now (a .locs)) (now (a .waiting)) (now (a .pool))) (a .top) (c .before .before .before .before .before .before .before .before .before .before .before .before .before .before .before .before .before .before .before .before .before .before .before .before .before .before .before .before .before .before .before .before .before .before .before .before .before .before .pre) in omega (arith, x .1 .1 .1 .1)
+sub-t38 : tie.Need-sub-t38
+sub-t38 c = let a = c .before .before .before .before .before .before .before .before .before .before .before .before .before .before .before .before .before .before .before .before .before .before .before .before .before .before .before .before .before .before .before .before .before .before .before .before .before .args in let x = turn-top (a .c) (a .s) (storage (now (a .spans)) (now (a .order)) (now (a .tally)) (now (a .rows)) (now (a .marks)) (now (a .locs)) (now (a .waiting)) (now (a .pool))) (a .top) (c .before .before .before .before .before .before .before .before .before .before .before .before .before .before .before .before .before .before .before .before .before .before .before .before .before .before .before .before .before .before .before .before .before .before .before .before .before .pre) in omega (arith, x .1 .1 .1 .1)
 
 same-length : tie.Need-same-length
 same-length c = c .before .before .before .before .before .before .before .before .before .before .before .before .before .before .before .before .before .before .place-one .kept .0
@@ -48,10 +48,10 @@ same-length-6 : tie.Need-same-length-6
 same-length-6 c = c .before .before .before .before .before .before .before .before .before .before .before .before .before .before .before .before .before .before .place-one .kept .1 .1 .1 .1 .1 .0
 
 same-length-7 : tie.Need-same-length-7
-same-length-7 c = c .before .before .before .advance-placed .kept .0
+same-length-7 c = c .before .before .before .before .advance-placed .kept .0
 
 returns : tie.Need-returns
-returns c = let a = c .before .before .before .before .before .before .before .before .before .before .before .before .before .before .before .before .before .before .before .before .before .before .before .before .before .before .before .before .before .before .before .before .before .before .before .before .before .before .args in let u = c .before .before .before .before .before .before .before .before .before .before .before .before .before .before .before .before .before .before .place-one in turn-done (a .c) (a .s) (storage (now (a .spans)) (now (a .order)) (now (a .tally)) (now (a .rows)) (now (a .marks)) (now (a .locs)) (now (a .waiting)) (now (a .pool))) (a .top) (c .before .before .before .before .before .before .before .before .before .before .before .before .before .before .before .before .before .before .before .before .before .before .before .before .before .before .before .before .wide .result) (c .before .before .before .before .before .before .before .before .before .before .before .before .before .before .before .before .before .before .before .before .before .before .before .before .before .before .next .result) (c .before .before .before .before .before .before .before .before .before .before .before .before .before .before .before .before .before .before .before .before .before .before .before .before .before .before .before .before .wide .ensures) (c .before .before .before .before .before .before .before .before .before .before .before .before .before .before .before .before .before .before .before .before .before .before .before .before .before .before .next .ensures) (u .result .guide) (u .result .lead) (storage (u .last .0) (u .last .1 .0) (u .last .1 .1 .0) (u .last .1 .1 .1 .0) (u .last .1 .1 .1 .1 .0) (u .last .1 .1 .1 .1 .1 .0) (now (a .waiting)) (now (a .pool))) (u .ensures) (c .before .before .before .advance-placed .result) (c .before .before .before .advance-placed .last .0) refl (c .before .before .before .advance-placed .ensures) (c .before .before .before .advance-placed .kept .0)
+returns c = let a = c .before .before .before .before .before .before .before .before .before .before .before .before .before .before .before .before .before .before .before .before .before .before .before .before .before .before .before .before .before .before .before .before .before .before .before .before .before .args in let u = c .before .before .before .before .before .before .before .before .before .before .before .before .before .before .before .before .before .before .place-one in turn-done (a .c) (a .s) (storage (now (a .spans)) (now (a .order)) (now (a .tally)) (now (a .rows)) (now (a .marks)) (now (a .locs)) (now (a .waiting)) (now (a .pool))) (a .top) (c .before .before .before .before .before .before .before .before .before .before .before .before .before .before .before .before .before .before .before .before .before .before .before .before .before .before .before .before .wide .result) (c .before .before .before .before .before .before .before .before .before .before .before .before .before .before .before .before .before .before .before .before .before .before .before .before .before .before .next .result) (c .before .before .before .before .before .before .before .before .before .before .before .before .before .before .before .before .before .before .before .before .before .before .before .before .before .before .before .before .wide .ensures) (c .before .before .before .before .before .before .before .before .before .before .before .before .before .before .before .before .before .before .before .before .before .before .before .before .before .before .next .ensures) (u .result .guide) (u .result .lead) (storage (u .last .0) (u .last .1 .0) (u .last .1 .1 .0) (u .last .1 .1 .1 .0) (u .last .1 .1 .1 .1 .0) (u .last .1 .1 .1 .1 .1 .0) (now (a .waiting)) (now (a .pool))) (u .ensures) (c .before .before .before .before .advance-placed .result) (c .before .before .before .before .advance-placed .last .0) refl (c .before .before .before .before .advance-placed .ensures) (c .before .before .before .before .advance-placed .kept .0)
 
 pub place-next-spec : {M : Type 1} → statement M
 place-next-spec =
@@ -63,7 +63,7 @@ place-next-spec =
     cast-place-one
     place-one-requires
     advance-placed-requires
-    sub-t39
+    sub-t38
     same-length
     same-length-2
     same-length-3
