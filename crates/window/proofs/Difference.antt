@@ -66,3 +66,10 @@ module _ (a b : ℕ) (ha : a < 2 ^ 32) (hb : b < 2 ^ 32) where
   -- cast to an unsigned number where it is not negative
   pub cast-is : ltZ read (pos 0) ≡ false → natAbs read ≡ a - b
   cast-is e = ap natAbs (read-at-least (was-not e))
+
+  -- and where a is at most b + 31, at most 31
+  pub reach : ltZ read (pos 0) ≡ false → a ≤ b + 31 → (b ≤ a) × ((natAbs read ≡ a - b) × (natAbs read ≤ 31))
+  reach e h =
+      let k = was-not e in
+      let d = cast-is e in
+      (k, (d, omega arith))

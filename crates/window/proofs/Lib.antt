@@ -1,3 +1,4 @@
 -- Laws that more than one proof cites.
 pub mod Laws
 pub mod Difference
+pub mod Shift

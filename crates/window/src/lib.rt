@@ -12,8 +12,8 @@ ghost use Rattle.window.specs.Chosen.{chosen-by};
 // The 32 spans: their numbers, their lengths, and the row of the span storage that each has.
 pub struct Window {
     pub ids: [u32; 32],
-    pub lens: [u32; 32],
-    pub rows: [u32; 32],
+    pub lens: [u16; 32],
+    pub rows: [u8; 32],
 }
 
 // Where a value goes: into a span of the window, or into the last of some newly opened ones.
@@ -50,14 +50,20 @@ pub fn parallelism_of(p: u32, a: u32, b: u32, q: u32) -> u32
     b + a - q
 }
 
+fn wide(x: u16) -> u32
+    ensures { λ r. ⌜ r ≡ x ⌝ }
+{
+    x as u32
+}
+
 // The first span from `from` on that is shorter than p, else one new span.
-pub fn find_span(lens: [u32; 32], from: usize, p: u32) -> MatchedSpan
+pub fn find_span(lens: [u16; 32], from: usize, p: u32) -> MatchedSpan
     requires { ⌜ from ≤ 32 ⌝ }
     ensures { λ r. ⌜ r ≡ matched lens from p ⌝ }
 {
     let mut r = MatchedSpan::New(1);
     for i in from..32 {
-        if lens[i] < p {
+        if wide(lens[i]) < p {
             r = MatchedSpan::Existing(i);
             break;
         }
@@ -66,7 +72,7 @@ pub fn find_span(lens: [u32; 32], from: usize, p: u32) -> MatchedSpan
 }
 
 // The span for a value in the window whose span 0 has the number `first`, placed after a location where there is one.
-pub fn choose(first: u32, lens: [u32; 32], p: u32, has: bool, span: u32, pos: u32) -> MatchedSpan
+pub fn choose(first: u32, lens: [u16; 32], p: u32, has: bool, span: u32, pos: u32) -> MatchedSpan
     requires { ⌜ (has ≡ true → span ≤ first + 31) ⌝ }
     ensures { λ r. ⌜ r ≡ chosen-by first lens p has span pos ⌝ }
 {
@@ -79,7 +85,7 @@ pub fn choose(first: u32, lens: [u32; 32], p: u32, has: bool, span: u32, pos: u3
         if at == 31 {
             return MatchedSpan::New(2);
         }
-        if lens[at + 1] < pos {
+        if wide(lens[at + 1]) < pos {
             return find_span(lens, at + 2, p);
         }
         return find_span(lens, at + 1, p);
@@ -87,14 +93,37 @@ pub fn choose(first: u32, lens: [u32; 32], p: u32, has: bool, span: u32, pos: u3
     MatchedSpan::Existing(1)
 }
 
-// The array with its first element gone and x at the end.
-pub fn shift(a: [u32; 32], x: u32) -> [u32; 32]
+// The array with its first element gone and x at the end, at three widths.
+pub fn shift32(a: [u32; 32], x: u32) -> [u32; 32]
     ensures { λ r. ⌜ r ≡ drop 1 a ++ (x ∷ []) ⌝ }
 {
-    let mut r = [x; 32];
+    let mut r = a;
     for i in 0..31 {
         r[i] = a[i + 1];
     }
+    r[31] = x;
+    r
+}
+
+pub fn shift16(a: [u16; 32], x: u16) -> [u16; 32]
+    ensures { λ r. ⌜ r ≡ drop 1 a ++ (x ∷ []) ⌝ }
+{
+    let mut r = a;
+    for i in 0..31 {
+        r[i] = a[i + 1];
+    }
+    r[31] = x;
+    r
+}
+
+pub fn shift8(a: [u8; 32], x: u8) -> [u8; 32]
+    ensures { λ r. ⌜ r ≡ drop 1 a ++ (x ∷ []) ⌝ }
+{
+    let mut r = a;
+    for i in 0..31 {
+        r[i] = a[i + 1];
+    }
+    r[31] = x;
     r
 }
 
@@ -109,8 +138,8 @@ pub fn rotate(w: Window) -> Window
     let last = ids[31];
     let first = rows[0];
     Window {
-        ids: shift(ids, last + 1),
-        lens: shift(lens, 0),
-        rows: shift(rows, first),
+        ids: shift32(ids, last + 1),
+        lens: shift16(lens, 0),
+        rows: shift8(rows, first),
     }
 }

@@ -1,8 +1,7 @@
 -- `window::find_span` meets its contract. The invariant: the search from `from` is the search from i, and nothing is found yet. Assumes nothing.
 use mathlib.Core.Path.{_≡_, sym, _∙_}
-use Prim.Native.Nat.{_≤_, _<_, _-_}
+use Prim.Native.Nat.{_≤_, _-_}
 use native.Mathlib.Omega.{arith}
-use lib.ListN.{length}
 use borrow.Author.Needs.{needs}
 use Rattle.window.specs.declared.MatchedSpan.the-variants.{New}
 use Rattle.window.specs.Search.{matched}
@@ -19,11 +18,14 @@ abbrev μ-loop : tie.MeasureT-loop
 loop-holds : tie.Need-loop-holds Inv-loop μ-loop
 loop-holds c = search needs
 
-mul-if1 : tie.Need-mul-if1 Inv-loop μ-loop
-mul-if1 c = search needs
+mul-wide : tie.Need-mul-wide Inv-loop μ-loop
+mul-wide c = search needs
 
-array-read-if1 : tie.Need-array-read-if1 Inv-loop μ-loop
-array-read-if1 c = search needs
+array-read-wide : tie.Need-array-read-wide Inv-loop μ-loop
+array-read-wide c = search needs
+
+wide-requires : tie.Need-wide-requires Inv-loop μ-loop
+wide-requires c κs = search needs
 
 add-i : tie.Need-add-i Inv-loop μ-loop
 add-i c = search needs
@@ -33,11 +35,8 @@ loop-less c = search needs
 
 loop-again : tie.Need-loop-again Inv-loop μ-loop
 loop-again c =
-    let i = c .before .before .loop .i in
-    let lens = c .before .before .before .args .t1 in
-    let p = c .before .before .before .args .p in
-    let h : i < length lens = omega arith in
-    (omega arith, (c .before .before .loop .inv .1 .0, c .before .before .loop .inv .1 .1 ∙ passed lens i p h (c .if1 .left)))
+    let at = c .before .before .before in
+    (omega arith, (at .loop .inv .1 .0, at .loop .inv .1 .1 ∙ passed (at .before .args .t1) (at .loop .i) (at .before .args .p) (omega arith) (omega arith)))
 
 returns : tie.Need-returns Inv-loop μ-loop
 returns c =
@@ -46,8 +45,8 @@ returns c =
 
 returns-2 : tie.Need-returns-2 Inv-loop μ-loop
 returns-2 c =
-    let at = c .before .before in
-    sym (at .loop .inv .1 .1 ∙ stops (at .before .args .t1) (at .loop .i) (at .before .args .p) (omega arith) (c .if1 .taken))
+    let at = c .before .before .before in
+    sym (at .loop .inv .1 .1 ∙ stops (at .before .args .t1) (at .loop .i) (at .before .args .p) (omega arith) (omega arith))
 
 pub find-span-spec : {M : Type 1} → statement M
 find-span-spec =
@@ -56,8 +55,9 @@ find-span-spec =
     Inv-loop
     μ-loop
     loop-holds
-    mul-if1
-    array-read-if1
+    mul-wide
+    array-read-wide
+    wide-requires
     add-i
     loop-less
     loop-again

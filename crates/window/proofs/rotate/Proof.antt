@@ -10,17 +10,17 @@ array-read-last c = search needs
 array-read-first : tie.Need-array-read-first
 array-read-first c = search needs
 
-add-shift : tie.Need-add-shift
-add-shift c = search needs
+add-shift32 : tie.Need-add-shift32
+add-shift32 c = search needs
 
-shift-requires : tie.Need-shift-requires
-shift-requires c κs = search needs
+shift32-requires : tie.Need-shift32-requires
+shift32-requires c κs = search needs
 
-shift-requires-2 : tie.Need-shift-requires-2
-shift-requires-2 c κs = search needs
+shift16-requires : tie.Need-shift16-requires
+shift16-requires c κs = search needs
 
-shift-requires-3 : tie.Need-shift-requires-3
-shift-requires-3 c κs = search needs
+shift8-requires : tie.Need-shift8-requires
+shift8-requires c κs = search needs
 
 returns : tie.Need-returns
 unfolding rotated
@@ -32,8 +32,8 @@ rotate-spec =
     (tie.spec
     array-read-last
     array-read-first
-    add-shift
-    shift-requires
-    shift-requires-2
-    shift-requires-3
+    add-shift32
+    shift32-requires
+    shift16-requires
+    shift8-requires
     returns)
