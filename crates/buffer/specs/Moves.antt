@@ -1,5 +1,5 @@
--- One entry more, and the release of span 0: what they do to window and storage (the contracts of `put_in` and `release` cite it), and
--- that under `view` they are `put` and `release` of `rules`. Assumes nothing.
+-- One entry more, and the release of span 0: what they do to window and storage, and that under `view` they are `put` and `release` of
+-- `rules`. Assumes nothing.
 use mathlib.Core.Path.{_≡_, sym, ap, _∙_}
 use mathlib.Core.List.{List, [], _∷_, _++_}
 use Prim.Native.Nat.{ℕ, suc, _+_, _*_, _≤_, _<_}

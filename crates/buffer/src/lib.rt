@@ -1,11 +1,10 @@
-// The guide over its storage: spans as rows of one slice, the order as another. `put_in` stores an entry, `release` appends span 0's
-// entries to the order and rotates the window.
+// The guide over its storage: spans as rows of one slice, the order as another. `release` appends span 0's entries to the order and
+// rotates the window.
 ghost use mathlib.Core.Path.{_≡_};
 ghost use Prim.Native.Nat.{ℕ, _+_, _*_, _<_, _≤_};
-ghost use lib.ListN.{length, getD, set};
+ghost use lib.ListN.{length, getD};
 ghost use Rattle.buffer.specs.Fit.{Fit};
-ghost use Rattle.buffer.specs.Moves.{longer, released-guide, released-order, put-spans};
-use entries::Entry;
+ghost use Rattle.buffer.specs.Moves.{released-guide, released-order};
 use window::Window;
 
 // The window, P, V and the count of entries in the order.
@@ -14,31 +13,6 @@ pub struct Guide {
     pub p: u32,
     pub v: u32,
     pub written: u32,
-}
-
-fn wide(x: u32) -> usize
-    ensures { λ r. ⌜ r ≡ x ⌝ }
-{
-    x as usize
-}
-
-// Stores an entry past the last of span i.
-pub fn put_in(g: Guide, spans: &mut [u32], i: usize, e: Entry) -> Guide
-    requires { ⌜ Fit g (now spans) i ⌝ }
-    requires { ⌜ getD (g .window .lens) i 0 ≤ g .p ⌝ }
-    ensures { λ r. ⌜ r ≡ longer g i ⌝ }
-    ensures { λ _. ⌜ now (spans .exit) ≡ put-spans g (now (spans .entry)) i e ⌝ }
-{
-    let w = g.window;
-    let row = wide(w.rows[i]);
-    let pos = wide(w.lens[i]);
-    let p = wide(g.p);
-    entries::store(spans, row * (p + 1) + pos, e);
-    let mut v = w;
-    v.lens[i] = w.lens[i] + 1;
-    let mut h = g;
-    h.window = v;
-    h
 }
 
 // Releases span 0: its entries are appended in the old window, each with its parallelism, and then the window is rotated.
@@ -50,11 +24,11 @@ pub fn release(g: Guide, spans: &[u32], order: &mut [u32]) -> Guide
     ensures { λ _. ⌜ now (order .exit) ≡ released-order g (now (spans .entry)) (now (order .entry)) ⌝ }
 {
     let w = g.window;
-    let row = wide(w.rows[0]);
-    let a = w.lens[0];
-    let b = w.lens[1];
-    let p = wide(g.p);
-    let n = wide(g.written);
+    let row = w.rows[0] as usize;
+    let a = w.lens[0] as u32;
+    let b = w.lens[1] as u32;
+    let p = g.p as usize;
+    let n = g.written as usize;
     entries::append_row(spans, row * (p + 1), g.p, a, b, order, n);
     let v = window::rotate(w);
     let mut h = g;
