@@ -51,7 +51,7 @@ fn not_origin(span: u32, pos: u32) -> bool
 }
 
 // A location that is not (0,0), at or past span 0, and of no entry that is held.
-fn stray(first: u32, lens: [u32; 32], span: u32, pos: u32) -> bool
+fn stray(first: u32, lens: [u16; 32], span: u32, pos: u32) -> bool
     ensures { λ r. ⌜ r ≡ stray-by first lens span pos ⌝ }
 {
     if span < first {
@@ -60,7 +60,7 @@ fn stray(first: u32, lens: [u32; 32], span: u32, pos: u32) -> bool
     let d = span - first;
     if d < 32 {
         let i = d as usize;
-        if pos < lens[i] {
+        if pos < lens[i] as u32 {
             return false;
         }
         return not_origin(span, pos);
@@ -72,7 +72,7 @@ fn stray(first: u32, lens: [u32; 32], span: u32, pos: u32) -> bool
 pub fn check_push(
     last: u32,
     first: u32,
-    lens: [u32; 32],
+    lens: [u16; 32],
     v: u32,
     pushes: u32,
     has: bool,

@@ -18,6 +18,9 @@ mul-if3 c = search needs
 array-read-if3 : tie.Need-array-read-if3
 array-read-if3 c = search needs
 
+cast-if3 : tie.Need-cast-if3
+cast-if3 c = search needs
+
 returns-2 : tie.Need-returns-2
 returns-2 c = let a = c .before .before .before .args in
     stray-in (a .first) (a .t2) (a .span) (a .pos) (c .before .before .if1 .left) (c .before .if2 .taken) (c .if3 .taken)
@@ -44,6 +47,7 @@ stray-spec =
     cast-i
     mul-if3
     array-read-if3
+    cast-if3
     returns-2
     not-origin-requires
     returns-3
