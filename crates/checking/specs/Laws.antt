@@ -1,7 +1,7 @@
 -- The laws by which the checks' proofs go, one for each way out, and that the lists of checks are the model's. Assumes nothing.
 use mathlib.Core.Path.{_≡_, refl, sym, ap, _∙_}
 use mathlib.Core.List.{List, [], _∷_, _++_, List·Memᴰ·head, List·Memᴰ·tail, Memᴰ·append-right}
-use mathlib.Core.Bool.{Bool, true, false, _||_}
+use mathlib.Core.Bool.{Bool, true, false, cond, _||_}
 use mathlib.Core.Logic.{_⊎_, inl, inr, _≢_}
 use Prim.Native.Nat.{ℕ, _+_, _*_, _-_, _^_, _≤_, _<_}
 use native.Mathlib.Omega.{arith}
@@ -13,11 +13,12 @@ use Rattle.rules.specs.Checks.{Check, verdict, any, repeats, taken, pooled, che
 use Rattle.rules.specs.Calls.{set, add, flush, final, checks, answer}
 use Rattle.laws.specs.ModelBase.{In, bool-cases}
 use Rattle.laws.specs.Accepted.{verdict-head, any-false, or-false}
-use Rattle.lists.specs.Part.{Below}
+use Rattle.lists.specs.Part.{Below, below-at, at-below}
+use Rattle.lists.specs.Arguments.{any-below, below-any}
 use Rattle.lists.specs.Scan.{any-append}
 use Rattle.lists.specs.Flags.{Flags, Flagged, flag-at}
 use Rattle.lists.specs.FlagLaws.{flag-is, flags-any, flagged-of}
-use Rattle.checking.specs.Parts.{set-checks, list-checks, state-checks, flush-checks, final-checks}
+use Rattle.checking.specs.Parts.{set-checks, place-number, list-checks, state-checks, flush-checks, final-checks}
 use Rattle.checking.specs.Contracts.{ChecksSet, MayCheck, ChecksState, MayAdd, ChecksAdd}
 
 -- set
@@ -46,23 +47,31 @@ module _ (w : List ℕ) (v x : ℕ) where
         set-free h = record { is = λ t f. rw (e, lt-leb 4611686018427387904 x a, lt-leb v x b, sym (flag-is v t w f x b) ∙ h) }
 
 -- the lists of add
-or-right : (a : Bool) → (a || true) ≡ true
-or-right true = refl
-or-right false = refl
-
 -- the verdict by the four tests
 lists-verdict : (closed : Bool) (N : ℕ) (ins outs : List ℕ) (b c d : Bool) → (ltb 65535 (length ins) || ltb 65535 (length outs)) ≡ b → any (λ y. leb (2 ^ 62) y) (ins ++ outs) ≡ c → any (λ y. leb N y) (ins ++ outs) ≡ d
     → verdict (record { fails = closed; number = 7 } ∷ (record { fails = b; number = 3 } ∷ (record { fails = c; number = 4 } ∷ (record { fails = d; number = 5 } ∷ [])))) ≡ verdict (list-checks closed N ins outs)
 unfolding list-checks check-places
 lists-verdict closed N ins outs b c d x y z = rw (x, y, z)
 
+-- a place with bit 62 or 63, or none: the number of check-places
+pub far-ins : (ins outs : List ℕ) → any (λ y. leb 4611686018427387904 y) ins ≡ true → 4 ≡ place-number ins outs
+unfolding place-number
+far-ins ins outs h = rw (any-append (λ y. leb (2 ^ 62) y) ins outs, h)
+
+module _ (ins outs : List ℕ) (c : any (λ y. leb 4611686018427387904 y) ins ≡ false) where
+  pub far-outs : any (λ y. leb 4611686018427387904 y) outs ≡ true → 4 ≡ place-number ins outs
+  unfolding place-number
+  far-outs h = rw (any-append (λ y. leb (2 ^ 62) y) ins outs, c, h)
+
+  pub far-none : any (λ y. leb 4611686018427387904 y) outs ≡ false → 5 ≡ place-number ins outs
+  unfolding place-number
+  far-none h = rw (any-append (λ y. leb (2 ^ 62) y) ins outs, c, h)
+
+-- places below N are below a greater bound
+near : (N M : ℕ) (xs : List ℕ) → N ≤ M → any (λ y. leb N y) xs ≡ false → any (λ y. leb M y) xs ≡ false
+near N M xs h e = below-any M xs (at-below M xs (λ j k. omega (arith, below-at N xs (any-below N xs e) j k)))
+
 module _ (N : ℕ) (ins outs : List ℕ) where
-  abbrev far : Bool
-  far = any (λ y. leb (2 ^ 62) y) (ins ++ outs)
-
-  abbrev out : Bool
-  out = any (λ y. leb N y) (ins ++ outs)
-
   pub lists-closed : (closed : Bool) → closed ≡ true → 7 ≡ verdict (list-checks closed N ins outs)
   unfolding list-checks verdict
   lists-closed closed e = rw e refl
@@ -81,31 +90,28 @@ module _ (N : ℕ) (ins outs : List ℕ) where
         few : (ltb 65535 (length ins) || ltb 65535 (length outs)) ≡ false
         few = rw (le-ltb 65535 (length ins) a, le-ltb 65535 (length outs) b)
 
-        pub witness-ins : any (λ y. leb 4611686018427387904 y) ins ≡ true → 4 ≡ verdict (list-checks closed N ins outs)
-        unfolding verdict
-        witness-ins h = rw e (lists-verdict false N ins outs false true out few (any-append (λ y. leb (2 ^ 62) y) ins outs ∙ rw h) refl)
+        outside : any (λ y. leb N y) (ins ++ outs) ≡ true → place-number ins outs ≡ verdict (list-checks closed N ins outs)
+        unfolding verdict place-number
+        outside h = rw e (two (any (λ y. leb (2 ^ 62) y) (ins ++ outs)) ∙ lists-verdict false N ins outs false _ true few refl h)
+          where
+            two : (f : Bool) → cond {A = ℕ} f 4 5 ≡ verdict (record { fails = f; number = 4 } ∷ (record { fails = true; number = 5 } ∷ []))
+            two true = refl
+            two false = refl
 
-        module _ (c : any (λ y. leb 4611686018427387904 y) ins ≡ false) where
-          pub witness-outs : any (λ y. leb 4611686018427387904 y) outs ≡ true → 4 ≡ verdict (list-checks closed N ins outs)
+        pub outside-ins : any (λ y. leb N y) ins ≡ true → (n : ℕ) → n ≡ place-number ins outs → n ≡ verdict (list-checks closed N ins outs)
+        outside-ins h n q = q ∙ outside (any-append (λ y. leb N y) ins outs ∙ rw h)
+
+        module _ (f : any (λ y. leb N y) ins ≡ false) where
+          pub outside-outs : any (λ y. leb N y) outs ≡ true → (n : ℕ) → n ≡ place-number ins outs → n ≡ verdict (list-checks closed N ins outs)
+          outside-outs h n q = q ∙ outside (any-append (λ y. leb N y) ins outs ∙ rw (f, h))
+
+          pub lists-good : any (λ y. leb N y) outs ≡ false → N ≤ 4611686018427387904 → 0 ≡ verdict (list-checks closed N ins outs)
           unfolding verdict
-          witness-outs h = rw e (lists-verdict false N ins outs false true out few (any-append (λ y. leb (2 ^ 62) y) ins outs ∙ rw (c, h)) refl)
-
-          module _ (d : any (λ y. leb 4611686018427387904 y) outs ≡ false) where
-            near : far ≡ false
-            near = any-append (λ y. leb (2 ^ 62) y) ins outs ∙ rw (c, d)
-
-            pub outside-ins : any (λ y. leb N y) ins ≡ true → 5 ≡ verdict (list-checks closed N ins outs)
-            unfolding verdict
-            outside-ins h = rw e (lists-verdict false N ins outs false false true few near (any-append (λ y. leb N y) ins outs ∙ rw h))
-
-            module _ (f : any (λ y. leb N y) ins ≡ false) where
-              pub outside-outs : any (λ y. leb N y) outs ≡ true → 5 ≡ verdict (list-checks closed N ins outs)
-              unfolding verdict
-              outside-outs h = rw e (lists-verdict false N ins outs false false true few near (any-append (λ y. leb N y) ins outs ∙ rw (f, h)))
-
-              pub lists-good : any (λ y. leb N y) outs ≡ false → 0 ≡ verdict (list-checks closed N ins outs)
-              unfolding verdict
-              lists-good h = rw e (lists-verdict false N ins outs false false false few near (any-append (λ y. leb N y) ins outs ∙ rw (f, h)))
+          lists-good h m =
+              rw e
+              (lists-verdict false N ins outs false false false few
+              (any-append (λ y. leb (2 ^ 62) y) ins outs ∙ rw (near N (2 ^ 62) ins m f, near N (2 ^ 62) outs m h))
+              (any-append (λ y. leb N y) ins outs ∙ rw (f, h)))
 
 -- the later checks of add: the verdict by the four tests
 state-verdict : (N : ℕ) (t : ℕ → Bool) (outs : List ℕ) (added used inputs W : ℕ) (a b c d : Bool) → repeats outs ≡ a → any t outs ≡ b → leb N added ≡ c → ltb W (used + inputs + length outs) ≡ d

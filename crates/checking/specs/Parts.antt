@@ -1,14 +1,18 @@
 -- The lists of checks of `rules`, over what the code holds: whether closed, the count of places, the arguments, a test for taken places,
 -- and counts. That they are those of a model is said in Laws. Definitions only. Assumes nothing.
 use mathlib.Core.List.{List, [], _∷_, _++_}
-use mathlib.Core.Bool.{Bool, _||_}
-use Prim.Native.Nat.{ℕ, _+_}
+use mathlib.Core.Bool.{Bool, cond, _||_}
+use Prim.Native.Nat.{ℕ, _+_, _^_}
 use lib.ListN.{length}
 use lib.Dec.{leb, ltb}
 use Rattle.rules.specs.Checks.{Check, any, repeats, check-places}
 
 unfoldable pub set-checks : Bool → ℕ → ℕ → (ℕ → Bool) → List Check
 set-checks closed N x t = record { fails = closed; number = 7 } ∷ (check-places N (x ∷ []) ++ (record { fails = t x; number = 8 } ∷ []))
+
+-- the number of check-places where a place is N or more
+unfoldable pub place-number : List ℕ → List ℕ → ℕ
+place-number ins outs = cond {A = ℕ} (any (λ x. leb (2 ^ 62) x) (ins ++ outs)) 4 5
 
 unfoldable pub list-checks : Bool → ℕ → List ℕ → List ℕ → List Check
 list-checks closed N ins outs =

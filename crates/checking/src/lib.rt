@@ -4,7 +4,7 @@ ghost use mathlib.Core.Path.{_≡_};
 ghost use Prim.Native.Nat.{ℕ, _+_, _*_, _≤_, _<_};
 ghost use lib.ListN.{length};
 ghost use Rattle.rules.specs.Checks.{verdict};
-ghost use Rattle.checking.specs.Parts.{set-checks, list-checks, state-checks, flush-checks, final-checks};
+ghost use Rattle.checking.specs.Parts.{set-checks, place-number, list-checks, state-checks, flush-checks, final-checks};
 ghost use Rattle.checking.specs.Contracts.{ChecksSet, MayCheck, ChecksState, MayAdd, ChecksAdd};
 
 // set: 7, 4, 5, 8.
@@ -27,8 +27,22 @@ pub fn check_set(waiting: &[u64], closed: bool, v: usize, x: u64) -> u64
     0
 }
 
-// The first checks of add, which look at the lists alone: 7, 3, 4, 5.
+// The number of lists of which one has a place of v or more: 4 where a place has bit 62 or 63, else 5.
+fn place_number(ins: &[u64], outs: &[u64]) -> u64
+    ensures { λ r. ⌜ r ≡ place-number (now (ins .entry)) (now (outs .entry)) ⌝ }
+{
+    if lists::any_at_least(ins, 4611686018427387904) {
+        return 4;
+    }
+    if lists::any_at_least(outs, 4611686018427387904) {
+        return 4;
+    }
+    5
+}
+
+// The first checks of add, which look at the lists alone: 7, 3, 4, 5. Lists of places below v, which is small, pass 4 and 5.
 fn check_lists(ins: &[u64], outs: &[u64], closed: bool, v: usize) -> u64
+    requires { ⌜ v ≤ 4611686018427387904 ⌝ }
     ensures { λ r. ⌜ r ≡ verdict (list-checks closed v (now (ins .entry)) (now (outs .entry))) ⌝ }
 {
     if closed {
@@ -40,17 +54,11 @@ fn check_lists(ins: &[u64], outs: &[u64], closed: bool, v: usize) -> u64
     if 65535 < outs.len() {
         return 3;
     }
-    if lists::any_at_least(ins, 4611686018427387904) {
-        return 4;
-    }
-    if lists::any_at_least(outs, 4611686018427387904) {
-        return 4;
-    }
     if lists::any_at_least(ins, v as u64) {
-        return 5;
+        return place_number(ins, outs);
     }
     if lists::any_at_least(outs, v as u64) {
-        return 5;
+        return place_number(ins, outs);
     }
     0
 }

@@ -222,6 +222,12 @@ repeats-is w v xs n w′ r = go (bool-cases (ltb n (length xs)))
     go (inl e) = e ∙ sym (r .again (ltb-true n (length xs) e))
     go (inr e) = e ∙ sym (r .single) ∙ ap repeats (take-all n xs (ltb-false n (length xs) e))
 
+pub repeats-few : (xs : List ℕ) → length xs < 2 → repeats xs ≡ false
+unfolding repeats member
+repeats-few [] h = refl
+repeats-few (x ∷ []) h = refl
+repeats-few (x ∷ (y ∷ xs)) h = absurd (omega arith)
+
 -- ---- taken places
 
 pub flags-any : (N : ℕ) (t : ℕ → Bool) (w : List ℕ) → Flags N t w → (xs : List ℕ) → Below N xs → any (flag-at w N) xs ≡ any t xs

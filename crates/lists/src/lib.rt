@@ -75,11 +75,14 @@ fn lower_flags(outs: &[u64], w: &mut [u64], v: usize, n: usize)
     }
 }
 
-// Whether a place stands twice among outs. The flags are raised on the way and lowered again, so that storage is as it was.
+// Whether a place stands twice among outs. Of two or more the flags are raised on the way and lowered again, so that storage is as it was.
 pub fn repeats(outs: &[u64], w: &mut [u64], v: usize) -> bool
     requires { ⌜ Flagged (now w) v (now outs) ⌝ }
     ensures { λ r. ⌜ Repeats (now (w .entry)) (now (outs .entry)) r (now (w .exit)) ⌝ }
 {
+    if outs.len() < 2 {
+        return false;
+    }
     let n = raise_flags(outs, w, v);
     lower_flags(outs, w, v, n);
     n < outs.len()
