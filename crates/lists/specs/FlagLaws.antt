@@ -15,6 +15,7 @@ use borrow.Author.Tests.{eq-eqb, ne-eqb, ltb-true, ltb-false}
 use Rattle.rules.specs.Model.{Reg, Model, member, with-add, with-set, initial}
 use Rattle.rules.specs.Checks.{any, repeats, taken, written-by}
 use Rattle.laws.specs.ModelBase.{bool-cases}
+use Rattle.laws.specs.Accepted.{or-false as or-split}
 use Rattle.lists.specs.Part.{Below, below-at, same-drop}
 use Rattle.lists.specs.Flags.{flag-at, Flags, claimed, Flagged, Raised, Raises}
 
@@ -42,7 +43,7 @@ unfolding member
 member-snoc x y a = member-append x a (y ∷ []) ∙ ap (λ (c : Bool). member x a || c) (or-false (eqb x y))
 
 -- one more at the end: a list repeats where it did before, or where it has that one already
-repeats-snoc : (a : List ℕ) (x : ℕ) → repeats (a ++ (x ∷ [])) ≡ (repeats a || member x a)
+pub repeats-snoc : (a : List ℕ) (x : ℕ) → repeats (a ++ (x ∷ [])) ≡ (repeats a || member x a)
 unfolding repeats member
 repeats-snoc [] x = refl
 repeats-snoc (y ∷ a) x =
@@ -64,12 +65,24 @@ repeats-more (y ∷ a) b e = go (bool-cases (member y a)) (repeats-more a b)
     go (inl m) r = rw (member-append y a b, m)
     go (inr m) r = rw (r (rw m at e), or-true)
 
-take-next : (xs : List ℕ) (i : ℕ) → i < length xs → take (i + 1) xs ≡ take i xs ++ (getD xs i 0 ∷ [])
+pub take-next : (xs : List ℕ) (i : ℕ) → i < length xs → take (i + 1) xs ≡ take i xs ++ (getD xs i 0 ∷ [])
 take-next xs i h = rw (add-one, take-suc xs i 0)
 
-or-split : (a b : Bool) → (a || b) ≡ false → (a ≡ false) × (b ≡ false)
-or-split false b e = (refl, e)
-or-split true b e = absurd (let z : _≡_ {A = ℕ} 1 0 = ap (λ (c : Bool). cond {A = ℕ} c 1 0) e in omega arith)
+-- one that has come before repeats
+pub repeats-met : (xs : List ℕ) (i : ℕ) → i < length xs → member (getD xs i 0) (take i xs) ≡ true → repeats xs ≡ true
+repeats-met xs i h m =
+    let a : repeats (take (i + 1) xs) ≡ true = ap repeats (take-next xs i h) ∙ repeats-snoc (take i xs) (getD xs i 0) ∙ rw (m, or-true) in
+    let b : repeats (take (i + 1) xs ++ drop (i + 1) xs) ≡ true = repeats-more (take (i + 1) xs) (drop (i + 1) xs) a in
+    subst (λ (l : List ℕ). repeats l ≡ true) (take-append-drop (i + 1) xs) b
+
+-- the last of the first i
+module _ (xs : List ℕ) (i : ℕ) (some : 0 < i) (most : i ≤ length xs) where
+  pub take-last : take i xs ≡ take (i - 1) xs ++ (getD xs (i - 1) 0 ∷ [])
+  take-last = let e : i ≡ i - 1 + 1 = omega arith in ap (λ (n : ℕ). take n xs) e ∙ take-next xs (i - 1) (omega arith)
+
+  pub repeats-last : repeats (take i xs) ≡ false → (repeats (take (i - 1) xs) ≡ false) × (member (getD xs (i - 1) 0) (take (i - 1) xs) ≡ false)
+  repeats-last e =
+      or-split (repeats (take (i - 1) xs)) (member (getD xs (i - 1) 0) (take (i - 1) xs)) (sym (ap repeats take-last ∙ repeats-snoc (take (i - 1) xs) (getD xs (i - 1) 0)) ∙ e)
 
 -- ---- raised flags
 
@@ -141,14 +154,8 @@ module _ (w : List ℕ) (v : ℕ) (xs : List ℕ) (f : Flagged w v xs) (i : ℕ)
   pub raise-in : i < length xs → 3 * v + getD xs i 0 < length w′
   raise-in h = omega (arith, below-at v xs (f .below) i h, f .long, g .raised .same-length)
 
-  met : i < length xs → member (getD xs i 0) (take i xs) ≡ true → repeats xs ≡ true
-  met h m =
-      let a : repeats (take (i + 1) xs) ≡ true = ap repeats (take-next xs i h) ∙ repeats-snoc (take i xs) (getD xs i 0) ∙ rw (m, or-true) in
-      let b : repeats (take (i + 1) xs ++ drop (i + 1) xs) ≡ true = repeats-more (take (i + 1) xs) (drop (i + 1) xs) a in
-      subst (λ (l : List ℕ). repeats l ≡ true) (take-append-drop (i + 1) xs) b
-
   pub raise-met : i < length xs → 1 < getD w′ (3 * v + getD xs i 0) 0 → Raises w v xs i w′
-  raise-met h k = record { most = g .most; single = g .single; again = λ n. met h (go (bool-cases (member (getD xs i 0) (take i xs)))); raised = g .raised }
+  raise-met h k = record { most = g .most; single = g .single; again = λ n. repeats-met xs i h (go (bool-cases (member (getD xs i 0) (take i xs)))); raised = g .raised }
     where
       low : getD xs i 0 < v
       low = below-at v xs (f .below) i h
@@ -192,10 +199,10 @@ module _ (w : List ℕ) (v : ℕ) (xs : List ℕ) (f : Flagged w v xs) (i : ℕ)
   low = below-at v xs (f .below) (i - 1) (omega (arith, g .most))
 
   split : take i xs ≡ take (i - 1) xs ++ (getD xs (i - 1) 0 ∷ [])
-  split = let e : i ≡ i - 1 + 1 = omega arith in ap (λ (n : ℕ). take n xs) e ∙ take-next xs (i - 1) (omega (arith, g .most))
+  split = take-last xs i some (g .most)
 
   both : (repeats (take (i - 1) xs) ≡ false) × (member (getD xs (i - 1) 0) (take (i - 1) xs) ≡ false)
-  both = or-split (repeats (take (i - 1) xs)) (member (getD xs (i - 1) 0) (take (i - 1) xs)) (sym (ap repeats split ∙ repeats-snoc (take (i - 1) xs) (getD xs (i - 1) 0)) ∙ g .single)
+  both = repeats-last xs i some (g .most) (g .single)
 
   pub lower-in : (i - 1 < length xs) × (3 * v + getD xs (i - 1) 0 < length w′) × (2 ≤ getD w′ (3 * v + getD xs (i - 1) 0) 0)
   lower-in =

@@ -2,12 +2,12 @@
 -- repeats are looked for, 2 more for a place already met. Definitions; the laws are in FlagLaws. Assumes nothing.
 use mathlib.Core.Path.{_≡_}
 use mathlib.Core.List.{List, [], _∷_}
-use mathlib.Core.Bool.{Bool, true, false, cond}
+use mathlib.Core.Bool.{Bool, true, false, cond, not, _||_}
 use Prim.Native.Nat.{ℕ, _+_, _*_, _≤_, _<_}
 use lib.ListN.{length, getD, set, take}
 use lib.Dec.{eqb}
 use Rattle.rules.specs.Model.{member}
-use Rattle.rules.specs.Checks.{repeats}
+use Rattle.rules.specs.Checks.{any, repeats}
 use Rattle.lists.specs.Part.{Below}
 
 -- the flag of place x says that it is taken
@@ -57,3 +57,26 @@ pub record Lowers (w : List ℕ) (v : ℕ) (xs : List ℕ) (n : ℕ) (w′ : Lis
 pub record Repeats (w xs : List ℕ) (r : Bool) (w′ : List ℕ) : Type 0 where
   pub answer : r ≡ repeats xs
   pub same : w′ ≡ w
+
+-- the first i of xs do not repeat, were not taken and are flagged
+pub record Claiming (w : List ℕ) (v : ℕ) (xs : List ℕ) (i : ℕ) (w′ : List ℕ) : Type 0 where
+  pub most : i ≤ length xs
+  pub once : repeats (take i xs) ≡ false
+  pub free : any (flag-at w v) (take i xs) ≡ false
+  pub is : w′ ≡ claimed w v (take i xs)
+
+-- storage is what flagging the first n of xs made of some storage before
+pub record Unclaiming (w : List ℕ) (v : ℕ) (xs : List ℕ) (n : ℕ) : Type 0 where
+  pub before : List ℕ
+  pub flagged : Flagged before v xs
+  pub claiming : Claiming before v xs n w
+
+-- that storage is back
+pub record Unclaims (w : List ℕ) (v : ℕ) (xs : List ℕ) (n : ℕ) (w′ : List ℕ) : Type 0 where
+  pub back : (u : List ℕ) → Flagged u v xs → Claiming u v xs n w → w′ ≡ u
+
+-- `claim_new`: xs repeats nothing and nothing of it is taken, and its places are flagged; or storage is as it was
+pub record Claims (w : List ℕ) (v : ℕ) (xs : List ℕ) (r : Bool) (w′ : List ℕ) : Type 0 where
+  pub answer : r ≡ not (repeats xs || any (flag-at w v) xs)
+  pub claims : r ≡ true → w′ ≡ claimed w v xs
+  pub same : r ≡ false → w′ ≡ w

@@ -6,3 +6,4 @@ pub mod FlagLaws
 pub mod Lists
 pub mod ListLaws
 pub mod Arguments
+pub mod ClaimLaws

@@ -1,11 +1,11 @@
 -- Laws for the loops over a call's list, each by what remains to be done. Assumes nothing.
-use mathlib.Core.Path.{_≡_, refl, ap, _∙_}
+use mathlib.Core.Path.{_≡_, refl, ap, _∙_, subst}
 use mathlib.Core.List.{List, [], _∷_, _++_}
-use mathlib.Core.Bool.{Bool, true, false, _||_}
+use mathlib.Core.Bool.{Bool, true, false, _||_, or-true}
 use Prim.Native.Nat.{ℕ, _+_, _-_, _*_, _≤_, _<_, max}
 use native.Mathlib.Numerals.{add-one}
 use native.Mathlib.Omega.{arith}
-use lib.ListN.{length, getD, set, drop, drop-of-length-le}
+use lib.ListN.{length, getD, set, take, drop, drop-of-length-le, take-append-drop}
 use lib.Seq.{drop-cons}
 use Rattle.rules.specs.Model.{greatest}
 use Rattle.rules.specs.Checks.{any}
@@ -38,6 +38,12 @@ any-append t (x ∷ a) b = go (t x) (any-append t a b)
     go : (c : Bool) → any t (a ++ b) ≡ (any t a || any t b) → (c || any t (a ++ b)) ≡ ((c || any t a) || any t b)
     go true e = refl
     go false e = e
+
+-- one that passes the test
+pub any-at : (t : ℕ → Bool) (xs : List ℕ) (i : ℕ) → i < length xs → t (getD xs i 0) ≡ true → any t xs ≡ true
+any-at t xs i h e =
+    let a : any t (take i xs ++ drop i xs) ≡ true = any-append t (take i xs) (drop i xs) ∙ rw (any-found t xs i h e, or-true) in
+    subst (λ (l : List ℕ). any t l ≡ true) (take-append-drop i xs) a
 
 pub any-one : (t : ℕ → Bool) (x : ℕ) → any t (x ∷ []) ≡ t x
 unfolding any

@@ -10,7 +10,7 @@ ghost use lib.Dec.{leb};
 ghost use Rattle.rules.specs.Model.{greatest as greatest-of};
 ghost use Rattle.rules.specs.Checks.{any};
 ghost use Rattle.lists.specs.Part.{Below};
-ghost use Rattle.lists.specs.Flags.{flag-at, claimed, Flagged, Raises, Lowering, Lowers, Repeats};
+ghost use Rattle.lists.specs.Flags.{flag-at, claimed, Flagged, Raises, Lowering, Lowers, Repeats, Unclaiming, Unclaims, Claims};
 ghost use Rattle.lists.specs.Lists.{stored, Storable, cell, start-of, inputs-of, end-of};
 
 // Whether one of xs is at least the bound.
@@ -131,6 +131,37 @@ pub fn claim(outs: &[u64], w: &mut [u64], v: usize)
         w[3 * v + x] = 1;
         i += 1;
     }
+}
+
+// Takes the flags of the first n places back.
+fn unclaim(outs: &[u64], w: &mut [u64], v: usize, n: usize)
+    requires { ⌜ Unclaiming (now w) v (now outs) n ⌝ }
+    ensures { λ _. ⌜ Unclaims (now (w .entry)) v (now (outs .entry)) n (now (w .exit)) ⌝ }
+{
+    let mut i = n;
+    while i > 0 {
+        i -= 1;
+        let at = 3 * v + outs[i] as usize;
+        w[at] = 0;
+    }
+}
+
+// Flags each of outs as taken, and says so; where one is taken already or stands twice, storage is as it was.
+pub fn claim_new(outs: &[u64], w: &mut [u64], v: usize) -> bool
+    requires { ⌜ Flagged (now w) v (now outs) ⌝ }
+    ensures { λ r. ⌜ Claims (now (w .entry)) v (now (outs .entry)) r (now (w .exit)) ⌝ }
+{
+    let mut i = 0;
+    while i < outs.len() {
+        let at = 3 * v + outs[i] as usize;
+        if w[at] != 0 {
+            unclaim(outs, w, v, i);
+            return false;
+        }
+        w[at] = 1;
+        i += 1;
+    }
+    true
 }
 
 // Copies xs into the pool from `at` on; the rest of the pool stays.
