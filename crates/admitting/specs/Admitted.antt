@@ -21,7 +21,7 @@ counted s a =
     record { guide = s .guide; lead = a .lead; added = a .added; used = a .used; delayed = a .delayed; flushes = s .flushes; closed = s .closed; registrations = s .registrations; places = s .places }
 
 -- the row of an added registration r has n as its written; a set stores none
-pub noted : Bool → ℕ → ℕ → Storage → Storage
+unfoldable pub noted : Bool → ℕ → ℕ → Storage → Storage
 noted true r n σ = with-rows σ (set (σ .rows) (5 * r + 2) n)
 noted false r n σ = σ
 

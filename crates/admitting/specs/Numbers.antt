@@ -2,7 +2,7 @@
 use mathlib.Core.Path.{_≡_, ap, _∙_}
 use mathlib.Core.List.{List, _++_}
 use mathlib.Core.Bool.{Bool}
-use Prim.Native.Nat.{ℕ, _+_}
+use Prim.Native.Nat.{ℕ}
 use native.Mathlib.Omega.{arith}
 use lib.ListN.{length}
 use Rattle.rules.specs.Model.{Model}
@@ -14,7 +14,7 @@ use Rattle.checking.specs.Laws.{answer-set, answer-add, answer-flush, answer-fi
 use Rattle.session.specs.declared.Session.{Session}
 use Rattle.session.specs.Storage.{Storage}
 use Rattle.session.specs.Rep.{Rep}
-use Rattle.admitting.specs.Promise.{Asks}
+use Rattle.admitting.specs.Promise.{Asks, MayDo, may-do}
 
 -- n is the number of the call c for every model that session and storage stand for
 abbrev pub Number : Call → ℕ → Session → Storage → Type 0
@@ -47,6 +47,11 @@ add-number ins outs n u added s σ w eu ea c P N k R =
     ∙ ap (λ (v : ℕ). verdict (list-checks (k .closed) N ins outs ++ state-checks N (taken k) outs v (s .used) (length ins) (length (σ .pool)))) (ea ∙ R .counted .added-is)
     ∙ ap (λ (v : ℕ). verdict (list-checks (k .closed) N ins outs ++ state-checks N (taken k) outs (length (k .adds)) v (length ins) (length (σ .pool)))) (R .counted .used-is)
     ∙ answer-add N (length (σ .pool)) ins outs k
+
+-- where it is 0, the work of add may be done
+pub may-add : (ins outs : List ℕ) (n u added : ℕ) (s : Session) (σ : Storage) (w : List ℕ) → u ≡ s .guide .v → added ≡ s .added
+    → ChecksAdd (σ .waiting) ins outs (s .closed) u added (s .used) (length (σ .pool)) n w → n ≡ 0 → Asks s σ → MayDo (add ins outs) s σ
+may-add ins outs n u added s σ w eu ea c z a = may-do (add ins outs) n s σ (add-number ins outs n u added s σ w eu ea c) z a
 
 pub flush-number : (n : ℕ) (s : Session) (σ : Storage) → n ≡ verdict (flush-checks (s .closed) (s .flushes)) → Number flush n s σ
 flush-number n s σ e P N k R =

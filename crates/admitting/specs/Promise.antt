@@ -88,15 +88,5 @@ pub positive : (P N : ℕ) (k : Model) (s : Session) (σ : Storage) → Rep P N 
 positive P N k s σ R = omega (arith, R .core .guided .stands .laid .one, R .core .guided .p-is)
 
 -- checks that leave the waiting storage as it was: w is what stands there after them
-same-waiting : (w : List ℕ) (σ : Storage) → w ≡ σ .waiting → with-waiting w σ ≡ σ
+pub same-waiting : (w : List ℕ) (σ : Storage) → w ≡ σ .waiting → with-waiting w σ ≡ σ
 same-waiting w σ e = ap (λ (x : List ℕ). with-waiting x σ) e
-
-module _ (c : Call) (n : ℕ) (s : Session) (σ : Storage) (w : List ℕ) (ew : w ≡ σ .waiting) (h : (P N : ℕ) (k : Model) → Rep P N k s σ → n ≡ answer N (length (σ .pool)) c k) where
-  pub refused-checked : (n ≡ 0 → ⊥) → Called c n s s σ (with-waiting w σ)
-  refused-checked z = subst (λ (τ : Storage). Called c n s s σ τ) (sym (same-waiting w σ ew)) (called-refused c n s σ z h)
-
-  pub may-checked : n ≡ 0 → Asks s σ → MayDo c s (with-waiting w σ)
-  may-checked z a = subst (λ (τ : Storage). MayDo c s τ) (sym (same-waiting w σ ew)) (may-do c n s σ h z a)
-
-  pub called-checked : n ≡ 0 → (s′ : Session) (σ′ : Storage) → Does c s s′ (with-waiting w σ) σ′ → Called c 0 s s′ σ σ′
-  called-checked z s′ σ′ d = called-does c n s s′ σ σ′ h z (subst (λ (τ : Storage). Does c s s′ τ σ′) (same-waiting w σ ew) d)

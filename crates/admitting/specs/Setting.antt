@@ -1,5 +1,5 @@
 -- A set place: from what marking it leaves of marks and waiting storage, the session stands for the model with that place set, and what
--- comes off is on the stack. Assumes nothing.
+-- comes off is on the stack; so the set is admitted. Assumes nothing.
 use mathlib.Core.Path.{_≡_, refl, sym, ap, _∙_, subst}
 use mathlib.Core.List.{List, _∷_}
 use Prim.Native.Nat.{ℕ, _+_, _*_, _-_, _≤_, _<_}
@@ -8,11 +8,11 @@ use lib.ListN.{length, getD, drop, set, length-set}
 use lib.Seq.{getD-set-other, getD-drop, take-set-le}
 use Rattle.rules.specs.Model.{Model, watermark, tracked, due, left, keep, off, rest, with-set, settle-all, do-set}
 use Rattle.rules.specs.Checks.{taken, pooled}
-use Rattle.rules.specs.Calls.{set as set-call, answer, apply-call}
+use Rattle.rules.specs.Calls.{set as set-call, apply-call}
 use Rattle.laws.specs.CascadeInv.{off-rest}
 use Rattle.laws.specs.Accepted.{set-passed}
-use Rattle.laws.specs.Sound.{Sound, Between, sound-setting}
-use Rattle.tracking.specs.Places.{Places, places-set, run-is}
+use Rattle.laws.specs.Sound.{sound-setting}
+use Rattle.tracking.specs.Places.{Places as Tracking, places-set, run-is}
 use Rattle.lists.specs.Flags.{Flags}
 use Rattle.lists.specs.FlagLaws.{flags-set, flags-kept}
 use Rattle.lists.specs.Lists.{Lists}
@@ -20,10 +20,14 @@ use Rattle.lists.specs.ListLaws.{lists-low, lists-kept}
 use Rattle.registrar.specs.Delayed.{Delayed}
 use Rattle.marking.specs.Marking.{Marking, Marks}
 use Rattle.session.specs.declared.Session.{Session}
-use Rattle.session.specs.Storage.{Storage, Frame, frame-refl, frame-trans}
-use Rattle.session.specs.Settle.{MaySettle, Settles}
+use Rattle.session.specs.Storage.{Storage, Frame, frame-refl}
+use Rattle.session.specs.Settle.{Along}
 use Rattle.session.specs.Rep.{RepSt, Rep}
-use Rattle.admitting.specs.Promise.{MayDo, Does, framed, positive}
+use Rattle.admitting.specs.declared.Admitted.{Admitted}
+use Rattle.admitting.specs.Promise.{Asks, MayDo, Does, may-do, framed, positive}
+use Rattle.admitting.specs.Numbers.{Number}
+use Rattle.admitting.specs.Admitted.{counted, Places, Admits}
+use Rattle.admitting.specs.Begun.{Begun, goal-reached, goal-frame, admits, noted-none}
 
 -- lists that agree from n on agree at each index from there
 pub past : (n i : ℕ) (w w′ : List ℕ) → n ≤ i → drop n w′ ≡ drop n w → getD w′ i 0 ≡ getD w i 0
@@ -53,7 +57,7 @@ module _ (P N : ℕ) (k : Model) (s : Session) (σ : Storage) (R : Rep P N k s �
       }
 
   module _ (to top : ℕ) (m w : List ℕ) (lw : length w ≡ length (σ .waiting)) (M : Marks (σ .marks) (σ .waiting) N (s .lead) x to top m w) where
-    places′ : Places N (x ∷ k .sets) (k .located) m (σ .locations)
+    places′ : Tracking N (x ∷ k .sets) (k .located) m (σ .locations)
     places′ = rw (M .marks-are) (places-set N (k .sets) (k .located) (σ .marks) (σ .locations) x (R .core .tracked .places))
 
     lead-is′ : to ≡ watermark N (with-set x k)
@@ -112,7 +116,7 @@ module _ (P N : ℕ) (k : Model) (s : Session) (σ : Storage) (R : Rep P N k s �
           pool = refl;
         }
 
--- the work of set, u being V as an index: what marking asks, what the cascade asks, and what is done in the end
+-- set's own part, u being V as an index
 module _ (x : ℕ) (s : Session) (σ : Storage) (u : ℕ) (eu : u ≡ s .guide .v) where
   pub set-marks : MayDo (set-call x) s σ → Marking (σ .marks) (σ .waiting) u (s .lead) x
   set-marks a =
@@ -120,48 +124,46 @@ module _ (x : ℕ) (s : Session) (σ : Storage) (u : ℕ) (eu : u ≡ s .guide .
       (may-mark (a .parallelism) (a .places) (a .model) s σ (a .rep) x (set-passed (a .places) (length (σ .pool)) x (a .model) (a .accepted) .inside))
 
   module _ (to top : ℕ) (m w : List ℕ) (lw : length w ≡ length (σ .waiting)) (M : Marks (σ .marks) (σ .waiting) u (s .lead) x to top m w) where
-    module _ (P N : ℕ) (k : Model) (R : Rep P N k s σ) (B : Between P N (length (σ .pool)) k) (e : answer N (length (σ .pool)) (set-call x) k ≡ 0) where
-      inside : x < N
-      inside = set-passed N (length (σ .pool)) x k e .inside
+    -- what is admitted
+    abbrev marked : Admitted
+    marked = record { number = 0; lead = to; added = s .added; used = s .used; delayed = s .delayed; top = top }
 
-      here : Marks (σ .marks) (σ .waiting) N (s .lead) x to top m w
-      here = subst (λ (v : ℕ). Marks (σ .marks) (σ .waiting) v (s .lead) x to top m w) (eu ∙ R .core .guided .v-is) M
+    module _ (a : MayDo (set-call x) s σ) where
+      inside : x < a .places
+      inside = set-passed (a .places) (length (σ .pool)) x (a .model) (a .accepted) .inside
 
-      rep-here : RepSt P N (rest N (with-set x k)) (with-lead s to) (with-marks σ m w) top (off N (with-set x k))
-      rep-here = rep-set P N k s σ R x inside to top m w lw here
+      here : Marks (σ .marks) (σ .waiting) (a .places) (s .lead) x to top m w
+      here = rw (eu ∙ a .rep .core .guided .v-is) at M
 
-      sound-here : Sound P N (length (σ .pool)) (rest N (with-set x k)) (off N (with-set x k))
-      sound-here = sound-setting P N (length (σ .pool)) (positive P N k s σ R) x k e (B .sound)
+      set-along : Along (a .parallelism) (a .places) (length (σ .pool)) (s .added) (do-set (a .parallelism) (a .places) x (a .model)) (counted s marked) (with-marks σ m w) top
+      unfolding do-set rest keep with-set
+      set-along =
+          record {
+            j = rest (a .places) (with-set x (a .model));
+            st = off (a .places) (with-set x (a .model));
+            rep = rep-set (a .parallelism) (a .places) (a .model) s σ (a .rep) x inside to top m w lw here;
+            sound = sound-setting (a .parallelism) (a .places) (length (σ .pool)) (positive (a .parallelism) (a .places) (a .model) s σ (a .rep)) x (a .model) (a .accepted) (a .between .sound);
+            ended = omega (arith, a .rep .counted .added-is);
+            ends = ap (λ (c : ℕ). settle-all (a .parallelism) (a .places) c (off (a .places) (with-set x (a .model))) (rest (a .places) (with-set x (a .model)))) (a .rep .counted .added-is);
+          }
 
-      frame-here : Frame (s .guide .p) (s .guide .v) (s .guide .written) (s .guide .written) σ (with-marks σ m w)
-      frame-here = framed P N (s .guide .written) (s .guide .written) s σ (with-marks σ m w) (R .core .guided .p-is) (R .core .guided .v-is) (frame-set P N k s σ R x inside to top m w lw here (s .guide .written))
+      set-frame : Frame (s .guide .p) (s .guide .v) (s .guide .written) (s .guide .written) σ (with-marks σ m w)
+      set-frame =
+          framed (a .parallelism) (a .places) (s .guide .written) (s .guide .written) s σ (with-marks σ m w) (a .rep .core .guided .p-is) (a .rep .core .guided .v-is)
+          (frame-set (a .parallelism) (a .places) (a .model) s σ (a .rep) x inside to top m w lw here (s .guide .written))
 
-    pub set-settles : MayDo (set-call x) s σ → MaySettle (s .added) (with-lead s to) (with-marks σ m w) top
-    unfolding rest keep with-set
-    set-settles a =
-        record {
-          P = a .parallelism;
-          N = a .places;
-          W = length (σ .pool);
-          k = rest (a .places) (with-set x (a .model));
-          st = off (a .places) (with-set x (a .model));
-          rep = rep-here (a .parallelism) (a .places) (a .model) (a .rep) (a .between) (a .accepted);
-          sound = sound-here (a .parallelism) (a .places) (a .model) (a .rep) (a .between) (a .accepted);
-          ended = omega (arith, a .rep .counted .added-is);
-        }
+    set-begun : MayDo (set-call x) s σ → Begun (set-call x) (λ P N k. do-set P N x k) s marked σ (with-marks σ m w)
+    set-begun a = record { along = set-along; frame = set-frame a }
 
-    ended : (N : ℕ) (k : Model) → s .added ≡ length (k .adds) → s .added ≤ length ((rest N (with-set x k)) .adds)
-    unfolding rest keep with-set
-    ended N k h = omega arith
+    set-does : MayDo (set-call x) s σ → (s′ : Session) (υ : Storage) → Places s marked s′ (with-marks σ m w) υ → Does (set-call x) s s′ σ υ
+    unfolding apply-call
+    set-does a s′ υ Q =
+        let D = set-begun a in
+        rw (Q .is ∙ noted-none (s .added) (s .added) (s′ .guide .written) (Q .settled) (omega arith))
+        (record {
+          rep = λ P N k R B e. goal-reached _ _ s marked σ _ D s′ (Q .settled) (Q .settles) (record { parallelism = P; places = N; model = k; rep = R; between = B; accepted = e });
+          frame = goal-frame _ _ s marked σ _ D s′ (Q .settled) (Q .settles);
+        })
 
-    pub set-does : MayDo (set-call x) s σ → (s′ : Session) (τ : Storage) → Settles (s .added) (with-lead s to) (with-marks σ m w) top s′ τ → Does (set-call x) s s′ σ τ
-    unfolding apply-call do-set
-    set-does a s′ τ Z =
-        record {
-          rep = λ P N k R B e.
-              subst (λ (c : ℕ). Rep P N (settle-all P N c (off N (with-set x k)) (rest N (with-set x k))) s′ τ) (R .counted .added-is)
-              (Z .rep P N (length (σ .pool)) (rest N (with-set x k)) (off N (with-set x k)) (rep-here P N k R B e) (sound-here P N k R B e) (ended N k (R .counted .added-is)));
-          frame =
-              frame-trans (s .guide .p) (s .guide .v) (s .guide .written) (s .guide .written) (s′ .guide .written) σ (with-marks σ m w) τ
-              (frame-here (a .parallelism) (a .places) (a .model) (a .rep) (a .between) (a .accepted)) (Z .frame);
-        }
+    pub set-admits : (n : ℕ) → Number (set-call x) n s σ → n ≡ 0 → Asks s σ → Admits (set-call x) s marked σ (with-marks σ m w)
+    set-admits n h z q = let a = may-do (set-call x) n s σ h z q in admits _ _ s marked σ _ (set-begun a) n h z refl q (set-does a)

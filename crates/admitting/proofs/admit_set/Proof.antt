@@ -1,0 +1,46 @@
+-- `admitting::admit_set` meets its contract: the number is the model's, and where it is 0 the marked place leaves what comes off on the stack.
+use mathlib.Core.Path.{refl}
+use Rattle.admitting.specs.Promise.{may-do}
+use Rattle.admitting.specs.Numbers.{set-number}
+use Rattle.admitting.specs.Begun.{admits-not}
+use Rattle.admitting.specs.Setting.{set-marks, set-admits}
+use borrow.Author.Needs.{needs}
+use Rattle.admitting.proofs.admit_set.Statement.{statement}
+use Rattle.admitting.proofs.admit_set.Tie as tie
+
+wide-requires : tie.Need-wide-requires
+wide-requires c κs = search needs
+
+check-set-requires : tie.Need-check-set-requires
+check-set-requires c κs = search needs
+
+same-length : tie.Need-same-length
+same-length c = search needs
+
+returns : tie.Need-returns
+returns c = admits-not _ _ _ _ _ (set-number _ _ _ _ _ (c .before .before .before .wide .ensures) (c .before .check-set .ensures)) (c .if1 .taken) refl
+
+mark-set-requires : tie.Need-mark-set-requires
+mark-set-requires c κs = set-marks _ _ _ _ (c .before .before .before .before .before .wide .ensures) (may-do _ _ _ _ (set-number _ _ _ _ _ (c .before .before .before .before .before .wide .ensures) (c .before .before .before .check-set .ensures)) (c .before .before .if1 .left) (c .before .before .before .before .before .before .before .before .before .before .before .before .before .before .pre))
+
+same-length-2 : tie.Need-same-length-2
+same-length-2 c = search needs
+
+same-length-3 : tie.Need-same-length-3
+same-length-3 c = search needs
+
+returns-2 : tie.Need-returns-2
+returns-2 c = set-admits _ _ _ _ (c .before .before .before .before .before .before .before .before .before .before .wide .ensures) _ _ _ _ (c .before .before .before .before .mark-set .kept .1 .0) (c .before .before .before .before .mark-set .ensures) _ (set-number _ _ _ _ _ (c .before .before .before .before .before .before .before .before .before .before .wide .ensures) (c .before .before .before .before .before .before .before .before .check-set .ensures)) (c .before .before .before .before .before .before .before .if1 .left) (c .before .before .before .before .before .before .before .before .before .before .before .before .before .before .before .before .before .before .before .pre)
+
+pub admit-set-spec : {M : Type 1} → statement M
+admit-set-spec =
+    tie.close
+    (tie.spec
+    wide-requires
+    check-set-requires
+    same-length
+    returns
+    mark-set-requires
+    same-length-2
+    same-length-3
+    returns-2)

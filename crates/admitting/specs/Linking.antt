@@ -1,0 +1,173 @@
+-- A new registration whose lists are stored is put on the stack, to be placed at once, or waits under its greatest input: from there the
+-- cascade leads to the model's add. Assumes nothing.
+use mathlib.Core.Path.{_≡_, refl, sym, ap, _∙_}
+use mathlib.Core.List.{List, [], _∷_, List·Memᴰ·head, List·Memᴰ·tail}
+use mathlib.Core.Bool.{Bool, true, false, false≢true}
+use mathlib.Core.Logic.{_⊎_, inl, inr}
+use Prim.Native.Nat.{ℕ, suc, _*_, _≤_, _<_}
+use native.Mathlib.Omega.{arith}
+use lib.Dec.{ltb}
+use lib.ListN.{length, drop, length-append}
+use Rattle.rules.specs.Model.{Model, Pending, watermark, tracked, greatest, ready, queue, keep, with-add, do-add}
+use Rattle.rules.specs.Checks.{taken, pooled}
+use Rattle.rules.specs.Calls.{add as add-call, answer}
+use Rattle.laws.specs.Accepted.{AddPassed, add-passed}
+use Rattle.laws.specs.Limits.{AllBelow}
+use Rattle.laws.specs.ModelBase.{bool-cases}
+use Rattle.laws.specs.Delaying.{not-ready}
+use Rattle.laws.specs.Sound.{Sound, sound-adding, sound-delaying}
+use Rattle.lists.specs.FlagLaws.{flags-kept}
+use Rattle.lists.specs.ListLaws.{lists-kept}
+use Rattle.registrar.specs.Delayed.{Joins, Stacks, occurs}
+use Rattle.registrar.specs.Queue.{pends-none}
+use Rattle.buffer.specs.declared.Guide.{Guide}
+use Rattle.session.specs.declared.Session.{Session}
+use Rattle.session.specs.Storage.{Storage}
+use Rattle.session.specs.Turn.{with-waiting}
+use Rattle.session.specs.Cascade.{settle-done}
+use Rattle.session.specs.Settle.{Along}
+use Rattle.session.specs.Rep.{Core, RepSt, Rep}
+use Rattle.admitting.specs.Adding.{Unplaced}
+
+-- registration r with inputs ins is alone on the stack, whose top link is t, or waits under its greatest input with the stack empty
+pub record Links (w : List ℕ) (v lead : ℕ) (ins : List ℕ) (r t : ℕ) (w′ : List ℕ) : Type 0 where
+  pub stacks : ready lead ins ≡ true → Stacks w v r 0 t w′
+  pub joins : ready lead ins ≡ false → (t ≡ 0) × Joins w v (greatest ins) r w′
+
+-- placed at once: no inputs, or the greatest below the watermark
+pub ready-none : (m : ℕ) (l : List ℕ) → length l ≡ 0 → true ≡ ready m l
+unfolding ready
+ready-none m [] e = refl
+ready-none m (x ∷ l) e = absurd (omega arith)
+
+pub ready-some : (m g : ℕ) (l : List ℕ) → (length l ≡ 0 → ⊥) → g ≡ greatest l → ltb g m ≡ ready m l
+unfolding ready
+ready-some m g [] h e = absurd (h refl)
+ready-some m g (x ∷ l) h e = rw e refl
+
+module _ (w : List ℕ) (v lead : ℕ) (ins : List ℕ) (r : ℕ) (w′ : List ℕ) where
+  pub links-stack : (t : ℕ) → ready lead ins ≡ true → Stacks w v r 0 t w′ → Links w v lead ins r t w′
+  links-stack t h Z = record { stacks = λ e. Z; joins = λ e. absurd (false≢true (sym e ∙ h)) }
+
+  pub links-join : (m : ℕ) → m ≡ greatest ins → ready lead ins ≡ false → Joins w v m r w′ → Links w v lead ins r 0 w′
+  links-join m em h J = record { stacks = λ e. absurd (false≢true (sym h ∙ e)); joins = λ e. (refl, rw em at J) }
+
+  -- heads and links alone have changed
+  pub links-rest : (t : ℕ) → Links w v lead ins r t w′ → drop (2 * v) w′ ≡ drop (2 * v) w
+  links-rest t L = go (bool-cases (ready lead ins))
+    where
+      go : (ready lead ins ≡ true) ⊎ (ready lead ins ≡ false) → drop (2 * v) w′ ≡ drop (2 * v) w
+      go (inl h) = L .stacks h .kept .rest
+      go (inr h) = L .joins h .1 .rest
+
+-- the first half of the waiting storage decides neither lists nor flags
+core-waiting : (P N : ℕ) (j : Model) (g : Guide) (lead : ℕ) (σ : Storage) (w : List ℕ) → length w ≡ length (σ .waiting) → drop (2 * N) w ≡ drop (2 * N) (σ .waiting) → Core P N j g lead σ → Core P N j g lead (with-waiting w σ)
+core-waiting P N j g lead σ w lw dw c =
+    record {
+      guided = record { p-is = c .guided .p-is; v-is = c .guided .v-is; places = c .guided .places; stands = c .guided .stands; view-is = c .guided .view-is; tally-is = c .guided .tally-is };
+      rowed = record { long = c .rowed .long; filled = c .rowed .filled; written = c .rowed .written };
+      tracked = record { places = c .tracked .places; lead-is = c .tracked .lead-is };
+      stored = record {
+        lists = lists-kept N (j .adds) (pooled (j .adds)) (σ .waiting) (σ .pool) (c .stored .lists) w lw dw;
+        flags = flags-kept N (taken j) (σ .waiting) w lw dw (c .stored .flags);
+      };
+    }
+
+greatest-below : (N : ℕ) (xs : List ℕ) → 1 ≤ N → AllBelow N xs → greatest xs < N
+unfolding greatest
+greatest-below N [] h b = h
+greatest-below N (x ∷ xs) h b = omega (arith, b x (List·Memᴰ·head refl), greatest-below N xs h (λ i y. b i (List·Memᴰ·tail y)))
+
+queue-length : (x : Pending) (ps : List Pending) → length (queue x ps) ≡ suc (length ps)
+unfolding queue
+queue-length x [] = refl
+queue-length x (y ∷ ps) = go (bool-cases (ltb (x .under) (y .under))) (queue-length x ps)
+  where
+    go : (ltb (x .under) (y .under) ≡ true) ⊎ (ltb (x .under) (y .under) ≡ false) → length (queue x ps) ≡ suc (length ps) → length (queue x (y ∷ ps)) ≡ suc (length (y ∷ ps))
+    go (inl e) r = rw (e, queue)
+    go (inr e) r = rw (e, queue) (ap suc r)
+
+-- a new registration with its lists stored
+module _ (P N W : ℕ) (k : Model) (ins outs : List ℕ) (s : Session) (σ : Storage) (U : Unplaced P N (with-add (record { ins = ins; outs = outs }) k) s σ) (S : Sound P N W k []) (e : answer N W (add-call ins outs) k ≡ 0) where
+  abbrev new : Model
+  new = with-add (record { ins = ins; outs = outs }) k
+
+  abbrev reg : ℕ
+  reg = length (k .adds)
+
+  gone : AddPassed N W ins outs k
+  gone = add-passed N W ins outs k e
+
+  positive : 1 ≤ P
+  positive = omega (arith, U .core .guided .stands .laid .one, U .core .guided .p-is)
+
+  lead-is : s .lead ≡ watermark N k
+  unfolding with-add watermark tracked
+  lead-is = U .core .tracked .lead-is
+
+  -- what linking it asks
+  pub may-link : (greatest ins < N) × (reg < N) × (4 * N ≤ length (σ .waiting))
+  may-link = (greatest-below N ins (U .core .guided .places) (gone .ins-inside), gone .more, U .delayed .long)
+
+  module _ (w : List ℕ) (lw : length w ≡ length (σ .waiting)) where
+    -- it is put on the empty stack
+    rep-stacked : (t : ℕ) → Stacks (σ .waiting) N reg 0 t w → RepSt P N new s (with-waiting w σ) t (reg ∷ [])
+    unfolding with-add occurs
+    rep-stacked t Z =
+        record {
+          core = core-waiting P N new (s .guide) (s .lead) σ w lw (Z .kept .rest) (U .core);
+          counted = U .counted;
+          delayed = Z .delayed (s .lead) (k .pending) [] (U .delayed) (omega (arith, pends-none reg (k .pending) (λ y h. S .inv .pending-ok y h .0)));
+          delayed-is = omega (arith, U .delayed-is);
+        }
+
+    -- or it waits under its greatest input
+    rep-waits : s .lead ≤ greatest ins → Joins (σ .waiting) N (greatest ins) reg w → Rep P N (keep (queue (record { under = greatest ins; reg = reg }) (k .pending)) new) s (with-waiting w σ)
+    unfolding with-add keep occurs watermark tracked taken
+    rep-waits h J =
+        let c = core-waiting P N new (s .guide) (s .lead) σ w lw (J .rest) (U .core) in
+        let d = U .counted in
+        record {
+          core = record {
+            guided = record { p-is = c .guided .p-is; v-is = c .guided .v-is; places = c .guided .places; stands = c .guided .stands; view-is = c .guided .view-is; tally-is = c .guided .tally-is };
+            rowed = record { long = c .rowed .long; filled = c .rowed .filled; written = c .rowed .written };
+            tracked = record { places = c .tracked .places; lead-is = c .tracked .lead-is };
+            stored = record { lists = c .stored .lists; flags = c .stored .flags };
+          };
+          counted = record { added-is = d .added-is; used-is = d .used-is; flushes-is = d .flushes-is; closed-is = d .closed-is; registrations-is = d .registrations-is; places-is = d .places-is };
+          delayed = J .delayed (s .lead) (k .pending) 0 [] (U .delayed) (record { above = λ y z. S .inv .pending-ok y z .0; unstacked = refl }) h;
+          delayed-is = omega (arith, U .delayed-is, queue-length (record { under = greatest ins; reg = reg }) (k .pending));
+        }
+
+    ended : reg ≤ length (new .adds)
+    unfolding with-add
+    ended = omega (arith, length-append (k .adds) (record { ins = ins; outs = outs } ∷ []))
+
+    -- either way the cascade leads to the model's add
+    pub along-add : (t : ℕ) → Links (σ .waiting) N (s .lead) ins reg t w → Along P N W reg (do-add P N (record { ins = ins; outs = outs }) k) s (with-waiting w σ) t
+    unfolding do-add keep
+    along-add t L = go (bool-cases (ready (watermark N k) ins))
+      where
+        here : (b : Bool) → ready (watermark N k) ins ≡ b → ready (s .lead) ins ≡ b
+        here b h = rw lead-is h
+
+        go : (ready (watermark N k) ins ≡ true) ⊎ (ready (watermark N k) ins ≡ false) → Along P N W reg (do-add P N (record { ins = ins; outs = outs }) k) s (with-waiting w σ) t
+        go (inl h) =
+            record {
+              j = new;
+              st = reg ∷ [];
+              rep = rep-stacked t (L .stacks (here true h));
+              sound = sound-adding P N W positive ins outs k e h S;
+              ended = ended;
+              ends = rw (h, do-add);
+            }
+        go (inr h) =
+            let q = L .joins (here false h) in
+            record {
+              j = keep (queue (record { under = greatest ins; reg = reg }) (k .pending)) new;
+              st = [];
+              rep = rw (q .0) (rep-waits (not-ready (s .lead) ins (here false h)) (q .1));
+              sound = sound-delaying P N W positive ins outs k e h S;
+              ended = ended;
+              ends = rw (h, do-add) (settle-done P N reg (keep (queue (record { under = greatest ins; reg = reg }) (k .pending)) new));
+            }
