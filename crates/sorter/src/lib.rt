@@ -2,17 +2,13 @@
 // session and storage, and changes nothing where that is not 0. The storage goes along in eight slices: spans and order with 4 numbers
 // an entry, tally, rows of 5 numbers, marks and locations of places, the waiting storage, and the pool of lists.
 ghost use mathlib.Core.Path.{_≡_};
-ghost use mathlib.Core.Bool.{Bool};
-ghost use Prim.Native.Nat.{ℕ, _+_, _*_, _≤_, _<_};
-ghost use lib.ListN.{length, set as put};
-ghost use Rattle.rules.specs.Model.{ready};
+ghost use mathlib.Core.List.{[]};
+ghost use Prim.Native.Nat.{_+_};
 ghost use Rattle.rules.specs.Calls.{set as set-call, add as add-call, flush as flush-call, final as final-call};
 ghost use Rattle.session.specs.Storage.{storage};
 ghost use Rattle.admitting.specs.Promise.{Asks, Called, MayDo, Does};
 ghost use Rattle.rules.specs.Summary.{figures};
 ghost use Rattle.summary.specs.Figured.{figured};
-ghost use mathlib.Core.List.{[]};
-ghost use Rattle.admitting.specs.AddWork.{MayPlaceNew, PlacesNew};
 ghost use Rattle.sorter.specs.FinalWork.{Concludes};
 use session::Session;
 use summary::Summary;
@@ -21,56 +17,6 @@ use summary::Summary;
 pub struct Answer {
     pub number: u64,
     pub session: Session,
-}
-
-fn wide(x: u32) -> usize
-    ensures { λ r. ⌜ r ≡ x ⌝ }
-{
-    x as usize
-}
-
-// The work of set: the place is marked, and what comes off is placed in that order, each with all that it sets off before the next.
-fn do_set(
-    s: Session,
-    spans: &mut [u32],
-    order: &mut [u32],
-    tally: &mut [u32],
-    rows: &mut [u32],
-    marks: &mut [u16],
-    locations: &mut [u64],
-    waiting: &mut [u64],
-    pool: &[u32],
-    x: usize,
-) -> Session
-    requires { ⌜ MayDo (set-call x) s (storage (now spans) (now order) (now tally) (now rows) (now marks) (now locations) (now waiting) (now pool)) ⌝ }
-    ensures { λ r. ⌜ Does (set-call x) s r (storage (now (spans .entry)) (now (order .entry)) (now (tally .entry)) (now (rows .entry)) (now (marks .entry)) (now (locations .entry)) (now (waiting .entry)) (now (pool .entry))) (storage (now (spans .exit)) (now (order .exit)) (now (tally .exit)) (now (rows .exit)) (now (marks .exit)) (now (locations .exit)) (now (waiting .exit)) (now (pool .entry))) ⌝ }
-{
-    let g = s.guide;
-    let m = marking::mark_set(marks, waiting, wide(g.v), s.lead, x);
-    let z = Session {
-        guide: g,
-        lead: m.lead,
-        added: s.added,
-        used: s.used,
-        delayed: s.delayed,
-        flushes: s.flushes,
-        closed: s.closed,
-        registrations: s.registrations,
-        places: s.places,
-    };
-    session::settle(
-        spans,
-        order,
-        tally,
-        rows,
-        marks,
-        locations,
-        waiting,
-        pool,
-        z,
-        m.top,
-        s.added,
-    )
 }
 
 // Sets place x.
@@ -89,15 +35,7 @@ pub fn set(
     requires { ⌜ Asks s (storage (now spans) (now order) (now tally) (now rows) (now marks) (now locations) (now waiting) (now pool)) ⌝ }
     ensures { λ r. ⌜ Called (set-call x) (r .number) s (r .session) (storage (now (spans .entry)) (now (order .entry)) (now (tally .entry)) (now (rows .entry)) (now (marks .entry)) (now (locations .entry)) (now (waiting .entry)) (now (pool .entry))) (storage (now (spans .exit)) (now (order .exit)) (now (tally .exit)) (now (rows .exit)) (now (marks .exit)) (now (locations .exit)) (now (waiting .exit)) (now (pool .exit))) ⌝ }
 {
-    let g = s.guide;
-    let n = checking::check_set(waiting, s.closed, wide(g.v), x);
-    if n != 0 {
-        return Answer {
-            number: n,
-            session: s,
-        };
-    }
-    let t = do_set(
+    let a = admitting::admit_set(
         s,
         spans,
         order,
@@ -107,98 +45,16 @@ pub fn set(
         locations,
         waiting,
         pool,
-        x as usize,
+        x,
     );
-    Answer {
-        number: 0,
-        session: t,
+    if a.number != 0 {
+        return Answer {
+            number: a.number,
+            session: s,
+        };
     }
-}
-
-// Whether a registration is placed at once: it has no inputs, or the greatest is below the watermark.
-fn is_ready(ins: &[u64], lead: usize) -> bool
-    ensures { λ r. ⌜ r ≡ ready lead (now (ins .entry)) ⌝ }
-{
-    if ins.len() == 0 {
-        return true;
-    }
-    lists::greatest(ins) < lead as u64
-}
-
-// Registration r, whose lists are stored, is placed with what it sets off, or waits under its greatest input.
-fn place_new(
-    s: Session,
-    spans: &mut [u32],
-    order: &mut [u32],
-    tally: &mut [u32],
-    rows: &mut [u32],
-    marks: &mut [u16],
-    locations: &mut [u64],
-    waiting: &mut [u64],
-    pool: &[u32],
-    ins: &[u64],
-    r: usize,
-) -> Session
-    requires { ⌜ MayPlaceNew (now ins) r s (storage (now spans) (now order) (now tally) (now rows) (now marks) (now locations) (now waiting) (now pool)) ⌝ }
-    ensures { λ z. ⌜ PlacesNew (now (ins .entry)) r s z (storage (now (spans .entry)) (now (order .entry)) (now (tally .entry)) (now (rows .entry)) (now (marks .entry)) (now (locations .entry)) (now (waiting .entry)) (now (pool .entry))) (storage (now (spans .exit)) (now (order .exit)) (now (tally .exit)) (now (rows .exit)) (now (marks .exit)) (now (locations .exit)) (now (waiting .exit)) (now (pool .entry))) ⌝ }
-{
-    let g = s.guide;
-    let v = wide(g.v);
-    if is_ready(ins, s.lead) {
-        let top = registrar::stack(waiting, v, r, 0);
-        return session::settle(
-            spans,
-            order,
-            tally,
-            rows,
-            marks,
-            locations,
-            waiting,
-            pool,
-            s,
-            top,
-            r as u32,
-        );
-    }
-    let m = lists::greatest(ins);
-    registrar::delay(waiting, v, m as usize, r);
-    s
-}
-
-// The work of add: the lists are stored, the registration is placed or waits, and its row's written becomes the order's length.
-fn do_add(
-    s: Session,
-    spans: &mut [u32],
-    order: &mut [u32],
-    tally: &mut [u32],
-    rows: &mut [u32],
-    marks: &mut [u16],
-    locations: &mut [u64],
-    waiting: &mut [u64],
-    pool: &mut [u32],
-    ins: &[u64],
-    outs: &[u64],
-) -> Session
-    requires { ⌜ MayDo (add-call (now ins) (now outs)) s (storage (now spans) (now order) (now tally) (now rows) (now marks) (now locations) (now waiting) (now pool)) ⌝ }
-    ensures { λ r. ⌜ Does (add-call (now (ins .entry)) (now (outs .entry))) s r (storage (now (spans .entry)) (now (order .entry)) (now (tally .entry)) (now (rows .entry)) (now (marks .entry)) (now (locations .entry)) (now (waiting .entry)) (now (pool .entry))) (storage (now (spans .exit)) (now (order .exit)) (now (tally .exit)) (now (rows .exit)) (now (marks .exit)) (now (locations .exit)) (now (waiting .exit)) (now (pool .exit))) ⌝ }
-{
-    let g = s.guide;
-    let r = wide(s.added);
-    let n = ins.len() + outs.len();
-    entering::enter(waiting, pool, ins, outs, wide(g.v), r, s.used);
-    let z = Session {
-        guide: g,
-        lead: s.lead,
-        added: s.added + 1,
-        used: s.used + n,
-        delayed: s.delayed + 1,
-        flushes: s.flushes,
-        closed: s.closed,
-        registrations: s.registrations,
-        places: s.places,
-    };
-    let t = place_new(
-        z,
+    let t = admitting::place_admitted(
+        s,
         spans,
         order,
         tally,
@@ -207,13 +63,12 @@ fn do_add(
         locations,
         waiting,
         pool,
-        ins,
-        r,
+        a,
     );
-    let h = t.guide;
-    let i = 5 * r + 2;
-    rows[i] = h.written;
-    t
+    Answer {
+        number: a.number,
+        session: t,
+    }
 }
 
 // Adds a registration that reads the places ins and writes the places outs.
@@ -233,35 +88,39 @@ pub fn add(
     requires { ⌜ Asks s (storage (now spans) (now order) (now tally) (now rows) (now marks) (now locations) (now waiting) (now pool)) ⌝ }
     ensures { λ r. ⌜ Called (add-call (now (ins .entry)) (now (outs .entry))) (r .number) s (r .session) (storage (now (spans .entry)) (now (order .entry)) (now (tally .entry)) (now (rows .entry)) (now (marks .entry)) (now (locations .entry)) (now (waiting .entry)) (now (pool .entry))) (storage (now (spans .exit)) (now (order .exit)) (now (tally .exit)) (now (rows .exit)) (now (marks .exit)) (now (locations .exit)) (now (waiting .exit)) (now (pool .exit))) ⌝ }
 {
-    let g = s.guide;
-    let n = checking::check_add(
+    let a = admitting::admit_add(
+        s,
+        spans,
+        order,
+        tally,
+        rows,
+        marks,
+        locations,
         waiting,
+        pool,
         ins,
         outs,
-        s.closed,
-        wide(g.v),
-        wide(s.added),
-        s.used,
-        pool.len(),
     );
-    let mut t = s;
-    if n == 0 {
-        t = do_add(
-            s,
-            spans,
-            order,
-            tally,
-            rows,
-            marks,
-            locations,
-            waiting,
-            pool,
-            ins,
-            outs,
-        );
+    if a.number != 0 {
+        return Answer {
+            number: a.number,
+            session: s,
+        };
     }
+    let t = admitting::place_admitted(
+        s,
+        spans,
+        order,
+        tally,
+        rows,
+        marks,
+        locations,
+        waiting,
+        pool,
+        a,
+    );
     Answer {
-        number: n,
+        number: a.number,
         session: t,
     }
 }
