@@ -114,7 +114,7 @@ module _ (N : ℕ) (ins outs : List ℕ) where
               (any-append (λ y. leb N y) ins outs ∙ rw (f, h)))
 
 -- the later checks of add: the verdict by the four tests
-state-verdict : (N : ℕ) (t : ℕ → Bool) (outs : List ℕ) (added used inputs W : ℕ) (a b c d : Bool) → repeats outs ≡ a → any t outs ≡ b → leb N added ≡ c → ltb W (used + inputs + length outs) ≡ d
+pub state-verdict : (N : ℕ) (t : ℕ → Bool) (outs : List ℕ) (added used inputs W : ℕ) (a b c d : Bool) → repeats outs ≡ a → any t outs ≡ b → leb N added ≡ c → ltb W (used + inputs + length outs) ≡ d
     → verdict (record { fails = a; number = 6 } ∷ (record { fails = b; number = 8 } ∷ (record { fails = c; number = 9 } ∷ (record { fails = d; number = 10 } ∷ [])))) ≡ verdict (state-checks N t outs added used inputs W)
 unfolding state-checks
 state-verdict N t outs added used inputs W a b c d x y z u = rw (x, y, z, u)
@@ -153,7 +153,7 @@ module _ (w outs : List ℕ) (v added used inputs room : ℕ) (m : MayCheck w ou
         state-good h = record { is = λ t f. state-verdict v t outs added used inputs room false false false false a (told false b t f) (lt-leb v added c) (le-ltb room (used + inputs + length outs) (omega (arith, m .fits))); same = same }
 
 -- a list of checks after another
-verdict-first : (xs ys : List Check) → (verdict xs ≡ 0 → ⊥) → verdict (xs ++ ys) ≡ verdict xs
+pub verdict-first : (xs ys : List Check) → (verdict xs ≡ 0 → ⊥) → verdict (xs ++ ys) ≡ verdict xs
 unfolding verdict
 verdict-first [] ys h = absurd (h refl)
 verdict-first (c ∷ xs) ys h = go (bool-cases (c .fails)) (λ z. verdict-first xs ys z)
@@ -167,7 +167,7 @@ abbrev Numbered : List Check → Type 0
 Numbered [] = Unit {0}
 Numbered (c ∷ cs) = (c .number ≢ 0) × Numbered cs
 
-verdict-rest : (xs ys : List Check) → Numbered xs → verdict xs ≡ 0 → verdict (xs ++ ys) ≡ verdict ys
+pub verdict-rest : (xs ys : List Check) → Numbered xs → verdict xs ≡ 0 → verdict (xs ++ ys) ≡ verdict ys
 unfolding verdict
 verdict-rest [] ys n h = refl
 verdict-rest (c ∷ xs) ys n h = go (bool-cases (c .fails)) (λ z. verdict-rest xs ys (n .1) z)
@@ -176,7 +176,7 @@ verdict-rest (c ∷ xs) ys n h = go (bool-cases (c .fails)) (λ z. verdict-rest 
     go (inl e) r = absurd (n .0 (rw (e, verdict) at h))
     go (inr e) r = rw (e, verdict) (r (rw (e, verdict) at h))
 
-lists-numbered : (closed : Bool) (N : ℕ) (ins outs : List ℕ) → Numbered (list-checks closed N ins outs)
+pub lists-numbered : (closed : Bool) (N : ℕ) (ins outs : List ℕ) → Numbered (list-checks closed N ins outs)
 unfolding list-checks check-places
 lists-numbered closed N ins outs = (omega arith, (omega arith, (omega arith, (omega arith, tt))))
 

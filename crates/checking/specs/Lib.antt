@@ -2,3 +2,4 @@
 pub mod Parts
 pub mod Contracts
 pub mod Laws
+pub mod Claiming

@@ -1,11 +1,11 @@
 // The checks of set, add, flush and final, in document 01's order: each function gives the number of the first that fails, or 0. Nothing is
-// changed; the flags that are raised to find a repeated output are lowered again.
+// changed, but that an accepted add may have its outputs flagged; the flags that are raised to find a repeated output are lowered again.
 ghost use mathlib.Core.Path.{_≡_};
 ghost use Prim.Native.Nat.{ℕ, _+_, _*_, _≤_, _<_};
 ghost use lib.ListN.{length};
 ghost use Rattle.rules.specs.Checks.{verdict};
 ghost use Rattle.checking.specs.Parts.{set-checks, place-number, list-checks, state-checks, flush-checks, final-checks};
-ghost use Rattle.checking.specs.Contracts.{ChecksSet, MayCheck, ChecksState, MayAdd, ChecksAdd};
+ghost use Rattle.checking.specs.Contracts.{ChecksSet, MayCheck, ChecksState, MayAdd, ChecksAdd, AdmitsAdd, ClaimsAdd};
 
 // set: 7, 4, 5, 8.
 pub fn check_set(waiting: &[u64], closed: bool, v: usize, x: u64) -> u64
@@ -110,6 +110,53 @@ pub fn check_add(
         return n;
     }
     check_state(waiting, outs, v, added, used, ins.len(), room)
+}
+
+// Whether add passes all of its checks; then its outputs are flagged as taken, in one walk that finds a repeated or a taken one. Else
+// storage is as it was.
+pub fn admits_add(
+    waiting: &mut [u64],
+    ins: &[u64],
+    outs: &[u64],
+    closed: bool,
+    v: usize,
+    added: usize,
+    used: usize,
+    room: usize,
+) -> bool
+    requires { ⌜ MayAdd (now waiting) v used room ⌝ }
+    ensures { λ r. ⌜ AdmitsAdd (now (waiting .entry)) (now (ins .entry)) (now (outs .entry)) closed v added used room r (now (waiting .exit)) ⌝ }
+{
+    if check_lists(ins, outs, closed, v) != 0 {
+        return false;
+    }
+    if added >= v {
+        return false;
+    }
+    if room - used < ins.len() + outs.len() {
+        return false;
+    }
+    lists::claim_new(outs, waiting, v)
+}
+
+// add, with its outputs flagged as taken where it is accepted: 7, 3, 4, 5, 6, 8, 9, 10. Only a refused call is looked at check by check.
+pub fn claim_add(
+    waiting: &mut [u64],
+    ins: &[u64],
+    outs: &[u64],
+    closed: bool,
+    v: usize,
+    added: usize,
+    used: usize,
+    room: usize,
+) -> u64
+    requires { ⌜ MayAdd (now waiting) v used room ⌝ }
+    ensures { λ r. ⌜ ClaimsAdd (now (waiting .entry)) (now (ins .entry)) (now (outs .entry)) closed v added used room r (now (waiting .exit)) ⌝ }
+{
+    if admits_add(waiting, ins, outs, closed, v, added, used, room) {
+        return 0;
+    }
+    check_add(waiting, ins, outs, closed, v, added, used, room)
 }
 
 // flush: 7, 11.
