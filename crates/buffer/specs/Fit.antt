@@ -1,4 +1,4 @@
--- What putting an entry into span i, and releasing span 0, ask of the window and the span storage. Assumes nothing.
+-- What the release of span 0 asks of the window and the span storage, said of any span. Assumes nothing.
 use mathlib.Core.List.{List}
 use Prim.Native.Nat.{ℕ, _+_, _*_, _<_, _≤_}
 use native.Mathlib.Omega.{arith}

@@ -1,7 +1,7 @@
 // The guide over its storage: spans as rows of one slice, the order as another. `release` appends span 0's entries to the order and
 // rotates the window.
 ghost use mathlib.Core.Path.{_≡_};
-ghost use Prim.Native.Nat.{ℕ, _+_, _*_, _<_, _≤_};
+ghost use Prim.Native.Nat.{_+_, _*_, _<_, _≤_};
 ghost use lib.ListN.{length, getD};
 ghost use Rattle.buffer.specs.Fit.{Fit};
 ghost use Rattle.buffer.specs.Moves.{released-guide, released-order};
