@@ -4,11 +4,9 @@ use mathlib.Core.Path.{_≡_, sym, ap, _∙_}
 use mathlib.Core.List.{List, []}
 use mathlib.Core.Bool.{Bool}
 use mathlib.Core.Option.{Option}
-use Prim.Native.Nat.{ℕ, suc, _+_, _*_, _-_, _≤_, _<_}
+use Prim.Native.Nat.{ℕ, suc, _+_, _≤_, _<_}
 use native.Mathlib.Omega.{arith}
 use lib.ListN.{length, getD}
-use mir.Syntax.{w64, w32}
-use mir.Val.{Fits}
 use Rattle.window.specs.declared.MatchedSpan.{MatchedSpan}
 use Rattle.window.specs.declared.MatchedSpan.the-variants.{Existing, New}
 use Rattle.rules.specs.Guide.{Loc, Item, Guide as GuideModel, Choice, existing, opened, choose, place, apply, put, release, settle}
@@ -29,13 +27,6 @@ pub record Pushes (g r : Guide) (after : Option Loc) (e : Item) (s o t s′ o′
   pub at-pos : pos ≡ (place (g .p) after e (view g s o)) .loc .pos
   pub span-fits : span < 4294967266
   pub pos-fits : pos < 65001
-
--- ranges of an index and of a span number
-pub small-index : (i : ℕ) → i < 32 → Fits w64 (i * 4)
-small-index i h = record { fits = omega arith }
-
-pub small-sum : (x n : ℕ) → x < 4294967264 → n ≤ 2 → Fits w32 (x + n)
-small-sum x n h k = record { fits = omega arith }
 
 existing-inj : (i j : ℕ) → existing i ≡ existing j → i ≡ j
 existing-inj i j e = cc

@@ -1,11 +1,11 @@
 -- What a step of the guide leaves: `Done`, the storage after stands for the model b, and the frame. Laws: a release, two of them, a put, and
 -- what the pieces of the code ask of one another. Assumes nothing.
-use mathlib.Core.Path.{_≡_, refl, sym, ap, _∙_}
+use mathlib.Core.Path.{_≡_, refl, sym, ap, subst, _∙_}
 use mathlib.Core.List.{List, [], _∷_, _++_, map}
-use Prim.Native.Nat.{ℕ, suc, _+_, _*_, _-_, _≤_, _<_}
+use Prim.Native.Nat.{ℕ, suc, _+_, _*_, _≤_, _<_}
 use native.Mathlib.Omega.{arith}
 use lib.ListN.{length, getD, drop, length-drop, length-map}
-use lib.Seq.{getD-set-same, getD-set-other, getD-at}
+use lib.Seq.{getD-set-other, getD-at}
 use borrow.Author.Tests.{le-leb, lt-leb}
 use Rattle.rules.specs.Guide.{Guide as GuideModel, put, release, settle, tallied}
 use Rattle.laws.specs.History.{len}
@@ -15,7 +15,7 @@ use Rattle.entries.specs.Entries.{row, item-of, entry-of}
 use Rattle.buffer.specs.declared.Guide.{Guide}
 use Rattle.buffer.specs.View.{order-of, view, Laid}
 use Rattle.buffer.specs.Rows.{most-at, row-length, span-length, spans-length, upto-length, upto-at}
-use Rattle.buffer.specs.Moves.{longer, released-guide, released-order, put-spans, put-view, release-view}
+use Rattle.buffer.specs.Moves.{with-window, longer, released-guide, released-order, put-spans, put-view, release-view}
 use Rattle.buffer.specs.Fit.{Fit, laid-fit}
 use Rattle.tally.specs.Counting.{Countable}
 use Rattle.placing.specs.Frame.{Frame, frame-refl, frame-trans}
@@ -45,13 +45,20 @@ done-then g h r s o t s′ o′ t′ s″ o″ t″ b b′ d f =
 pub done-as : (g r : Guide) (s o t s′ o′ t′ : List ℕ) (b b′ : GuideModel) → b ≡ b′ → Done g r s o t s′ o′ t′ b → Done g r s o t s′ o′ t′ b′
 done-as g r s o t s′ o′ t′ b b′ e d = record { stands = d .stands; is = d .is ∙ e; same-p = d .same-p; same-v = d .same-v; frame = d .frame }
 
-pub release-done : (g r : Guide) (s o o′ t t′ : List ℕ) (n : ℕ) → n ≡ g .written → Stands g s o t → g .written + getD (g .window .lens) 0 0 ≤ g .v
+-- and keep P and V
+pub done-here : (g r : Guide) (s o t s′ o′ t′ : List ℕ) (b : GuideModel) → Done g r s o t s′ o′ t′ b → Done g (with-window g (r .window) (r .written)) s o t s′ o′ t′ b
+done-here g r s o t s′ o′ t′ b d =
+    let e : r ≡ with-window g (r .window) (r .written) =
+    (ap (λ p. record { window = r .window; p = p; v = r .v; written = r .written }) (d .same-p) ∙ ap (λ v. record { window = r .window; p = g .p; v = v; written = r .written }) (d .same-v)) in
+    subst (λ (x : Guide). Done g x s o t s′ o′ t′ b) e d
+
+pub release-done : (g r : Guide) (s o o′ t t′ : List ℕ) → Stands g s o t → g .written + getD (g .window .lens) 0 0 ≤ g .v
     → r ≡ released-guide g → o′ ≡ released-order g s o
-    → t′ ≡ tallied t (map entry-of (row o′ n (getD (g .window .lens) 0 0)))
+    → t′ ≡ tallied t (map entry-of (row o′ (g .written) (getD (g .window .lens) 0 0)))
     → Done g r s o t s o′ t′ (release (g .p) 1 (view g s o))
 unfolding released-guide
-release-done g r s o o′ t t′ n en k room er eo et =
-    rw (et, en, eo, er) (record {
+release-done g r s o o′ t t′ k room er eo et =
+    rw (et, eo, er) (record {
       stands = stands-release g s o t k room;
       is = release-view g s (k .laid) o (omega (arith, k .order-long));
       same-p = refl;
@@ -59,11 +66,11 @@ release-done g r s o o′ t t′ n en k room er eo et =
       frame = frame-release g s o t k room;
     })
 
-pub put-done : (g r : Guide) (s s′ o t : List ℕ) (i : ℕ) (e : Entry) → Stands g s o t → i < 32 → getD (g .window .lens) i 0 ≤ g .p
-    → r ≡ longer g i → s′ ≡ put-spans g s i e → Done g r s o t s′ o t (put i (item-of e) (view g s o))
+pub put-done : (g : Guide) (s s′ o t : List ℕ) (i : ℕ) (e : Entry) → Stands g s o t → i < 32 → getD (g .window .lens) i 0 ≤ g .p
+    → s′ ≡ put-spans g s i e → Done g (longer g i) s o t s′ o t (put i (item-of e) (view g s o))
 unfolding longer
-put-done g r s s′ o t i e k hi h er es =
-    rw (er, es) (record {
+put-done g s s′ o t i e k hi h es =
+    rw es (record {
       stands = stands-put g s o t k i e hi h;
       is = put-view g s (k .laid) i e o hi h;
       same-p = refl;
@@ -72,9 +79,9 @@ put-done g r s s′ o t i e k hi h er es =
     })
 
 -- what the tally asks after the release, and what the release asks
-pub asked-tally : (g : Guide) (s o o′ t : List ℕ) (n : ℕ) → Stands g s o t → g .written + getD (g .window .lens) 0 0 ≤ g .v → o′ ≡ released-order g s o → length o′ ≡ length o → n ≡ g .written
-    → (4 * (n + getD (g .window .lens) 0 0) ≤ length o′) × Countable (g .p) o′ n (getD (g .window .lens) 0 0) t
-asked-tally g s o o′ t n k room eo el en = (omega (arith, k .order-long), rw (en, eo) (countable g s o t k room))
+pub asked-tally : (g : Guide) (s o o′ t : List ℕ) → Stands g s o t → g .written + getD (g .window .lens) 0 0 ≤ g .v → o′ ≡ released-order g s o → length o′ ≡ length o
+    → (4 * (g .written + getD (g .window .lens) 0 0) ≤ length o′) × Countable (g .p) o′ (g .written) (getD (g .window .lens) 0 0) t
+asked-tally g s o o′ t k room eo el = (omega (arith, k .order-long), rw eo (countable g s o t k room))
 
 pub asked-release : (g : Guide) (s o t : List ℕ) → Stands g s o t → Free g
     → Fit g s 0 × (((getD (g .window .lens) 1 0 ≤ g .p + 1) × ((getD (g .window .ids) 31 0 < 4294967295) × (g .written + getD (g .window .lens) 0 0 ≤ 16777216))) × (4 * (g .written + getD (g .window .lens) 0 0) ≤ length o))
@@ -90,25 +97,12 @@ pub settle-gone : (P n : ℕ) (b : GuideModel) → P ≤ n → settle P n b ≡ 
 unfolding settle
 settle-gone P n b h = rw (le-leb P n h, settle)
 
-module _ (g h : Guide) (i : ℕ) (e : h ≡ longer g i) where
-  pub longer-at : length (g .window .lens) ≡ 32 → i < 32 → getD (h .window .lens) i 0 ≡ getD (g .window .lens) i 0 + 1
-  unfolding longer
-  longer-at l k = rw e (getD-set-same (g .window .lens) i _ 0 (omega arith))
+pub longer-free : (g : Guide) (i : ℕ) → 1 ≤ i → Free g → Free (longer g i)
+unfolding longer
+longer-free g i k f = record { room = rw (getD-set-other (g .window .lens) i 0 (getD (g .window .lens) i 0 + 1) 0 (omega arith)) (f .room); low = f .low }
 
-  pub longer-zero : 1 ≤ i → getD (h .window .lens) 0 0 ≡ getD (g .window .lens) 0 0
-  unfolding longer
-  longer-zero k = rw e (getD-set-other (g .window .lens) i 0 _ 0 (omega arith))
-
-  pub longer-free : 1 ≤ i → Free g → Free h
-  unfolding longer
-  longer-free k f = rw e (record { room = rw (getD-set-other (g .window .lens) i 0 (getD (g .window .lens) i 0 + 1) 0 (omega arith)) (f .room); low = f .low })
-
--- the guide after a release: its first lengths, its last length, its numbers
+-- the guide after a release: its first length, its numbers
 module _ (g h : Guide) (e : h ≡ released-guide g) (l : length (g .window .lens) ≡ 32) where
-  pub released-last : getD (h .window .lens) 31 0 ≡ 0
-  unfolding released-guide rotated
-  released-last = rw e (getD-at (drop 1 (g .window .lens)) 0 [] 0 31 (length-drop 1 (g .window .lens) ∙ omega arith))
-
   pub released-zero : getD (h .window .lens) 0 0 ≡ getD (g .window .lens) 1 0
   unfolding released-guide rotated
   released-zero = rw e (go (g .window .lens) l)
@@ -144,34 +138,26 @@ unfolding view order-of
 order-view g s o = length-map (row o 0 (g .written)) entry-of ∙ row-length o 0 (g .written)
 
 -- a put into an existing span, kept or with a release after it
-module _ (g h : Guide) (s s′ o t : List ℕ) (i : ℕ) (e : Entry) (k : Stands g s o t) (hi : 1 ≤ i) (hj : i < 32) (hl : getD (g .window .lens) i 0 ≤ g .p)
-    (eh : h ≡ longer g i) (es : s′ ≡ put-spans g s i e) where
+module _ (g : Guide) (s s′ o t : List ℕ) (i : ℕ) (e : Entry) (k : Stands g s o t) (hi : (1 ≤ i) × ((i < 32) × (getD (g .window .lens) i 0 ≤ g .p))) (es : s′ ≡ put-spans g s i e) where
   abbrev put-in : GuideModel
   put-in = put i (item-of e) (view g s o)
 
-  pub put-is : Done g h s o t s′ o t put-in
-  put-is = put-done g h s s′ o t i e k hj hl eh es
+  abbrev settled : GuideModel
+  settled = settle (g .p) (getD (g .window .lens) i 0 + 1) put-in
 
-  pub put-kept : getD (h .window .lens) i 0 < h .p → Done g h s o t s′ o t (settle (g .p) (getD (g .window .lens) i 0 + 1) put-in)
-  put-kept lt =
-      done-as g h s o t s′ o t put-in (settle (g .p) (getD (g .window .lens) i 0 + 1) put-in)
-      (sym (settle-kept (g .p) (getD (g .window .lens) i 0 + 1) put-in (omega (arith, longer-at g h i eh (k .laid .lens-many) hj, put-is .same-p)))) put-is
+  pub put-is : Done g (longer g i) s o t s′ o t put-in
+  put-is = put-done g s s′ o t i e k (hi .1 .0) (hi .1 .1) es
 
-  pub put-gone : (r : Guide) (o′ t′ : List ℕ) → h .p ≤ getD (h .window .lens) i 0 → Done h r s′ o t s′ o′ t′ (release (h .p) 1 (view h s′ o))
-      → Done g r s o t s′ o′ t′ (settle (g .p) (getD (g .window .lens) i 0 + 1) put-in)
+  pub put-kept : getD (g .window .lens) i 0 + 1 < g .p → Done g (longer g i) s o t s′ o t settled
+  put-kept lt = done-as g (longer g i) s o t s′ o t put-in settled (sym (settle-kept (g .p) (getD (g .window .lens) i 0 + 1) put-in lt)) put-is
+
+  pub put-gone : (r : Guide) (o′ t′ : List ℕ) → g .p ≤ getD (g .window .lens) i 0 + 1 → Done (longer g i) r s′ o t s′ o′ t′ (release (g .p) 1 (view (longer g i) s′ o))
+      → Done g (with-window g (r .window) (r .written)) s o t s′ o′ t′ settled
   put-gone r o′ t′ ge f =
-      done-as g r s o t s′ o′ t′ (release (h .p) 1 (view h s′ o)) (settle (g .p) (getD (g .window .lens) i 0 + 1) put-in)
-      (ap (λ x. release x 1 (view h s′ o)) (put-is .same-p) ∙ ap (λ x. release (g .p) 1 x) (put-is .is)
-      ∙ sym (settle-gone (g .p) (getD (g .window .lens) i 0 + 1) put-in (omega (arith, longer-at g h i eh (k .laid .lens-many) hj, put-is .same-p))))
-      (done-then g h r s o t s′ o t s′ o′ t′ put-in (release (h .p) 1 (view h s′ o)) put-is f)
-
--- a put into the last span after a release
-pub open-put : (g h r : Guide) (s s′ o o′ t t′ : List ℕ) (e : Entry) (b : GuideModel) → Done g h s o t s o′ t′ b → getD (h .window .lens) 31 0 ≡ 0
-    → r ≡ longer h 31 → s′ ≡ put-spans h s 31 e → Done g r s o t s′ o′ t′ (put 31 (item-of e) b)
-open-put g h r s s′ o o′ t t′ e b d z er es =
-    let f = put-done h r s s′ o′ t′ 31 e (d .stands) (omega arith) (omega arith) er es in
-    done-as g r s o t s′ o′ t′ (put 31 (item-of e) (view h s o′)) (put 31 (item-of e) b) (ap (λ x. put 31 (item-of e) x) (d .is))
-    (done-then g h r s o t s o′ t′ s′ o′ t′ b (put 31 (item-of e) (view h s o′)) d f)
+      let b = release (g .p) 1 (view (longer g i) s′ o) in
+      done-here g r s o t s′ o′ t′ settled
+      (done-as g r s o t s′ o′ t′ b settled (ap (λ x. release (g .p) 1 x) (put-is .is) ∙ sym (settle-gone (g .p) (getD (g .window .lens) i 0 + 1) put-in ge))
+      (done-then g (longer g i) r s o t s′ o t s′ o′ t′ put-in b put-is f))
 
 -- one release after n of them, on the way to 2 or to 32
 pub done-next : (g h r : Guide) (s o o′ o″ t t′ t″ : List ℕ) (n : ℕ) → Laid g s → n < 32 → len ((view g s o) .spans) 31 ≤ g .p
@@ -186,13 +172,10 @@ pub done-none : (g : Guide) (s o t : List ℕ) → Stands g s o t → Done g g s
 done-none g s o t k =
     record { stands = k; is = sym (release-none (g .p) (view g s o)); same-p = refl; same-v = refl; frame = frame-refl (g .p) (g .written) s o t }
 
--- what the second release asks, and the put after it
+-- what the second release asks
 pub free-two : (g h : Guide) (s : List ℕ) → Laid g s → h ≡ released-guide g → h .v ≡ g .v → g .written + getD (g .window .lens) 0 0 + getD (g .window .lens) 1 0 ≤ g .v → getD (g .window .ids) 31 0 < 4294967294 → Free h
 free-two g h s k e ev room low =
     record {
       room = omega (arith, released-zero g h e (k .lens-many), released-written g h e (k .lens-many));
       low = omega (arith, released-number g h e (k .lens-many) (ap length (k .numbered) ∙ upto-length (getD (g .window .ids) 0 0) 32));
     }
-
-pub asked-put-last : (g h : Guide) (s : List ℕ) → h ≡ released-guide g → length (g .window .lens) ≡ 32 → Laid h s → Fit h s 31 × (getD (h .window .lens) 31 0 ≤ h .p)
-asked-put-last g h s e l k = (laid-fit h s 31 (omega arith) k, omega (arith, released-last g h e l))

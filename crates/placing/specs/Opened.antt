@@ -1,27 +1,52 @@
--- Two spans opened: two releases, and a put into the new last span. Assumes nothing.
-use mathlib.Core.Path.{_≡_}
-use mathlib.Core.List.{List}
-use Prim.Native.Nat.{ℕ, _≤_}
+-- Spans opened: the new last span is empty and has the next number, and a put into it. Assumes nothing.
+use mathlib.Core.Path.{_≡_, sym, ap, _∙_}
+use mathlib.Core.List.{List, []}
+use Prim.Native.Nat.{ℕ, _+_, _*_, _≤_}
+use native.Mathlib.Nat.{add-zero}
 use native.Mathlib.Omega.{arith}
-use lib.ListN.{getD}
-use Rattle.rules.specs.Guide.{put, release}
+use lib.ListN.{length, getD, set, drop, List·getD-eq-default}
+use lib.Seq.{getD-drop}
+use Rattle.rules.specs.Guide.{Guide as GuideModel, put, release}
+use Rattle.laws.specs.History.{len}
+use Rattle.laws.specs.GuideInv.{len-extend, release-spans, release-first}
 use Rattle.entries.specs.declared.Entry.{Entry}
-use Rattle.entries.specs.Entries.{item-of}
+use Rattle.entries.specs.Entries.{over, numbers, item-of}
 use Rattle.buffer.specs.declared.Guide.{Guide}
-use Rattle.buffer.specs.View.{view}
-use Rattle.buffer.specs.Moves.{longer, released-guide, put-spans}
-use Rattle.placing.specs.Stands.{Stands}
-use Rattle.placing.specs.Done.{Done, done-next, open-put, released-last, len-view}
+use Rattle.buffer.specs.View.{view, Laid}
+use Rattle.buffer.specs.Moves.{with-window, longer, put-spans, slot-fits}
+use Rattle.placing.specs.Done.{Done, done-here, done-as, done-then, put-done, view-length, len-view, number-view}
 
-pub not-two : (n : ℕ) → 1 ≤ n → n ≤ 2 → (n ≡ 2 → ⊥) → n ≡ 1
-not-two n a b h = omega arith
+-- the guide with an entry stored as the first of its last span
+abbrev pub begun : Guide → Guide → Guide
+begun g h = with-window g (record { ids = h .window .ids; lens = set (h .window .lens) 31 1; rows = h .window .rows }) (h .written)
 
-pub two : (g h z u : Guide) (s s′ o o′ o″ t t′ t″ : List ℕ) (e : Entry) → Stands g s o t → getD (g .window .lens) 31 0 ≤ g .p
-    → Done g h s o t s o′ t′ (release (g .p) 1 (view g s o)) × (h ≡ released-guide g)
-    → Done h z s o′ t′ s o″ t″ (release (h .p) 1 (view h s o′)) × (z ≡ released-guide h)
-    → (u ≡ longer z 31) × (s′ ≡ put-spans z s 31 e)
-    → Done g u s o t s′ o″ t″ (put 31 (item-of e) (release (g .p) 2 (view g s o)))
-two g h z u s s′ o o′ o″ t t′ t″ e k l d f w =
-    open-put g z u s s′ o o″ t t″ e (release (g .p) 2 (view g s o))
-    (done-next g h z s o o′ o″ t t′ t″ 1 (k .laid) (omega arith) (rw (len-view g s o (k .laid) 31) l) (d .0) (f .0))
-    (released-last h z (f .1) (d .0 .stands .laid .lens-many)) (w .0) (w .1)
+module _ (g h : Guide) (s o o′ t t′ : List ℕ) (n : ℕ) (k : Laid g s) (hn : 1 ≤ n) (d : Done g h s o t s o′ t′ (release (g .p) n (view g s o))) where
+  abbrev b : GuideModel
+  b = release (g .p) n (view g s o)
+
+  opened-empty : getD (h .window .lens) 31 0 ≡ 0
+  opened-empty =
+      let ss = (view g s o) .spans in
+      sym (len-view h s o′ (d .stands .laid) 31) ∙ ap (λ x. len (x .spans) 31) (d .is) ∙ ap (λ x. len x 31) (release-spans (g .p) n (view g s o)) ∙ len-extend (drop n ss) n 31
+      ∙ ap length (getD-drop n ss 31 [] ∙ List·getD-eq-default ss [] (omega (arith, view-length g s o k)))
+
+  pub opened-number : getD (h .window .ids) 31 0 ≡ getD (g .window .ids) 31 0 + n
+  opened-number =
+      omega (arith, number-view h s o′ (d .stands .laid) 31 (omega arith), number-view g s o k 31 (omega arith), ap (λ x. x .first) (d .is), release-first (g .p) n (view g s o))
+
+  here : Done g (with-window g (h .window) (h .written)) s o t s o′ t′ b
+  here = done-here g h s o t s o′ t′ b d
+
+  pub opened-slot : 4 * (getD (h .window .rows) 31 0 * (g .p + 1)) + 4 ≤ length s
+  opened-slot = omega (arith, slot-fits (with-window g (h .window) (h .written)) s (here .stands .laid) 31 (omega (arith, opened-empty)), opened-empty)
+
+  pub open-put : (s′ : List ℕ) (e : Entry) → s′ ≡ over s (4 * (getD (h .window .rows) 31 0 * (g .p + 1))) (numbers e) → Done g (begun g h) s o t s′ o′ t′ (put 31 (item-of e) b)
+  unfolding longer put-spans
+  open-put s′ e es =
+      let h′ = with-window g (h .window) (h .written) in
+      let z = opened-empty in
+      let es′ : s′ ≡ put-spans h′ s 31 e = rw (z, add-zero) es in
+      let f : Done h′ (begun g h) s o′ t′ s′ o′ t′ (put 31 (item-of e) (view h′ s o′)) =
+      rw z at (put-done h′ s s′ o′ t′ 31 e (here .stands) (omega arith) (omega arith) es′) in
+      done-as g (begun g h) s o t s′ o′ t′ (put 31 (item-of e) (view h′ s o′)) (put 31 (item-of e) b) (ap (λ x. put 31 (item-of e) x) (here .is))
+      (done-then g h′ (begun g h) s o t s o′ t′ s′ o′ t′ b (put 31 (item-of e) (view h′ s o′)) here f)

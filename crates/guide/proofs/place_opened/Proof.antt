@@ -1,0 +1,78 @@
+-- `guide::place_opened` meets its contract: the spans opened, and the put into the new last one. Assumes nothing.
+use native.Mathlib.Omega.{arith}
+use mathlib.Core.Path.{refl}
+use denote.Ref.{now}
+use Rattle.placing.specs.Opened.{opened-number, opened-slot, open-put}
+use borrow.Author.Needs.{needs}
+use Rattle.guide.proofs.place_opened.Statement.{statement}
+use Rattle.guide.proofs.place_opened.Tie as tie
+
+open-spans-requires : tie.Need-open-spans-requires
+open-spans-requires c κs = search needs
+
+element-copy-out-at : tie.Need-element-copy-out-at
+element-copy-out-at c = search needs
+
+element-copy-out-store : tie.Need-element-copy-out-store
+element-copy-out-store c = search needs
+
+cast-store : tie.Need-cast-store
+cast-store c = search needs
+
+cast-store-2 : tie.Need-cast-store-2
+cast-store-2 c = search needs
+
+add-store : tie.Need-add-store
+add-store c = search needs
+
+mul-store : tie.Need-mul-store
+mul-store c =
+    let s = c .before .before .before .before .before .before .before .before .before .before .before .before .before .before .before in
+    let a = s .args in
+    let r = c .before .before .before .before .before .before .before .before .open-spans in
+    omega (arith, opened-slot (a .g) (r .result) (now (a .spans)) (now (a .order)) (r .last .1 .1 .0) (now (a .tally)) (r .last .1 .1 .1 .0) (a .n) (s .pre .0 .laid) (s .pre .1 .1 .0) (r .ensures))
+
+store-requires : tie.Need-store-requires
+store-requires c κs =
+    let s = c .before .before .before .before .before .before .before .before .before .before .before .before .before .before .before in
+    let a = s .args in
+    let r = c .before .before .before .before .before .before .before .before .open-spans in
+    omega (arith, opened-slot (a .g) (r .result) (now (a .spans)) (now (a .order)) (r .last .1 .1 .0) (now (a .tally)) (r .last .1 .1 .1 .0) (a .n) (s .pre .0 .laid) (s .pre .1 .1 .0) (r .ensures))
+
+element-write-w : tie.Need-element-write-w
+element-write-w c = search needs
+
+same-length : tie.Need-same-length
+same-length c = search needs
+
+same-length-2 : tie.Need-same-length-2
+same-length-2 c = search needs
+
+same-length-3 : tie.Need-same-length-3
+same-length-3 c = search needs
+
+returns : tie.Need-returns
+returns c =
+    let s = c .before .before .before .before .before .before .before .before .before .before .before .before .before .before .before .before .before .before in
+    let a = s .args in
+    let r = c .before .before .before .before .before .before .before .before .before .before .before .open-spans in
+    let u = c .before .before .store in
+    (open-put (a .g) (r .result) (now (a .spans)) (now (a .order)) (r .last .1 .1 .0) (now (a .tally)) (r .last .1 .1 .1 .0) (a .n) (s .pre .0 .laid) (s .pre .1 .1 .0) (r .ensures) (u .last .0) (a .e) (u .ensures), (opened-number (a .g) (r .result) (now (a .spans)) (now (a .order)) (r .last .1 .1 .0) (now (a .tally)) (r .last .1 .1 .1 .0) (a .n) (s .pre .0 .laid) (s .pre .1 .1 .0) (r .ensures), refl))
+
+pub place-opened-spec : {M : Type 1} → statement M
+place-opened-spec =
+    tie.close
+    (tie.spec
+    open-spans-requires
+    element-copy-out-at
+    element-copy-out-store
+    cast-store
+    cast-store-2
+    add-store
+    mul-store
+    store-requires
+    element-write-w
+    same-length
+    same-length-2
+    same-length-3
+    returns)

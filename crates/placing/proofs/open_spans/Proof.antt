@@ -1,0 +1,61 @@
+-- `placing::open_spans` meets its contract: one release, or two. Assumes nothing.
+use mathlib.Core.Path.{_≡_}
+use native.Mathlib.Omega.{arith}
+use Rattle.placing.specs.Done.{free-two, done-next, len-view}
+use Rattle.rules.specs.Guide.{release}
+use denote.Ref.{now}
+use borrow.Author.Needs.{needs}
+use Rattle.placing.proofs.open_spans.Statement.{statement}
+use Rattle.placing.proofs.open_spans.Tie as tie
+
+release-one-requires : tie.Need-release-one-requires
+release-one-requires c κs = search needs
+
+release-one-requires-2 : tie.Need-release-one-requires-2
+release-one-requires-2 c κs =
+    let s = c .before .before .before .before .before .before .before .before .before .before .before .before .before in
+    let a = s .args in
+    let r = c .before .before .before .before .before .before .before .release-one in
+    (r .ensures .0 .stands, free-two (a .g) (r .result) (now (a .spans)) (s .pre .0 .laid) (r .ensures .1) (r .ensures .0 .same-v) (s .pre .1 .0 .0) (s .pre .1 .0 .1 .0))
+
+same-length : tie.Need-same-length
+same-length c = search needs
+
+same-length-2 : tie.Need-same-length-2
+same-length-2 c = search needs
+
+returns : tie.Need-returns
+returns c =
+    let s = c .before .before .before .before .before .before .before .before .before .before .before .before .before .before .before .before .before .before in
+    let a = s .args in
+    let k = s .pre .0 .laid in
+    let r = c .before .before .before .before .before .before .before .before .before .before .before .before .release-one in
+    let z = c .before .before .before .before .release-one2 in
+    let two : a .n ≡ 2 = c .before .before .before .before .before .before .before .if1 .taken in
+    rw two (done-next (a .g) (r .result) (z .result) (now (a .spans)) (now (a .order)) (r .last .1 .1 .0) (z .last .1 .1 .0) (now (a .tally)) (r .last .1 .1 .1 .0) (z .last .1 .1 .1 .0) 1 k (omega arith) (rw (len-view (a .g) (now (a .spans)) (now (a .order)) k 31) (s .pre .1 .0 .1 .1)) (r .ensures .0) (z .ensures .0))
+
+same-length-3 : tie.Need-same-length-3
+same-length-3 c = search needs
+
+same-length-4 : tie.Need-same-length-4
+same-length-4 c = search needs
+
+returns-2 : tie.Need-returns-2
+returns-2 c =
+    let s = c .before .before .before .before .before .before .before .before .before .before .before in
+    let no = c .if1 .left in
+    let one : s .args .n ≡ 1 = omega (arith, s .pre .1 .1) in
+    rw one (c .before .before .before .before .before .release-one .ensures .0)
+
+pub open-spans-spec : {M : Type 1} → statement M
+open-spans-spec =
+    tie.close
+    (tie.spec
+    release-one-requires
+    release-one-requires-2
+    same-length
+    same-length-2
+    returns
+    same-length-3
+    same-length-4
+    returns-2)
