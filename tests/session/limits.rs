@@ -215,10 +215,8 @@ fn last_flush() -> Case {
     }
 }
 
-/// Many wait under one place; `fill` makes the place of the gap.
-fn under_one_place(name: &'static str, fill: Call) -> Case {
-    let mut calls: Vec<Call> = (1..=10).map(Call::Set).collect();
-    calls.extend((0..MANY).map(|i| add(&[i % 10, 10], &[])));
+/// The calls leave many waiting for one gap; `fill` makes its place, and all come off.
+fn until_filled(name: &'static str, mut calls: Vec<Call>, fill: Call) -> Case {
     calls.extend([fill, Call::Final]);
     Case {
         name,
@@ -227,6 +225,13 @@ fn under_one_place(name: &'static str, fill: Call) -> Case {
         calls,
         refused: vec![],
     }
+}
+
+/// Many wait under one place.
+fn under_one_place(name: &'static str, fill: Call) -> Case {
+    let mut calls: Vec<Call> = (1..=10).map(Call::Set).collect();
+    calls.extend((0..MANY).map(|i| add(&[i % 10, 10], &[])));
+    until_filled(name, calls, fill)
 }
 
 fn under_one_place_by_set() -> Case {
@@ -242,14 +247,7 @@ fn under_many_places(name: &'static str, fill: Call) -> Case {
     let mut calls: Vec<Call> = (1..=MANY).map(Call::Set).collect();
     calls.extend((1..=MANY / 2).rev().map(|place| add(&[2 * place], &[])));
     calls.extend((1..=MANY / 2).map(|place| add(&[2 * place - 1], &[])));
-    calls.extend([fill, Call::Final]);
-    Case {
-        name,
-        p: 8,
-        v: PLACES,
-        calls,
-        refused: vec![],
-    }
+    until_filled(name, calls, fill)
 }
 
 fn under_many_places_by_set() -> Case {
