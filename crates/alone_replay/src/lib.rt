@@ -114,12 +114,12 @@ fn put_five(answers: &mut [u32], at: usize, a: u32, b: u32, c: u32, d: u32, e: u
 }
 
 // The window's lengths from `at` on.
-fn put_lens(answers: &mut [u32], at: usize, lens: [u32; 32])
+fn put_lens(answers: &mut [u32], at: usize, lens: [u16; 32])
     requires { ⌜ at + 32 ≤ length (now answers) ⌝ }
     ensures { λ _. ⌜ Put at lens (now (answers .entry)) (now (answers .exit)) ⌝ }
 {
     for i in 0..32usize {
-        answers[at + i] = lens[i];
+        answers[at + i] = lens[i] as u32;
     }
 }
 

@@ -25,6 +25,9 @@ mul-answers c = search needs
 array-read-answers : tie.Need-array-read-answers Inv-loop μ-loop
 array-read-answers c = search needs
 
+cast-answers : tie.Need-cast-answers Inv-loop μ-loop
+cast-answers c = search needs
+
 add-answers : tie.Need-add-answers Inv-loop μ-loop
 add-answers c = search needs
 
@@ -68,6 +71,7 @@ put-lens-spec =
     loop-holds
     mul-answers
     array-read-answers
+    cast-answers
     add-answers
     mul-answers-2
     slice-write-answers
