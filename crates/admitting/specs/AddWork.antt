@@ -14,7 +14,8 @@ use Rattle.laws.specs.Accepted.{AddPassed, add-passed}
 use Rattle.laws.specs.Ceiling.{ended}
 use Rattle.laws.specs.Kept.{add-same}
 use Rattle.placing.specs.Done.{order-view}
-use Rattle.entering.specs.Entering.{Entering, Entered}
+use Rattle.lists.specs.Flags.{claimed}
+use Rattle.entering.specs.Entering.{Storing, Stores, Entering, Entered, may-store-claimed, entered-claimed}
 use Rattle.session.specs.declared.Session.{Session}
 use Rattle.session.specs.Storage.{Storage, Frame, frame-trans}
 use Rattle.session.specs.Turn.{waiting-frame}
@@ -84,60 +85,65 @@ module _ (ins outs : List ℕ) (s : Session) (σ : Storage) where
       r-is : r ≡ length (a .model .adds)
       r-is = er ∙ a .rep .counted .added-is
 
-      pub add-enters : Entering (σ .waiting) (σ .pool) u r (s .used) ins outs
-      add-enters = rw (u-is, r-is, a .rep .counted .used-is) (may-enter (a .parallelism) (a .places) (a .model) s σ (a .rep) ins outs (gone a))
+      enters : Entering (σ .waiting) (σ .pool) u r (s .used) ins outs
+      enters = rw (u-is, r-is, a .rep .counted .used-is) (may-enter (a .parallelism) (a .places) (a .model) s σ (a .rep) ins outs (gone a))
 
-    module _ (w pool : List ℕ) (E : Entered (σ .waiting) (σ .pool) u r (s .used) ins outs w pool) where
-      module _ (a : MayDo (add-call ins outs) s σ) where
-        stored : Entered (σ .waiting) (σ .pool) (a .places) (length (a .model .adds)) (pooled (a .model .adds)) ins outs w pool
-        stored = rw (u-is a, r-is a, a .rep .counted .used-is) at E
+    -- its outputs are flagged, and then its lists are stored
+    module _ (y : List ℕ) (ey : y ≡ claimed (σ .waiting) u outs) where
+      pub add-stores : MayDo (add-call ins outs) s σ → Storing y (σ .pool) u r (s .used) ins outs
+      add-stores a = may-store-claimed (σ .waiting) (σ .pool) u r (s .used) ins outs y ey (enters a)
 
-        unplaced : Unplaced (a .parallelism) (a .places) (with-add reg (a .model)) (with-added s (length ins + length outs)) (with-lists σ w pool)
-        unplaced = rw (stored .waiting-is, stored .pool-is) (entered-rep (a .parallelism) (a .places) (a .model) s σ (a .rep) ins outs (gone a))
-
-        frame-stored : Frame (a .parallelism) (a .places) (s .guide .written) (s .guide .written) σ (with-lists σ w pool)
-        frame-stored = rw (stored .waiting-is, stored .pool-is) (frame-entered (a .parallelism) (a .places) (a .model) s σ (a .rep) ins outs (gone a) (s .guide .written))
-
-        pub add-links : (greatest ins < u) × (r < u) × (4 * u ≤ length w)
-        add-links = rw (u-is a, r-is a) (may-link (a .parallelism) (a .places) (length (σ .pool)) (a .model) ins outs _ _ unplaced (a .between .sound) (a .accepted))
-
-      module _ (t : ℕ) (x : List ℕ) (lx : length x ≡ length w) (L : Links w u (s .lead) ins r t x) where
-        -- what is admitted
-        abbrev linked : Admitted
-        linked = record { number = 0; lead = s .lead; added = s .added + 1; used = s .used + (length ins + length outs); delayed = s .delayed + 1; top = t }
-
+      module _ (w pool : List ℕ) (T : Stores y (σ .pool) u r (s .used) ins outs w pool) where
         module _ (a : MayDo (add-call ins outs) s σ) where
-          here : Links w (a .places) (s .lead) ins (length (a .model .adds)) t x
-          here = rw (u-is a, r-is a) at L
+          stored : Entered (σ .waiting) (σ .pool) (a .places) (length (a .model .adds)) (pooled (a .model .adds)) ins outs w pool
+          stored = rw (u-is a, r-is a, a .rep .counted .used-is) at (entered-claimed (σ .waiting) (σ .pool) u r (s .used) ins outs y ey (enters a .inside) w pool T)
 
-          add-along : Along (a .parallelism) (a .places) (length (σ .pool)) (s .added) (do-add (a .parallelism) (a .places) reg (a .model)) (with-added s (length ins + length outs)) (with-lists σ x pool) t
-          add-along =
-              subst (λ (c : ℕ). Along (a .parallelism) (a .places) (length (σ .pool)) c (do-add (a .parallelism) (a .places) reg (a .model)) (with-added s (length ins + length outs)) (with-lists σ x pool) t) (sym (a .rep .counted .added-is))
-              (along-add (a .parallelism) (a .places) (length (σ .pool)) (a .model) ins outs (with-added s (length ins + length outs)) (with-lists σ w pool) (unplaced a) (a .between .sound) (a .accepted) x lx t here)
+          unplaced : Unplaced (a .parallelism) (a .places) (with-add reg (a .model)) (with-added s (length ins + length outs)) (with-lists σ w pool)
+          unplaced = rw (stored .waiting-is, stored .pool-is) (entered-rep (a .parallelism) (a .places) (a .model) s σ (a .rep) ins outs (gone a))
 
-          add-frame : Frame (s .guide .p) (s .guide .v) (s .guide .written) (s .guide .written) σ (with-lists σ x pool)
-          add-frame =
-              framed (a .parallelism) (a .places) (s .guide .written) (s .guide .written) s σ (with-lists σ x pool) (a .rep .core .guided .p-is) (a .rep .core .guided .v-is)
-              (frame-trans (a .parallelism) (a .places) (s .guide .written) (s .guide .written) (s .guide .written) σ (with-lists σ w pool) (with-lists σ x pool) (frame-stored a)
-              (waiting-frame (a .parallelism) (a .places) (s .guide .written) (with-lists σ w pool) x lx (links-rest w (a .places) (s .lead) ins (length (a .model .adds)) x t here)))
+          frame-stored : Frame (a .parallelism) (a .places) (s .guide .written) (s .guide .written) σ (with-lists σ w pool)
+          frame-stored = rw (stored .waiting-is, stored .pool-is) (frame-entered (a .parallelism) (a .places) (a .model) s σ (a .rep) ins outs (gone a) (s .guide .written))
 
-        add-begun : MayDo (add-call ins outs) s σ → Begun (add-call ins outs) (λ P N k. do-add P N reg k) s linked σ (with-lists σ x pool)
-        add-begun a = record { along = add-along; frame = add-frame a }
+          pub add-links : (greatest ins < u) × (r < u) × (4 * u ≤ length w)
+          add-links = rw (u-is a, r-is a) (may-link (a .parallelism) (a .places) (length (σ .pool)) (a .model) ins outs _ _ unplaced (a .between .sound) (a .accepted))
 
-        add-does : MayDo (add-call ins outs) s σ → (s′ : Session) (υ : Storage) → Places s linked s′ (with-lists σ x pool) υ → Does (add-call ins outs) s s′ σ υ
-        unfolding apply-call
-        add-does a s′ υ Q =
-            let D = add-begun a in
-            let τ = Q .settled in
-            rw (Q .is ∙ noted-row (s .added) (s .added + 1) (s′ .guide .written) τ (omega arith))
-            (record {
-              rep = λ P N k R B e.
-                  let b : MayDo (add-call ins outs) s σ = record { parallelism = P; places = N; model = k; rep = R; between = B; accepted = e } in
-                  rep-add b s′ τ (goal-reached _ _ s linked σ _ D s′ τ (Q .settles) b);
-              frame =
-                  frame-trans (s .guide .p) (s .guide .v) (s .guide .written) (s′ .guide .written) (s′ .guide .written) σ τ _ (goal-frame _ _ s linked σ _ D s′ τ (Q .settles))
-                  (frame-noted (s .guide .p) (s .guide .v) (s′ .guide .written) (s .added) (s′ .guide .written) τ (omega (arith, a .rep .counted .added-is, gone a .more, a .rep .core .guided .v-is)));
-            })
+        module _ (t : ℕ) (x : List ℕ) (lx : length x ≡ length w) (L : Links w u (s .lead) ins r t x) where
+          -- what is admitted
+          abbrev linked : Admitted
+          linked = record { number = 0; lead = s .lead; added = s .added + 1; used = s .used + (length ins + length outs); delayed = s .delayed + 1; top = t }
 
-        pub add-admits : (n : ℕ) → Number (add-call ins outs) n s σ → n ≡ 0 → Asks s σ → Admits (add-call ins outs) s linked σ (with-lists σ x pool)
-        add-admits n h z q = let a = may-do (add-call ins outs) n s σ h z q in admits _ _ s linked σ _ (add-begun a) n h z refl q (add-does a)
+          module _ (a : MayDo (add-call ins outs) s σ) where
+            here : Links w (a .places) (s .lead) ins (length (a .model .adds)) t x
+            here = rw (u-is a, r-is a) at L
+
+            add-along : Along (a .parallelism) (a .places) (length (σ .pool)) (s .added) (do-add (a .parallelism) (a .places) reg (a .model)) (with-added s (length ins + length outs)) (with-lists σ x pool) t
+            add-along =
+                subst (λ (c : ℕ). Along (a .parallelism) (a .places) (length (σ .pool)) c (do-add (a .parallelism) (a .places) reg (a .model)) (with-added s (length ins + length outs)) (with-lists σ x pool) t) (sym (a .rep .counted .added-is))
+                (along-add (a .parallelism) (a .places) (length (σ .pool)) (a .model) ins outs (with-added s (length ins + length outs)) (with-lists σ w pool) (unplaced a) (a .between .sound) (a .accepted) x lx t here)
+
+            add-frame : Frame (s .guide .p) (s .guide .v) (s .guide .written) (s .guide .written) σ (with-lists σ x pool)
+            add-frame =
+                framed (a .parallelism) (a .places) (s .guide .written) (s .guide .written) s σ (with-lists σ x pool) (a .rep .core .guided .p-is) (a .rep .core .guided .v-is)
+                (frame-trans (a .parallelism) (a .places) (s .guide .written) (s .guide .written) (s .guide .written) σ (with-lists σ w pool) (with-lists σ x pool) (frame-stored a)
+                (waiting-frame (a .parallelism) (a .places) (s .guide .written) (with-lists σ w pool) x lx (links-rest w (a .places) (s .lead) ins (length (a .model .adds)) x t here)))
+
+          add-begun : MayDo (add-call ins outs) s σ → Begun (add-call ins outs) (λ P N k. do-add P N reg k) s linked σ (with-lists σ x pool)
+          add-begun a = record { along = add-along; frame = add-frame a }
+
+          add-does : MayDo (add-call ins outs) s σ → (s′ : Session) (υ : Storage) → Places s linked s′ (with-lists σ x pool) υ → Does (add-call ins outs) s s′ σ υ
+          unfolding apply-call
+          add-does a s′ υ Q =
+              let D = add-begun a in
+              let τ = Q .settled in
+              rw (Q .is ∙ noted-row (s .added) (s .added + 1) (s′ .guide .written) τ (omega arith))
+              (record {
+                rep = λ P N k R B e.
+                    let b : MayDo (add-call ins outs) s σ = record { parallelism = P; places = N; model = k; rep = R; between = B; accepted = e } in
+                    rep-add b s′ τ (goal-reached _ _ s linked σ _ D s′ τ (Q .settles) b);
+                frame =
+                    frame-trans (s .guide .p) (s .guide .v) (s .guide .written) (s′ .guide .written) (s′ .guide .written) σ τ _ (goal-frame _ _ s linked σ _ D s′ τ (Q .settles))
+                    (frame-noted (s .guide .p) (s .guide .v) (s′ .guide .written) (s .added) (s′ .guide .written) τ (omega (arith, a .rep .counted .added-is, gone a .more, a .rep .core .guided .v-is)));
+              })
+
+          pub add-admits : (n : ℕ) → Number (add-call ins outs) n s σ → n ≡ 0 → Asks s σ → Admits (add-call ins outs) s linked σ (with-lists σ x pool)
+          add-admits n h z q = let a = may-do (add-call ins outs) n s σ h z q in admits _ _ s linked σ _ (add-begun a) n h z refl q (add-does a)

@@ -9,7 +9,7 @@ use Rattle.rules.specs.Model.{Model}
 use Rattle.rules.specs.Checks.{verdict, taken}
 use Rattle.rules.specs.Calls.{Call, set, add, flush, final, answer}
 use Rattle.checking.specs.Parts.{set-checks, list-checks, state-checks, flush-checks, final-checks}
-use Rattle.checking.specs.Contracts.{ChecksSet, MayAdd, ChecksAdd}
+use Rattle.checking.specs.Contracts.{ChecksSet, MayAdd, ClaimsAdd}
 use Rattle.checking.specs.Laws.{answer-set, answer-add, answer-flush, answer-final}
 use Rattle.session.specs.declared.Session.{Session}
 use Rattle.session.specs.Storage.{Storage}
@@ -38,7 +38,7 @@ may-check u s σ eu a =
     }
 
 pub add-number : (ins outs : List ℕ) (n u added : ℕ) (s : Session) (σ : Storage) (w : List ℕ) → u ≡ s .guide .v → added ≡ s .added
-    → ChecksAdd (σ .waiting) ins outs (s .closed) u added (s .used) (length (σ .pool)) n w → Number (add ins outs) n s σ
+    → ClaimsAdd (σ .waiting) ins outs (s .closed) u added (s .used) (length (σ .pool)) n w → Number (add ins outs) n s σ
 add-number ins outs n u added s σ w eu ea c P N k R =
     let e : u ≡ N = eu ∙ R .core .guided .v-is in
     c .is (taken k) (rw e (R .core .stored .flags))
@@ -50,7 +50,7 @@ add-number ins outs n u added s σ w eu ea c P N k R =
 
 -- where it is 0, the work of add may be done
 pub may-add : (ins outs : List ℕ) (n u added : ℕ) (s : Session) (σ : Storage) (w : List ℕ) → u ≡ s .guide .v → added ≡ s .added
-    → ChecksAdd (σ .waiting) ins outs (s .closed) u added (s .used) (length (σ .pool)) n w → n ≡ 0 → Asks s σ → MayDo (add ins outs) s σ
+    → ClaimsAdd (σ .waiting) ins outs (s .closed) u added (s .used) (length (σ .pool)) n w → n ≡ 0 → Asks s σ → MayDo (add ins outs) s σ
 may-add ins outs n u added s σ w eu ea c z a = may-do (add ins outs) n s σ (add-number ins outs n u added s σ w eu ea c) z a
 
 pub flush-number : (n : ℕ) (s : Session) (σ : Storage) → n ≡ verdict (flush-checks (s .closed) (s .flushes)) → Number flush n s σ

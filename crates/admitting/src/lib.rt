@@ -110,7 +110,7 @@ pub fn admit_add(
 {
     let v = wide(s.guide.v);
     let r = wide(s.added);
-    let n = checking::check_add(waiting, ins, outs, s.closed, v, r, s.used, pool.len());
+    let n = checking::claim_add(waiting, ins, outs, s.closed, v, r, s.used, pool.len());
     if n != 0 {
         return Admitted {
             number: n,
@@ -121,7 +121,7 @@ pub fn admit_add(
             top: 0,
         };
     }
-    entering::enter(waiting, pool, ins, outs, v, r, s.used);
+    entering::store_lists(waiting, pool, ins, outs, v, r, s.used);
     let top = link_new(waiting, ins, v, s.lead, r);
     Admitted {
         number: 0,
