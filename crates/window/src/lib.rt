@@ -50,12 +50,6 @@ pub fn parallelism_of(p: u32, a: u32, b: u32, q: u32) -> u32
     b + a - q
 }
 
-fn wide(x: u16) -> u32
-    ensures { λ r. ⌜ r ≡ x ⌝ }
-{
-    x as u32
-}
-
 // The first span from `from` on that is shorter than p, else one new span.
 pub fn find_span(lens: [u16; 32], from: usize, p: u32) -> MatchedSpan
     requires { ⌜ from ≤ 32 ⌝ }
@@ -63,7 +57,7 @@ pub fn find_span(lens: [u16; 32], from: usize, p: u32) -> MatchedSpan
 {
     let mut r = MatchedSpan::New(1);
     for i in from..32 {
-        if wide(lens[i]) < p {
+        if (lens[i] as u32) < p {
             r = MatchedSpan::Existing(i);
             break;
         }
@@ -85,7 +79,7 @@ pub fn choose(first: u32, lens: [u16; 32], p: u32, has: bool, span: u32, pos: u3
         if at == 31 {
             return MatchedSpan::New(2);
         }
-        if wide(lens[at + 1]) < pos {
+        if (lens[at + 1] as u32) < pos {
             return find_span(lens, at + 2, p);
         }
         return find_span(lens, at + 1, p);

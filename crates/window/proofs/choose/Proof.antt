@@ -36,75 +36,75 @@ returns-2 c =
     let z = reach (a .span) (a .first) (s .fits .span .fits) (s .fits .first .fits) (c .before .if2 .left) (s .pre (c .before .before .if1 .taken)) in
     by-two (a .first) (a .t2) (a .p) (a .has) (a .span) (a .pos) (c .before .before .if1 .taken) (z .0) (sym (z .1 .0) ∙ c .if3 .taken)
 
-add-wide : tie.Need-add-wide
-add-wide c =
+add-if4 : tie.Need-add-if4
+add-if4 c =
     let s = c .before .before .before in
     let a = s .args in
     let z = reach (a .span) (a .first) (s .fits .span .fits) (s .fits .first .fits) (c .before .if2 .left) (s .pre (c .before .before .if1 .taken)) in
     omega arith
 
-mul-wide : tie.Need-mul-wide
-mul-wide c =
-    let s = c .before .before .before in
-    let a = s .args in
-    let z = reach (a .span) (a .first) (s .fits .span .fits) (s .fits .first .fits) (c .before .if2 .left) (s .pre (c .before .before .if1 .taken)) in
-    let ne = c .if3 .left in
-    omega arith
-
-array-read-wide : tie.Need-array-read-wide
-array-read-wide c =
+mul-if4 : tie.Need-mul-if4
+mul-if4 c =
     let s = c .before .before .before in
     let a = s .args in
     let z = reach (a .span) (a .first) (s .fits .span .fits) (s .fits .first .fits) (c .before .if2 .left) (s .pre (c .before .before .if1 .taken)) in
     let ne = c .if3 .left in
     omega arith
 
-wide-requires : tie.Need-wide-requires
-wide-requires c κs = search needs
+array-read-if4 : tie.Need-array-read-if4
+array-read-if4 c =
+    let s = c .before .before .before in
+    let a = s .args in
+    let z = reach (a .span) (a .first) (s .fits .span .fits) (s .fits .first .fits) (c .before .if2 .left) (s .pre (c .before .before .if1 .taken)) in
+    let ne = c .if3 .left in
+    omega arith
+
+cast-if4 : tie.Need-cast-if4
+cast-if4 c = search needs
 
 add-find-span : tie.Need-add-find-span
 add-find-span c =
-    let s = c .before .before .before .before .before in
+    let s = c .before .before .before .before in
     let a = s .args in
-    let z = reach (a .span) (a .first) (s .fits .span .fits) (s .fits .first .fits) (c .before .before .before .if2 .left) (s .pre (c .before .before .before .before .if1 .taken)) in
+    let z = reach (a .span) (a .first) (s .fits .span .fits) (s .fits .first .fits) (c .before .before .if2 .left) (s .pre (c .before .before .before .if1 .taken)) in
     omega arith
 
 find-span-requires : tie.Need-find-span-requires
 find-span-requires c κs =
-    let s = c .before .before .before .before .before in
+    let s = c .before .before .before .before in
     let a = s .args in
-    let z = reach (a .span) (a .first) (s .fits .span .fits) (s .fits .first .fits) (c .before .before .before .if2 .left) (s .pre (c .before .before .before .before .if1 .taken)) in
-    let ne = c .before .before .if3 .left in
+    let z = reach (a .span) (a .first) (s .fits .span .fits) (s .fits .first .fits) (c .before .before .if2 .left) (s .pre (c .before .before .before .if1 .taken)) in
+    let ne = c .before .if3 .left in
     omega arith
 
 returns-3 : tie.Need-returns-3
 returns-3 c =
-    let s = c .before .before .before .before .before .before in
-    let a = s .args in
-    let z = reach (a .span) (a .first) (s .fits .span .fits) (s .fits .first .fits) (c .before .before .before .before .if2 .left) (s .pre (c .before .before .before .before .before .if1 .taken)) in
-    by-far (a .first) (a .t2) (a .p) (a .has) (a .span) (a .pos) _ (c .find-span .result) (c .before .before .before .before .before .if1 .taken) (z .0) (λ e. c .before .before .before .if3 .left (z .1 .0 ∙ e)) (z .1 .0) (omega (arith, c .before .if4 .taken, c .before .before .wide .ensures)) (c .find-span .ensures)
-
-add-find-span-2 : tie.Need-add-find-span-2
-add-find-span-2 c =
     let s = c .before .before .before .before .before in
     let a = s .args in
     let z = reach (a .span) (a .first) (s .fits .span .fits) (s .fits .first .fits) (c .before .before .before .if2 .left) (s .pre (c .before .before .before .before .if1 .taken)) in
+    by-far (a .first) (a .t2) (a .p) (a .has) (a .span) (a .pos) _ (c .find-span .result) (c .before .before .before .before .if1 .taken) (z .0) (λ e. c .before .before .if3 .left (z .1 .0 ∙ e)) (z .1 .0) (c .before .if4 .taken) (c .find-span .ensures)
+
+add-find-span-2 : tie.Need-add-find-span-2
+add-find-span-2 c =
+    let s = c .before .before .before .before in
+    let a = s .args in
+    let z = reach (a .span) (a .first) (s .fits .span .fits) (s .fits .first .fits) (c .before .before .if2 .left) (s .pre (c .before .before .before .if1 .taken)) in
     omega arith
 
 find-span-requires-2 : tie.Need-find-span-requires-2
 find-span-requires-2 c κs =
-    let s = c .before .before .before .before .before in
+    let s = c .before .before .before .before in
     let a = s .args in
-    let z = reach (a .span) (a .first) (s .fits .span .fits) (s .fits .first .fits) (c .before .before .before .if2 .left) (s .pre (c .before .before .before .before .if1 .taken)) in
-    let ne = c .before .before .if3 .left in
+    let z = reach (a .span) (a .first) (s .fits .span .fits) (s .fits .first .fits) (c .before .before .if2 .left) (s .pre (c .before .before .before .if1 .taken)) in
+    let ne = c .before .if3 .left in
     omega arith
 
 returns-4 : tie.Need-returns-4
 returns-4 c =
-    let s = c .before .before .before .before .before .before in
+    let s = c .before .before .before .before .before in
     let a = s .args in
-    let z = reach (a .span) (a .first) (s .fits .span .fits) (s .fits .first .fits) (c .before .before .before .before .if2 .left) (s .pre (c .before .before .before .before .before .if1 .taken)) in
-    by-near (a .first) (a .t2) (a .p) (a .has) (a .span) (a .pos) _ (c .find-span2 .result) (c .before .before .before .before .before .if1 .taken) (z .0) (λ e. c .before .before .before .if3 .left (z .1 .0 ∙ e)) (z .1 .0) (omega (arith, c .before .if4 .left, c .before .before .wide .ensures)) (c .find-span2 .ensures)
+    let z = reach (a .span) (a .first) (s .fits .span .fits) (s .fits .first .fits) (c .before .before .before .if2 .left) (s .pre (c .before .before .before .before .if1 .taken)) in
+    by-near (a .first) (a .t2) (a .p) (a .has) (a .span) (a .pos) _ (c .find-span2 .result) (c .before .before .before .before .if1 .taken) (z .0) (λ e. c .before .before .if3 .left (z .1 .0 ∙ e)) (z .1 .0) (c .before .if4 .left) (c .find-span2 .ensures)
 
 returns-5 : tie.Need-returns-5
 returns-5 c = let a = c .before .args in by-none (a .first) (a .t2) (a .p) (a .has) (a .span) (a .pos) (c .if1 .left)
@@ -119,10 +119,10 @@ choose-spec =
     returns
     cast-at
     returns-2
-    add-wide
-    mul-wide
-    array-read-wide
-    wide-requires
+    add-if4
+    mul-if4
+    array-read-if4
+    cast-if4
     add-find-span
     find-span-requires
     returns-3
