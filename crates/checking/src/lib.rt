@@ -5,7 +5,7 @@ ghost use Prim.Native.Nat.{ℕ, _+_, _*_, _≤_, _<_};
 ghost use lib.ListN.{length};
 ghost use Rattle.rules.specs.Checks.{verdict};
 ghost use Rattle.checking.specs.Parts.{set-checks, place-number, list-checks, state-checks, flush-checks, final-checks};
-ghost use Rattle.checking.specs.Contracts.{ChecksSet, MayCheck, ChecksState, MayAdd, ChecksAdd, MayAdmit, AdmitsAdd, ClaimsAdd};
+ghost use Rattle.checking.specs.Contracts.{ChecksSet, MayCheck, ChecksState, MayAdd, ChecksAdd, AdmitsAdd, ClaimsAdd};
 
 // set: 7, 4, 5, 8.
 pub fn check_set(waiting: &[u64], closed: bool, v: usize, x: u64) -> u64
@@ -112,41 +112,28 @@ pub fn check_add(
     check_state(waiting, outs, v, added, used, ins.len(), room)
 }
 
-// Whether add passes all of its checks, top being the greatest of ins; then its outputs are flagged as taken, in one walk that finds a
-// repeated or a taken one. Else storage is as it was.
+// Whether add passes all of its checks; then its outputs are flagged as taken, in one walk that finds a repeated or a taken one. Else
+// storage is as it was.
 pub fn admits_add(
     waiting: &mut [u64],
     ins: &[u64],
     outs: &[u64],
-    top: u64,
     closed: bool,
     v: usize,
     added: usize,
     used: usize,
     room: usize,
 ) -> bool
-    requires { ⌜ MayAdmit (now waiting) (now ins) top v used room ⌝ }
+    requires { ⌜ MayAdd (now waiting) v used room ⌝ }
     ensures { λ r. ⌜ AdmitsAdd (now (waiting .entry)) (now (ins .entry)) (now (outs .entry)) closed v added used room r (now (waiting .exit)) ⌝ }
 {
-    if closed {
-        return false;
-    }
-    if ins.len() > 65535 {
-        return false;
-    }
-    if outs.len() > 65535 {
-        return false;
-    }
-    if top >= v as u64 {
+    if check_lists(ins, outs, closed, v) != 0 {
         return false;
     }
     if added >= v {
         return false;
     }
-    if ins.len() + outs.len() > room - used {
-        return false;
-    }
-    if lists::any_at_least(outs, v as u64) {
+    if room - used < ins.len() + outs.len() {
         return false;
     }
     lists::claim_new(outs, waiting, v)
@@ -157,17 +144,16 @@ pub fn claim_add(
     waiting: &mut [u64],
     ins: &[u64],
     outs: &[u64],
-    top: u64,
     closed: bool,
     v: usize,
     added: usize,
     used: usize,
     room: usize,
 ) -> u64
-    requires { ⌜ MayAdmit (now waiting) (now ins) top v used room ⌝ }
+    requires { ⌜ MayAdd (now waiting) v used room ⌝ }
     ensures { λ r. ⌜ ClaimsAdd (now (waiting .entry)) (now (ins .entry)) (now (outs .entry)) closed v added used room r (now (waiting .exit)) ⌝ }
 {
-    if admits_add(waiting, ins, outs, top, closed, v, added, used, room) {
+    if admits_add(waiting, ins, outs, closed, v, added, used, room) {
         return 0;
     }
     check_add(waiting, ins, outs, closed, v, added, used, room)
