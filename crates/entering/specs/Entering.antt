@@ -1,4 +1,4 @@
--- Storing an accepted registration's lists: the storage after it, what it asks, and the laws by which the functions' proofs go.
+-- Storing an accepted registration's lists: the storage after it, what it asks, and the laws by which the function's proof and its callers' go.
 -- Assumes nothing.
 use mathlib.Core.Path.{_≡_, refl, ap, _∙_}
 use mathlib.Core.List.{List, [], _∷_}
@@ -40,7 +40,7 @@ pub record Stores (w pool : List ℕ) (v r used : ℕ) (ins outs w′ pool′ : 
   pub waiting-is : w′ ≡ set w (2 * v + r) (cell used (length ins))
   pub pool-is : pool′ ≡ entered-pool pool used ins outs
 
--- what storing the lists and flagging the outputs asks
+-- what flagging the outputs and storing the lists asks
 pub record Entering (w pool : List ℕ) (v r used : ℕ) (ins outs : List ℕ) : Type 0 where
   pub inside : r < v
   pub long : 4 * v ≤ length w
@@ -61,12 +61,7 @@ module _ (w pool : List ℕ) (v r used : ℕ) (ins outs : List ℕ) where
   unfolding entered-pool
   stores p ep q x eq ex = record { waiting-is = ex; pool-is = rw (eq, ep) }
 
-  -- the outputs flagged after the lists are stored
-  pub entered : (x p : List ℕ) → Stores w pool v r used ins outs x p → (y : List ℕ) → y ≡ claimed x v outs → Entered w pool v r used ins outs y p
-  unfolding entered-waiting
-  entered x p s y ey = record { waiting-is = rw (ey, s .waiting-is); pool-is = s .pool-is }
-
-  -- or before
+  -- the outputs are flagged before that
   module _ (x : List ℕ) (ex : x ≡ claimed w v outs) where
     pub may-store-claimed : Entering w pool v r used ins outs → Storing x pool v r used ins outs
     may-store-claimed e =

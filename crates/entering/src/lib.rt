@@ -1,9 +1,7 @@
-// The lists of an accepted registration: stored behind those of the others, with the number that says where they lie, and its outputs
-// flagged as taken.
-ghost use mathlib.Core.Path.{_≡_};
-ghost use Rattle.entering.specs.Entering.{Storing, Stores, Entering, Entered};
+// The lists of an accepted registration: stored behind those of the others, with the number that says where they lie.
+ghost use Rattle.entering.specs.Entering.{Storing, Stores};
 
-// Registration r of v, whose outputs are flagged elsewhere; `used` numbers of the pool are taken.
+// Registration r of v; `used` numbers of the pool are taken.
 pub fn store_lists(
     waiting: &mut [u64],
     pool: &mut [u32],
@@ -20,21 +18,4 @@ pub fn store_lists(
     lists::store_list(pool, used, ins);
     lists::store_list(pool, used + inputs, outs);
     lists::set_cell(waiting, v, r, used, inputs);
-}
-
-// The same, with the outputs flagged.
-pub fn enter(
-    waiting: &mut [u64],
-    pool: &mut [u32],
-    ins: &[u64],
-    outs: &[u64],
-    v: usize,
-    r: usize,
-    used: usize,
-)
-    requires { ⌜ Entering (now waiting) (now pool) v r used (now ins) (now outs) ⌝ }
-    ensures { λ _. ⌜ Entered (now (waiting .entry)) (now (pool .entry)) v r used (now (ins .entry)) (now (outs .entry)) (now (waiting .exit)) (now (pool .exit)) ⌝ }
-{
-    store_lists(waiting, pool, ins, outs, v, r, used);
-    lists::claim(outs, waiting, v);
 }

@@ -2,14 +2,13 @@
 use mathlib.Core.Path.{_≡_, refl, ap, _∙_, subst}
 use mathlib.Core.List.{List, [], _∷_, _++_}
 use mathlib.Core.Bool.{Bool, true, false, _||_, or-true}
-use Prim.Native.Nat.{ℕ, _+_, _-_, _*_, _≤_, _<_, max}
+use Prim.Native.Nat.{ℕ, _+_, _-_, _≤_, _<_, max}
 use native.Mathlib.Numerals.{add-one}
 use native.Mathlib.Omega.{arith}
-use lib.ListN.{length, getD, set, take, drop, drop-of-length-le, take-append-drop}
+use lib.ListN.{length, getD, take, drop, drop-of-length-le, take-append-drop}
 use lib.Seq.{drop-cons}
 use Rattle.rules.specs.Model.{greatest}
 use Rattle.rules.specs.Checks.{any}
-use Rattle.lists.specs.Flags.{claimed}
 
 pub drop-step : (xs : List ℕ) (i : ℕ) → i < length xs → drop i xs ≡ getD xs i 0 ∷ drop (i + 1) xs
 drop-step xs i h = rw (add-one, drop-cons xs i 0)
@@ -74,12 +73,3 @@ module _ (xs : List ℕ) where
   pub greatest-ends : (m i : ℕ) → length xs ≤ i → max m (greatest (drop i xs)) ≡ m
   unfolding greatest
   greatest-ends m i h = rw (drop-none xs i h) (omega arith)
-
--- claiming: what remains from the i-th on
-pub claimed-next : (w : List ℕ) (v : ℕ) (xs : List ℕ) (i : ℕ) → i < length xs → claimed w v (drop i xs) ≡ claimed (set w (3 * v + getD xs i 0) 1) v (drop (i + 1) xs)
-unfolding claimed
-claimed-next w v xs i h = ap (claimed w v) (drop-step xs i h)
-
-pub claimed-end : (w : List ℕ) (v : ℕ) (xs : List ℕ) (i : ℕ) → length xs ≤ i → claimed w v (drop i xs) ≡ w
-unfolding claimed
-claimed-end w v xs i h = ap (claimed w v) (drop-none xs i h)

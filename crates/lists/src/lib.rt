@@ -10,7 +10,7 @@ ghost use lib.Dec.{leb};
 ghost use Rattle.rules.specs.Model.{greatest as greatest-of};
 ghost use Rattle.rules.specs.Checks.{any};
 ghost use Rattle.lists.specs.Part.{Below};
-ghost use Rattle.lists.specs.Flags.{flag-at, claimed, Flagged, Raises, Lowering, Lowers, Repeats, Unclaiming, Unclaims, Claims};
+ghost use Rattle.lists.specs.Flags.{flag-at, Flagged, Raises, Lowering, Lowers, Repeats, Unclaiming, Unclaims, Claims};
 ghost use Rattle.lists.specs.Lists.{stored, Storable, cell, start-of, inputs-of, end-of};
 
 // Whether one of xs is at least the bound.
@@ -118,19 +118,6 @@ pub fn claim_one(w: &mut [u64], v: usize, x: usize)
     ensures { λ _. ⌜ now (w .exit) ≡ set (now (w .entry)) (3 * v + x) 1 ⌝ }
 {
     w[3 * v + x] = 1;
-}
-
-// Flags each of outs as taken.
-pub fn claim(outs: &[u64], w: &mut [u64], v: usize)
-    requires { ⌜ (Below v (now outs)) × (4 * v ≤ length (now w)) ⌝ }
-    ensures { λ _. ⌜ now (w .exit) ≡ claimed (now (w .entry)) v (now (outs .entry)) ⌝ }
-{
-    let mut i = 0;
-    while i < outs.len() {
-        let x = outs[i] as usize;
-        w[3 * v + x] = 1;
-        i += 1;
-    }
 }
 
 // Takes the flags of the first n places back.
