@@ -2,4 +2,5 @@
 pub mod Replay
 pub mod Making
 pub mod Turn
+pub mod Continuing
 pub mod Running

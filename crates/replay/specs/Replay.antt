@@ -2,13 +2,13 @@
 -- Definitions only. Assumes nothing.
 use mathlib.Core.Path.{_≡_}
 use mathlib.Core.List.{List, [], _∷_, _++_}
-use mathlib.Core.Bool.{Bool, true, false}
+use mathlib.Core.Bool.{true, false}
 use mathlib.Core.Option.{Option, some, none}
-use Prim.Native.Nat.{ℕ, _+_, _*_, _/_, _≤_, _<_}
+use Prim.Native.Nat.{ℕ, _+_, _*_, _≤_, _<_}
 use lib.ListN.{length, take, drop}
 use lib.Dec.{ltb, eqb}
-use Rattle.rules.specs.Model.{Model, initial}
-use Rattle.rules.specs.Checks.{Check, Sizes, verdict, check-open}
+use Rattle.rules.specs.Model.{initial}
+use Rattle.rules.specs.Checks.{Sizes, verdict, check-open}
 use Rattle.rules.specs.Calls.{Call, run, answers}
 use Rattle.rules.specs.Encoding.{front, Front, decode}
 use Rattle.laws.specs.Demand.{Demand}
@@ -16,7 +16,9 @@ use Rattle.session.specs.declared.Session.{Session}
 use Rattle.session.specs.Storage.{Storage, Frame}
 use Rattle.session.specs.Rep.{Rep}
 use Rattle.opening.specs.Opened.{sizes}
+use Rattle.admitting.specs.declared.Admitted.{Admitted}
 use Rattle.admitting.specs.Promise.{Called}
+use Rattle.admitting.specs.Admitted.{Admits}
 
 -- the number of a replay: 15 for numbers that are no list of calls; then what opening refuses, and 2 where there is no room for the
 -- calls' numbers
@@ -54,6 +56,14 @@ pub record Made (l : List ℕ) (at n next : ℕ) (s s′ : Session) (σ σ′ : 
   pub past : at < next
   pub within : next ≤ length l
   pub called : Called call n s s′ σ σ′
+
+-- the set or add read at `at` was admitted or refused: the numbers that follow it start at `next`
+pub record AdmitsAt (l : List ℕ) (at : ℕ) (a : Admitted) (next : ℕ) (s : Session) (σ τ : Storage) : Type 0 where
+  pub call : Call
+  pub is : front (drop at l) ≡ some (record { call = call; rest = drop next l })
+  pub past : at < next
+  pub within : next ≤ length l
+  pub admits : Admits call s a σ τ
 
 -- a call starts at `at`
 pub record Readable (l : List ℕ) (at : ℕ) : Type 0 where

@@ -3,13 +3,13 @@
 use mathlib.Core.Path.{_≡_, refl, sym, ap, _∙_, subst}
 use mathlib.Core.List.{List, [], _∷_, _++_}
 use mathlib.Core.Bool.{Bool, true, false, _||_}
-use mathlib.Core.Option.{Option, some, none}
-use Prim.Native.Nat.{ℕ, _+_, _*_, _-_, _≤_, _<_}
+use mathlib.Core.Option.{some}
+use Prim.Native.Nat.{ℕ, _+_, _*_, _≤_, _<_}
 use native.Mathlib.Omega.{arith}
-use lib.Dec.{ltb, eqb}
-use lib.ListN.{length, take, set}
+use lib.Dec.{ltb}
+use lib.ListN.{length, take}
 use borrow.Author.Tests.{lt-ltb, le-ltb, eq-eqb, ne-eqb}
-use Rattle.rules.specs.Model.{Model, initial}
+use Rattle.rules.specs.Model.{initial}
 use Rattle.rules.specs.Checks.{Check, verdict, too-short, check-open, check-range}
 use Rattle.rules.specs.Calls.{Call, run, answers}
 use Rattle.rules.specs.Encoding.{decode}
@@ -20,12 +20,12 @@ use mathlib.Core.Logic.{_⊎_, inl, inr}
 use Rattle.encoding.specs.Ends.{Counts}
 use Rattle.guide.specs.Fresh.{first-guide}
 use Rattle.session.specs.declared.Session.{Session}
-use Rattle.session.specs.Storage.{Storage, storage, Frame, frame-refl, frame-trans}
+use Rattle.session.specs.Storage.{Storage, Frame, frame-refl, frame-trans}
 use Rattle.session.specs.Rep.{Rep}
-use Rattle.opening.specs.Opened.{sizes, first-session, Opens, Enough, enough-of}
-use Rattle.admitting.specs.Promise.{Asks}
-use Rattle.replay.specs.Replay.{replay-number, Ran, Replays, Exported, Made, Readable}
-use Rattle.replay.specs.Turn.{Running, running-start, running-asks, running-readable, made-few, running-turn, running-end}
+use Rattle.opening.specs.Opened.{sizes, first-session, Opens, enough-of}
+use Rattle.replay.specs.Replay.{replay-number, Ran, Replays, Exported}
+use Rattle.replay.specs.Turn.{Running, running-start, running-end}
+use Rattle.replay.specs.Continuing.{MayContinue, Onward}
 
 -- a fresh session, and numbers that are the calls `all`, for whose own numbers there is room
 pub record Starts (P N : ℕ) (all : List Call) (l : List ℕ) (s : Session) (σ : Storage) (out : List ℕ) : Type 0 where
@@ -45,38 +45,17 @@ pub record MayRun (l : List ℕ) (s : Session) (σ : Storage) (out : List ℕ) :
 pub record Runs (l : List ℕ) (s : Session) (σ : Storage) (out : List ℕ) (s′ : Session) (τ : Storage) (out′ : List ℕ) : Type 0 where
   pub ran : (P N : ℕ) (all : List Call) → Starts P N all l s σ out → Ran P N all s′ σ τ out out′
 
--- midway
-pub record Midrun (l : List ℕ) (s₀ : Session) (σ₀ : Storage) (out₀ : List ℕ) (s : Session) (σ : Storage) (out : List ℕ) (at n : ℕ) : Type 0 where
-  pub running : (P N : ℕ) (all : List Call) → Starts P N all l s₀ σ₀ out₀ → Running P N l all σ₀ out₀ s σ out at n
+module _ {l : List ℕ} {s₀ : Session} {σ₀ : Storage} {out₀ : List ℕ} where
+  begun : (P N : ℕ) (all : List Call) → Starts P N all l s₀ σ₀ out₀ → Running P N l all σ₀ out₀ s₀ σ₀ out₀ 0 0
+  begun P N all S =
+      running-start P N l all σ₀ out₀ (S .positive) (S .is) (S .room) s₀ σ₀ (S .rep)
+      (subst (λ (n : ℕ). Frame P N 0 n σ₀ σ₀) (sym (S .first)) (frame-refl P N 0 σ₀))
 
-pub midrun-begins : (l : List ℕ) (s : Session) (σ : Storage) (out : List ℕ) → Midrun l s σ out s σ out 0 0
-midrun-begins l s σ out = record {
-  running = λ P N all S.
-      running-start P N l all σ out (S .positive) (S .is) (S .room) s σ (S .rep)
-      (subst (λ (n : ℕ). Frame P N 0 n σ σ) (sym (S .first)) (frame-refl P N 0 σ));
-}
+  pub run-may : MayRun l s₀ σ₀ out₀ → MayContinue l s₀ σ₀ out₀ 0 0
+  run-may ask = record { P = ask .P; N = ask .N; all = ask .all; σ₀ = σ₀; out₀ = out₀; running = begun (ask .P) (ask .N) (ask .all) (ask .starts) }
 
-module _ (l : List ℕ) (s₀ : Session) (σ₀ : Storage) (out₀ : List ℕ) (ask : MayRun l s₀ σ₀ out₀) (s : Session) (σ : Storage) (out : List ℕ) (at n : ℕ) (M : Midrun l s₀ σ₀ out₀ s σ out at n) where
-  pub here : Running (ask .P) (ask .N) l (ask .all) σ₀ out₀ s σ out at n
-  here = M .running (ask .P) (ask .N) (ask .all) (ask .starts)
-
-  pub midrun-asks : at < length l → Asks s σ × Readable l at
-  midrun-asks h =
-      (running-asks (ask .P) (ask .N) l (ask .all) σ₀ out₀ s σ out at n here, running-readable (ask .P) (ask .N) l (ask .all) σ₀ out₀ s σ out at n here h)
-
-  module _ (h : at < length l) (s′ : Session) (σ′ : Storage) (num next : ℕ) (D : Made l at num next s s′ σ σ′) where
-    -- there is room for the call's number
-    pub midrun-room : n < length out
-    midrun-room = omega (arith, made-few (ask .P) (ask .N) l (ask .all) σ₀ out₀ s σ out at n here h s′ σ′ num next D, here .room, here .long)
-
-    pub midrun-turn : Midrun l s₀ σ₀ out₀ s′ σ′ (set out n num) next (n + 1)
-    midrun-turn = record { running = λ P N all S. running-turn P N l all σ₀ out₀ s σ out at n (M .running P N all S) h s′ σ′ num next D }
-
-    pub midrun-less : length l - next < length l - at
-    midrun-less = omega (arith, D .past, D .within)
-
-  pub midrun-ends : length l ≤ at → Runs l s₀ σ₀ out₀ s σ out
-  midrun-ends h = record { ran = λ P N all S. running-end P N l all σ₀ out₀ s σ out at n (M .running P N all S) h }
+  pub run-ends : {s : Session} {σ : Storage} {out : List ℕ} {at n : ℕ} → Onward l s₀ σ₀ out₀ 0 0 s σ out at n → length l ≤ at → Runs l s₀ σ₀ out₀ s σ out
+  run-ends {s} {σ} {out} {at} {n} O h = record { ran = λ P N all S. running-end P N l all σ₀ out₀ s σ out at n (O .running P N all σ₀ out₀ (begun P N all S)) h }
 
 -- the same from the storage before it was opened
 moved : (P N : ℕ) (cs : List Call) (s : Session) (σ τ υ : Storage) (out out′ : List ℕ) → τ .pool ≡ σ .pool → Frame P N 0 0 σ τ → Ran P N cs s τ υ out out′ → Ran P N cs s σ υ out out′
@@ -181,7 +160,7 @@ module _ (P N : ℕ) (l : List ℕ) (σ : Storage) (out : List ℕ) where
           }
 
 -- by one number
-module _ (P N : ℕ) (l : List ℕ) (n : ℕ) (s : Session) (σ τ : Storage) (out out′ : List ℕ) (R : Replays P N l n s σ τ out out′) where
+module _ {P N : ℕ} {l : List ℕ} {n : ℕ} {s : Session} {σ τ : Storage} {out out′ : List ℕ} (R : Replays P N l n s σ τ out out′) where
   pub exported-done : n ≡ 0 → Exported P N l (64 * s .guide .written) σ τ out out′
   exported-done e = record { number = n; session = s; replays = R; is = rw (eq-eqb n 0 e) }
 

@@ -2,9 +2,8 @@
 -- Assumes nothing.
 use mathlib.Core.Path.{_≡_, refl, sym, ap, _∙_, subst}
 use mathlib.Core.List.{List, [], _∷_, _++_, append-assoc}
-use mathlib.Core.Bool.{Bool, true, false}
 use mathlib.Core.Option.{Option, some, none}
-use Prim.Native.Nat.{ℕ, suc, _+_, _*_, _-_, _≤_, _<_}
+use Prim.Native.Nat.{ℕ, _+_, _≤_, _<_}
 use native.Mathlib.Omega.{arith}
 use native.Mathlib.Numerals.{add-one}
 use lib.ListN.{length, take, drop, set, length-append, length-set, length-drop, drop-of-length-le}
@@ -18,7 +17,7 @@ use Rattle.encoding.specs.Decode.{decode-none, decode-some}
 use Rattle.session.specs.declared.Session.{Session}
 use Rattle.session.specs.Storage.{Storage, Frame, frame-trans}
 use Rattle.session.specs.Rep.{Rep}
-use Rattle.admitting.specs.Promise.{Asks, Called}
+use Rattle.admitting.specs.Promise.{Asks}
 use Rattle.sorter.specs.Chain.{follows-step}
 use Rattle.replay.specs.Replay.{Ran, Made, Readable}
 
@@ -96,17 +95,23 @@ module _ (P N : ℕ) (l : List ℕ) (all : List Call) (σ₀ : Storage) (out₀ 
               absurd (omega arith)
           go (some f) e = record { inside = h; read = f; is = e }
 
+      -- the calls left begin with the one that is read
+      rest-of : (f : Front) → front (drop at l) ≡ some f → (cs : List Call) × (decode (f .rest) ≡ some cs) × (R .left ≡ f .call ∷ cs)
+      rest-of f e = before-some (f .call) (decode (f .rest)) (R .left) (sym (decode-some (drop at l) f e) ∙ R .is)
+
+      -- there is room for its number
+      few : n < length all
+      few =
+          let Q = running-readable in
+          let r = rest-of (Q .read) (Q .is) in
+          omega (arith, ap length (R .split), ap length (r .2), length-append (R .made) (R .left), R .many)
+
+      pub running-room : n < length out
+      running-room = omega (arith, few, R .room, R .long)
+
       module _ (s′ : Session) (σ′ : Storage) (num next : ℕ) (M : Made l at num next s s′ σ σ′) where
-        rest-of : (cs : List Call) × (decode (drop next l) ≡ some cs) × (R .left ≡ M .call ∷ cs)
-        rest-of =
-            before-some (M .call) (decode (drop next l)) (R .left)
-            (sym (decode-some (drop at l) (record { call = M .call; rest = drop next l }) (M .is)) ∙ R .is)
-
-        split′ : all ≡ (R .made ++ (M .call ∷ [])) ++ rest-of .0
-        split′ = R .split ∙ ap (λ x. R .made ++ x) (rest-of .2) ∙ sym (append-assoc (R .made) (M .call ∷ []) (rest-of .0))
-
-        pub made-few : n < length all
-        made-few = omega (arith, ap length split′, length-append (R .made ++ (M .call ∷ [])) (rest-of .0), length-append (R .made) (M .call ∷ []), R .many)
+        left-of : (cs : List Call) × (decode (drop next l) ≡ some cs) × (R .left ≡ M .call ∷ cs)
+        left-of = rest-of (record { call = M .call; rest = drop next l }) (M .is)
 
         stepped : (num ≡ answer N W (M .call) (run P N W (R .made) initial)) × Rep P N (step P N W (M .call) (run P N W (R .made) initial)) s′ σ′ × Between P N W (step P N W (M .call) (run P N W (R .made) initial)) × (length (σ′ .pool) ≡ W)
         stepped = follows-step P N W (R .positive) (M .call) (run P N W (R .made) initial) num s s′ σ σ′ (R .pool) (R .rep) (R .between) (M .called)
@@ -120,18 +125,18 @@ module _ (P N : ℕ) (l : List ℕ) (all : List Call) (σ₀ : Storage) (out₀ 
             record {
               positive = R .positive;
               made = R .made ++ (M .call ∷ []);
-              left = rest-of .0;
-              split = split′;
-              is = rest-of .1;
+              left = left-of .0;
+              split = R .split ∙ ap (λ x. R .made ++ x) (left-of .2) ∙ sym (append-assoc (R .made) (M .call ∷ []) (left-of .0));
+              is = left-of .1;
               many = length-append (R .made) (M .call ∷ []) ∙ omega (arith, R .many);
               rep = rw (run-last P N W (R .made) (M .call) initial) (stepped .1);
               between = rw (run-last P N W (R .made) (M .call) initial) (stepped .2);
               pool = stepped .3;
               frame = frame-trans P N 0 (s .guide .written) (s′ .guide .written) σ₀ σ σ′ (R .frame) framed;
-              told = rw (add-one n, take-suc-set out n num (omega (arith, made-few, R .room, R .long)), answers-last P N W (R .made) (M .call) initial, R .told, stepped .0);
+              told = rw (add-one n, take-suc-set out n num running-room, answers-last P N W (R .made) (M .call) initial, R .told, stepped .0);
               room = R .room;
               long = length-set out n num ∙ R .long;
-              beyond = drop-set-lt (length all) out n num made-few ∙ R .beyond;
+              beyond = drop-set-lt (length all) out n num few ∙ R .beyond;
             }
 
     -- no call is left

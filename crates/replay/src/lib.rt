@@ -4,41 +4,69 @@ ghost use Prim.Native.Nat.{ℕ, _+_, _*_, _≤_, _<_};
 ghost use lib.ListN.{length, getD};
 ghost use Rattle.session.specs.Storage.{storage};
 ghost use Rattle.admitting.specs.Promise.{Asks};
-ghost use Rattle.replay.specs.Replay.{Made, Readable, Replays, Exported};
+ghost use Rattle.replay.specs.Replay.{Made, AdmitsAt, Readable, Replays, Exported};
+ghost use Rattle.replay.specs.Continuing.{MayContinue, Continues};
 ghost use Rattle.replay.specs.Running.{MayRun, Runs};
+use admitting::Admitted;
 use session::Session;
 use sorter::Answer;
 
-// A call's number, the index past it, and the session after it.
-pub struct Step {
-    pub number: u64,
+// A set or an add admitted, and the index past it.
+pub struct Admission {
+    pub admitted: Admitted,
     pub next: usize,
-    pub session: Session,
 }
 
-// Makes the add that starts at `at`: after its tag come its inputs and its outputs, each list with its count before it.
-fn make_add(
+// The session after some calls, the index past them, and how many they are.
+pub struct Run {
+    pub session: Session,
+    pub at: usize,
+    pub made: usize,
+}
+
+// Reads the set or add that starts at `at` and admits it: after a set's tag comes its place; after an add's come its inputs and its
+// outputs, each list with its count before it.
+fn admit_call(
     s: Session,
-    spans: &mut [u32],
-    order: &mut [u32],
-    tally: &mut [u32],
-    rows: &mut [u32],
+    spans: &[u32],
+    order: &[u32],
+    tally: &[u32],
+    rows: &[u32],
     marks: &mut [u16],
-    locations: &mut [u64],
+    locations: &[u64],
     waiting: &mut [u64],
     pool: &mut [u32],
     calls: &[u64],
     at: usize,
-) -> Step
+) -> Admission
     requires { ⌜ Asks s (storage (now spans) (now order) (now tally) (now rows) (now marks) (now locations) (now waiting) (now pool)) ⌝ }
-    requires { ⌜ (Readable (now calls) at) × (getD (now calls) at 0 ≡ 2) ⌝ }
-    ensures { λ r. ⌜ Made (now (calls .entry)) at (r .number) (r .next) s (r .session) (storage (now (spans .entry)) (now (order .entry)) (now (tally .entry)) (now (rows .entry)) (now (marks .entry)) (now (locations .entry)) (now (waiting .entry)) (now (pool .entry))) (storage (now (spans .exit)) (now (order .exit)) (now (tally .exit)) (now (rows .exit)) (now (marks .exit)) (now (locations .exit)) (now (waiting .exit)) (now (pool .exit))) ⌝ }
+    requires { ⌜ (Readable (now calls) at) × (getD (now calls) at 0 ≤ 2) ⌝ }
+    ensures { λ r. ⌜ AdmitsAt (now (calls .entry)) at (r .admitted) (r .next) s (storage (now (spans .entry)) (now (order .entry)) (now (tally .entry)) (now (rows .entry)) (now (marks .entry)) (now (locations .entry)) (now (waiting .entry)) (now (pool .entry))) (storage (now (spans .entry)) (now (order .entry)) (now (tally .entry)) (now (rows .entry)) (now (marks .exit)) (now (locations .entry)) (now (waiting .exit)) (now (pool .exit))) ⌝ }
 {
-    let middle = encoding::list_end(calls, at + 1);
-    let next = encoding::list_end(calls, middle);
+    if calls[at] == 1 {
+        let x = calls[at + 1];
+        let a = admitting::admit_set(
+            s,
+            spans,
+            order,
+            tally,
+            rows,
+            marks,
+            locations,
+            waiting,
+            pool,
+            x,
+        );
+        return Admission {
+            admitted: a,
+            next: at + 2,
+        };
+    }
+    let middle = encoding::past_list(calls, at + 1);
+    let next = encoding::past_list(calls, middle);
     let ins = &calls[at + 2..middle];
     let outs = &calls[middle + 1..next];
-    let a = sorter::add(
+    let a = admitting::admit_add(
         s,
         spans,
         order,
@@ -51,11 +79,9 @@ fn make_add(
         ins,
         outs,
     );
-    let z = a.session;
-    Step {
-        number: a.number,
+    Admission {
+        admitted: a,
         next: next,
-        session: z,
     }
 }
 
@@ -72,13 +98,13 @@ fn make_end(
     pool: &mut [u32],
     calls: &[u64],
     at: usize,
-) -> Step
+) -> Answer
     requires { ⌜ Asks s (storage (now spans) (now order) (now tally) (now rows) (now marks) (now locations) (now waiting) (now pool)) ⌝ }
     requires { ⌜ (Readable (now calls) at) × ((getD (now calls) at 0 ≡ 1 → ⊥) × (getD (now calls) at 0 ≡ 2 → ⊥)) ⌝ }
-    ensures { λ r. ⌜ Made (now (calls .entry)) at (r .number) (r .next) s (r .session) (storage (now (spans .entry)) (now (order .entry)) (now (tally .entry)) (now (rows .entry)) (now (marks .entry)) (now (locations .entry)) (now (waiting .entry)) (now (pool .entry))) (storage (now (spans .exit)) (now (order .exit)) (now (tally .exit)) (now (rows .exit)) (now (marks .exit)) (now (locations .exit)) (now (waiting .exit)) (now (pool .exit))) ⌝ }
+    ensures { λ r. ⌜ Made (now (calls .entry)) at (r .number) (at + 1) s (r .session) (storage (now (spans .entry)) (now (order .entry)) (now (tally .entry)) (now (rows .entry)) (now (marks .entry)) (now (locations .entry)) (now (waiting .entry)) (now (pool .entry))) (storage (now (spans .exit)) (now (order .exit)) (now (tally .exit)) (now (rows .exit)) (now (marks .exit)) (now (locations .exit)) (now (waiting .exit)) (now (pool .exit))) ⌝ }
 {
     if calls[at] == 3 {
-        let a = sorter::flush(
+        return sorter::flush(
             s,
             spans,
             order,
@@ -89,12 +115,6 @@ fn make_end(
             waiting,
             pool,
         );
-        let z = a.session;
-        return Step {
-            number: a.number,
-            next: at + 1,
-            session: z,
-        };
     }
     let a = sorter::finish(
         s,
@@ -108,15 +128,14 @@ fn make_end(
         pool,
     );
     let z = a.session;
-    Step {
+    Answer {
         number: a.number,
-        next: at + 1,
         session: z,
     }
 }
 
-// Makes the call that starts at `at`.
-fn make_call(
+// Makes the sets and adds from `from` on, up to the first flush or final, and stores each one's number; `done` calls were made before.
+fn run_open(
     s: Session,
     spans: &mut [u32],
     order: &mut [u32],
@@ -126,38 +145,23 @@ fn make_call(
     locations: &mut [u64],
     waiting: &mut [u64],
     pool: &mut [u32],
+    answers: &mut [u64],
     calls: &[u64],
-    at: usize,
-) -> Step
-    requires { ⌜ Asks s (storage (now spans) (now order) (now tally) (now rows) (now marks) (now locations) (now waiting) (now pool)) ⌝ }
-    requires { ⌜ Readable (now calls) at ⌝ }
-    ensures { λ r. ⌜ Made (now (calls .entry)) at (r .number) (r .next) s (r .session) (storage (now (spans .entry)) (now (order .entry)) (now (tally .entry)) (now (rows .entry)) (now (marks .entry)) (now (locations .entry)) (now (waiting .entry)) (now (pool .entry))) (storage (now (spans .exit)) (now (order .exit)) (now (tally .exit)) (now (rows .exit)) (now (marks .exit)) (now (locations .exit)) (now (waiting .exit)) (now (pool .exit))) ⌝ }
+    from: usize,
+    done: usize,
+) -> Run
+    requires { ⌜ MayContinue (now calls) s (storage (now spans) (now order) (now tally) (now rows) (now marks) (now locations) (now waiting) (now pool)) (now answers) from done ⌝ }
+    ensures { λ r. ⌜ Continues (now (calls .entry)) s (storage (now (spans .entry)) (now (order .entry)) (now (tally .entry)) (now (rows .entry)) (now (marks .entry)) (now (locations .entry)) (now (waiting .entry)) (now (pool .entry))) (now (answers .entry)) from done (r .session) (storage (now (spans .exit)) (now (order .exit)) (now (tally .exit)) (now (rows .exit)) (now (marks .exit)) (now (locations .exit)) (now (waiting .exit)) (now (pool .exit))) (now (answers .exit)) (r .at) (r .made) ⌝ }
 {
-    let tag = calls[at];
-    if tag == 1 {
-        let x = calls[at + 1];
-        let a = sorter::set(
-            s,
-            spans,
-            order,
-            tally,
-            rows,
-            marks,
-            locations,
-            waiting,
-            pool,
-            x,
-        );
-        let z = a.session;
-        return Step {
-            number: a.number,
-            next: at + 2,
-            session: z,
-        };
-    }
-    if tag == 2 {
-        return make_add(
-            s,
+    let mut z = s;
+    let mut at = from;
+    let mut n = done;
+    while at < calls.len() {
+        if 2 < calls[at] {
+            break;
+        }
+        let d = admit_call(
+            z,
             spans,
             order,
             tally,
@@ -169,20 +173,30 @@ fn make_call(
             calls,
             at,
         );
+        let a = d.admitted;
+        answers[n] = a.number;
+        if a.number == 0 {
+            z = admitting::place_admitted(
+                z,
+                spans,
+                order,
+                tally,
+                rows,
+                marks,
+                locations,
+                waiting,
+                pool,
+                a,
+            );
+        }
+        at = d.next;
+        n += 1;
     }
-    make_end(
-        s,
-        spans,
-        order,
-        tally,
-        rows,
-        marks,
-        locations,
-        waiting,
-        pool,
-        calls,
-        at,
-    )
+    Run {
+        session: z,
+        at: at,
+        made: n,
+    }
 }
 
 // Makes all calls, and stores each one's number.
@@ -202,33 +216,26 @@ fn run_calls(
     requires { ⌜ MayRun (now calls) s (storage (now spans) (now order) (now tally) (now rows) (now marks) (now locations) (now waiting) (now pool)) (now answers) ⌝ }
     ensures { λ r. ⌜ Runs (now (calls .entry)) s (storage (now (spans .entry)) (now (order .entry)) (now (tally .entry)) (now (rows .entry)) (now (marks .entry)) (now (locations .entry)) (now (waiting .entry)) (now (pool .entry))) (now (answers .entry)) r (storage (now (spans .exit)) (now (order .exit)) (now (tally .exit)) (now (rows .exit)) (now (marks .exit)) (now (locations .exit)) (now (waiting .exit)) (now (pool .exit))) (now (answers .exit)) ⌝ }
 {
-    let mut z = s;
-    let mut at = 0;
-    let mut n = 0;
-    while at < calls.len() {
-        // An add, the most frequent call, has a way of its own, so that the session is copied less.
-        if calls[at] == 2 {
-            let d = make_add(
-                z,
-                spans,
-                order,
-                tally,
-                rows,
-                marks,
-                locations,
-                waiting,
-                pool,
-                calls,
-                at,
-            );
-            answers[n] = d.number;
-            z = d.session;
-            at = d.next;
-            n += 1;
-            continue;
-        }
-        let d = make_call(
-            z,
+    let mut r = run_open(
+        s,
+        spans,
+        order,
+        tally,
+        rows,
+        marks,
+        locations,
+        waiting,
+        pool,
+        answers,
+        calls,
+        0,
+        0,
+    );
+    while r.at < calls.len() {
+        let at = r.at;
+        let n = r.made;
+        let d = make_end(
+            r.session,
             spans,
             order,
             tally,
@@ -241,11 +248,23 @@ fn run_calls(
             at,
         );
         answers[n] = d.number;
-        z = d.session;
-        at = d.next;
-        n += 1;
+        r = run_open(
+            d.session,
+            spans,
+            order,
+            tally,
+            rows,
+            marks,
+            locations,
+            waiting,
+            pool,
+            answers,
+            calls,
+            at + 1,
+            n + 1,
+        );
     }
-    z
+    r.session
 }
 
 // Opens a session of parallelism p and v places on the storage and makes the encoded calls, storing each one's number in `answers`.
@@ -363,10 +382,8 @@ pub extern "C" fn replay_calls(
         p,
         v,
     );
-    let s = a.session;
-    let g = s.guide;
     if a.number == 0 {
-        return 64 * (g.written as u64);
+        return 64 * (a.session.guide.written as u64);
     }
     a.number
 }

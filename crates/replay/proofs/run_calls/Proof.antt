@@ -1,95 +1,84 @@
--- `replay::run_calls` meets its contract. Midway the calls before `at` are made and the rest is still encoded; the measure is what is left of
--- the numbers.
-use denote.Ref.{now}
-use lib.ListN.{length}
-use Prim.Native.Nat.{_-_}
-use Rattle.session.specs.Storage.{storage}
-use Rattle.replay.specs.Running.{Midrun, midrun-begins, here, midrun-asks, midrun-room, midrun-turn, midrun-less, midrun-ends}
-use borrow.Author.Needs.{needs}
+-- `replay::run_calls` meets its contract. The invariant: since the first flush or final the calls up to `r.at` are made, and a flush, a final
+-- or the end is there; the measure is what is left of the numbers.
+use mathlib.Core.Path.{_∙_}
+use lib.ListN.{length, getD}
+use Prim.Native.Nat.{_-_, _<_}
 use native.Mathlib.Omega.{arith}
+use Rattle.session.specs.Storage.{storage}
+use Rattle.replay.specs.Making.{end-tag}
+use Rattle.replay.specs.Continuing.{turned, onward-trans, onward-may, Going, going-begins, going-asks, going-readable, going-room, going-on}
+use Rattle.replay.specs.Running.{run-may, run-ends}
 use Rattle.replay.proofs.run_calls.Statement.{statement}
 use Rattle.replay.proofs.run_calls.Tie as tie
 
 abbrev Inv-loop : tie.InvT-loop
-Inv-loop spans₀ order₀ tally₀ rows₀ marks₀ locations₀ waiting₀ pool₀ answers₀ calls z₀ at₀ n₀ spans order tally rows marks locations waiting pool answers z at n = Midrun calls z₀ (storage spans₀ order₀ tally₀ rows₀ marks₀ locations₀ waiting₀ pool₀) answers₀ z (storage spans order tally rows marks locations waiting pool) answers at n
+Inv-loop spans₀ order₀ tally₀ rows₀ marks₀ locations₀ waiting₀ pool₀ answers₀ calls r₀ spans order tally rows marks locations waiting pool answers r =
+    Going calls (r₀ .session) (storage spans₀ order₀ tally₀ rows₀ marks₀ locations₀ waiting₀ pool₀) answers₀ (r₀ .at) (r₀ .made) (r .session) (storage spans order tally rows marks locations waiting pool) answers (r .at) (r .made)
+    × (r .at < length calls → 2 < getD calls (r .at) 0)
 
 abbrev μ-loop : tie.MeasureT-loop
-μ-loop spans₀ order₀ tally₀ rows₀ marks₀ locations₀ waiting₀ pool₀ answers₀ calls z₀ at₀ n₀ spans order tally rows marks locations waiting pool answers z at n = length calls - at
+μ-loop spans₀ order₀ tally₀ rows₀ marks₀ locations₀ waiting₀ pool₀ answers₀ calls r₀ spans order tally rows marks locations waiting pool answers r =
+    length calls - r .at
+
+run-open-requires : tie.Need-run-open-requires Inv-loop μ-loop
+run-open-requires c κs = run-may (c .before .before .before .before .before .before .before .before .before .before .before .before .before .before .before .before .before .before .before .pre)
 
 loop-holds : tie.Need-loop-holds Inv-loop μ-loop
-loop-holds c = let a = c .before .before .before .before .before .before .before .before .before .before .args in midrun-begins (now (a .calls)) (a .s) (storage (now (a .spans)) (now (a .order)) (now (a .tally)) (now (a .rows)) (now (a .marks)) (now (a .locations)) (now (a .waiting)) (now (a .pool))) (now (a .answers))
+loop-holds c = let u = c .before .before .before .before .before .before .before .before .before .before .before .before .before .before .before .before .before .before in let x = u .run-open .ensures in (going-begins (onward-may (x .onward) (run-may (u .before .before .before .before .before .before .before .before .before .before .before .before .before .before .before .before .before .before .before .before .pre))), x .stops)
 
-mul-if1 : tie.Need-mul-if1 Inv-loop μ-loop
-mul-if1 c = omega (arith, c .loop-test .taken, c .before .before .before .before .before .before .before .before .before .before .before .before .good)
-
-shared-slice-read-if1 : tie.Need-shared-slice-read-if1 Inv-loop μ-loop
-shared-slice-read-if1 c = c .before .loop-test .taken
-
-make-add-requires : tie.Need-make-add-requires Inv-loop μ-loop
-make-add-requires c κs = let a = c .before .before .before .before .before .before .before .before .before .before .before .before .before .before .before .before .before .before .before .before .before .before .args in let q = c .before .before .before .before .before .before .before .before .before .before .before .loop in let m = midrun-asks (now (a .calls)) (a .s) (storage (now (a .spans)) (now (a .order)) (now (a .tally)) (now (a .rows)) (now (a .marks)) (now (a .locations)) (now (a .waiting)) (now (a .pool))) (now (a .answers)) (c .before .before .before .before .before .before .before .before .before .before .before .before .before .before .before .before .before .before .before .before .before .before .pre) (q .z) (storage (q .spans) (q .order) (q .tally) (q .rows) (q .marks) (q .locations) (q .waiting) (q .pool)) (q .answers) (q .at) (q .n) (q .inv) (c .before .before .before .before .before .before .before .before .before .before .loop-test .taken) in (m .0, (m .1, c .before .before .before .before .before .before .before .before .if1 .taken))
+make-end-requires : tie.Need-make-end-requires Inv-loop μ-loop
+make-end-requires c κs = let g = c .before .before .before .before .before .before .before .before .before .before .loop .inv in let h = c .before .before .before .before .before .before .before .before .if1 .taken in (going-asks (g .0), (going-readable (g .0) h, end-tag (g .1 h)))
 
 mul-answers : tie.Need-mul-answers Inv-loop μ-loop
-mul-answers c = let a = c .before .before .before .before .before .before .before .before .before .before .before .before .before .before .before .before .before .before .before .before .before .before .before .before .before .before .before .before .before .before .before .before .before .before .before .before .before .before .before .args in let q = c .before .before .before .before .before .before .before .before .before .before .before .before .before .before .before .before .before .before .before .before .before .before .before .before .before .before .before .before .loop in let u = c .before .before .before .before .before .before .before .before .before .before .before .before .before .before .before .before .make-add in omega (arith, midrun-room (now (a .calls)) (a .s) (storage (now (a .spans)) (now (a .order)) (now (a .tally)) (now (a .rows)) (now (a .marks)) (now (a .locations)) (now (a .waiting)) (now (a .pool))) (now (a .answers)) (c .before .before .before .before .before .before .before .before .before .before .before .before .before .before .before .before .before .before .before .before .before .before .before .before .before .before .before .before .before .before .before .before .before .before .before .before .before .before .before .pre) (q .z) (storage (q .spans) (q .order) (q .tally) (q .rows) (q .marks) (q .locations) (q .waiting) (q .pool)) (q .answers) (q .at) (q .n) (q .inv) (c .before .before .before .before .before .before .before .before .before .before .before .before .before .before .before .before .before .before .before .before .before .before .before .before .before .before .before .loop-test .taken) (u .result .session) (storage (u .last .1 .0) (u .last .1 .1 .0) (u .last .1 .1 .1 .0) (u .last .1 .1 .1 .1 .0) (u .last .1 .1 .1 .1 .1 .0) (u .last .1 .1 .1 .1 .1 .1 .0) (u .last .1 .1 .1 .1 .1 .1 .1 .0) (u .last .1 .1 .1 .1 .1 .1 .1 .1 .0)) (u .result .number) (u .result .next) (u .ensures), here (now (a .calls)) (a .s) (storage (now (a .spans)) (now (a .order)) (now (a .tally)) (now (a .rows)) (now (a .marks)) (now (a .locations)) (now (a .waiting)) (now (a .pool))) (now (a .answers)) (c .before .before .before .before .before .before .before .before .before .before .before .before .before .before .before .before .before .before .before .before .before .before .before .before .before .before .before .before .before .before .before .before .before .before .before .before .before .before .before .pre) (q .z) (storage (q .spans) (q .order) (q .tally) (q .rows) (q .marks) (q .locations) (q .waiting) (q .pool)) (q .answers) (q .at) (q .n) (q .inv) .long, c .before .before .before .before .before .before .before .before .before .before .before .before .before .before .before .before .before .before .before .before .before .before .before .before .before .before .before .before .before .before .before .before .before .before .before .before .before .before .before .good)
+mul-answers c = let g = c .before .before .before .before .before .before .before .before .before .before .before .before .before .before .before .before .before .before .before .before .before .before .before .before .before .before .before .loop .inv .0 in let h = c .before .before .before .before .before .before .before .before .before .before .before .before .before .before .before .before .before .before .before .before .before .before .before .before .before .if1 .taken in omega (arith, going-room g h, g .kept .answers, c .before .before .before .before .before .before .before .before .before .before .before .before .before .before .before .before .before .before .before .before .before .before .before .before .before .before .before .before .before .before .before .before .before .before .before .before .before .before .before .before .before .before .before .before .before .before .run-open .kept .1 .1 .1 .1 .1 .1 .1 .1 .1 .0, c .before .before .before .before .before .before .before .before .before .before .before .before .before .before .before .before .before .before .before .before .before .before .before .before .before .before .before .before .before .before .before .before .before .before .before .before .before .before .before .before .before .before .before .before .before .before .before .before .before .before .before .before .before .before .before .before .before .before .before .before .before .before .before .before .before .before .good)
 
 slice-write-answers : tie.Need-slice-write-answers Inv-loop μ-loop
-slice-write-answers c = let a = c .before .before .before .before .before .before .before .before .before .before .before .before .before .before .before .before .before .before .before .before .before .before .before .before .before .before .before .before .before .before .before .before .before .before .before .before .before .before .before .args in let q = c .before .before .before .before .before .before .before .before .before .before .before .before .before .before .before .before .before .before .before .before .before .before .before .before .before .before .before .before .loop in let u = c .before .before .before .before .before .before .before .before .before .before .before .before .before .before .before .before .make-add in midrun-room (now (a .calls)) (a .s) (storage (now (a .spans)) (now (a .order)) (now (a .tally)) (now (a .rows)) (now (a .marks)) (now (a .locations)) (now (a .waiting)) (now (a .pool))) (now (a .answers)) (c .before .before .before .before .before .before .before .before .before .before .before .before .before .before .before .before .before .before .before .before .before .before .before .before .before .before .before .before .before .before .before .before .before .before .before .before .before .before .before .pre) (q .z) (storage (q .spans) (q .order) (q .tally) (q .rows) (q .marks) (q .locations) (q .waiting) (q .pool)) (q .answers) (q .at) (q .n) (q .inv) (c .before .before .before .before .before .before .before .before .before .before .before .before .before .before .before .before .before .before .before .before .before .before .before .before .before .before .before .loop-test .taken) (u .result .session) (storage (u .last .1 .0) (u .last .1 .1 .0) (u .last .1 .1 .1 .0) (u .last .1 .1 .1 .1 .0) (u .last .1 .1 .1 .1 .1 .0) (u .last .1 .1 .1 .1 .1 .1 .0) (u .last .1 .1 .1 .1 .1 .1 .1 .0) (u .last .1 .1 .1 .1 .1 .1 .1 .1 .0)) (u .result .number) (u .result .next) (u .ensures)
+slice-write-answers c = going-room (c .before .before .before .before .before .before .before .before .before .before .before .before .before .before .before .before .before .before .before .before .before .before .before .before .before .before .before .loop .inv .0) (c .before .before .before .before .before .before .before .before .before .before .before .before .before .before .before .before .before .before .before .before .before .before .before .before .before .if1 .taken)
 
-add-n : tie.Need-add-n Inv-loop μ-loop
-add-n c = let a = c .before .before .before .before .before .before .before .before .before .before .before .before .before .before .before .before .before .before .before .before .before .before .before .before .before .before .before .before .before .before .before .before .before .before .before .before .before .before .before .before .args in let q = c .before .before .before .before .before .before .before .before .before .before .before .before .before .before .before .before .before .before .before .before .before .before .before .before .before .before .before .before .before .loop in let u = c .before .before .before .before .before .before .before .before .before .before .before .before .before .before .before .before .before .make-add in omega (arith, midrun-room (now (a .calls)) (a .s) (storage (now (a .spans)) (now (a .order)) (now (a .tally)) (now (a .rows)) (now (a .marks)) (now (a .locations)) (now (a .waiting)) (now (a .pool))) (now (a .answers)) (c .before .before .before .before .before .before .before .before .before .before .before .before .before .before .before .before .before .before .before .before .before .before .before .before .before .before .before .before .before .before .before .before .before .before .before .before .before .before .before .before .pre) (q .z) (storage (q .spans) (q .order) (q .tally) (q .rows) (q .marks) (q .locations) (q .waiting) (q .pool)) (q .answers) (q .at) (q .n) (q .inv) (c .before .before .before .before .before .before .before .before .before .before .before .before .before .before .before .before .before .before .before .before .before .before .before .before .before .before .before .before .loop-test .taken) (u .result .session) (storage (u .last .1 .0) (u .last .1 .1 .0) (u .last .1 .1 .1 .0) (u .last .1 .1 .1 .1 .0) (u .last .1 .1 .1 .1 .1 .0) (u .last .1 .1 .1 .1 .1 .1 .0) (u .last .1 .1 .1 .1 .1 .1 .1 .0) (u .last .1 .1 .1 .1 .1 .1 .1 .1 .0)) (u .result .number) (u .result .next) (u .ensures), here (now (a .calls)) (a .s) (storage (now (a .spans)) (now (a .order)) (now (a .tally)) (now (a .rows)) (now (a .marks)) (now (a .locations)) (now (a .waiting)) (now (a .pool))) (now (a .answers)) (c .before .before .before .before .before .before .before .before .before .before .before .before .before .before .before .before .before .before .before .before .before .before .before .before .before .before .before .before .before .before .before .before .before .before .before .before .before .before .before .before .pre) (q .z) (storage (q .spans) (q .order) (q .tally) (q .rows) (q .marks) (q .locations) (q .waiting) (q .pool)) (q .answers) (q .at) (q .n) (q .inv) .long, c .before .before .before .before .before .before .before .before .before .before .before .before .before .before .before .before .before .before .before .before .before .before .before .before .before .before .before .before .before .before .before .before .before .before .before .before .before .before .before .before .good)
+add-run-open : tie.Need-add-run-open Inv-loop μ-loop
+add-run-open c = omega (arith, c .before .before .before .before .before .before .before .before .before .before .before .before .before .before .before .before .before .before .before .before .before .before .before .before .before .before .before .before .before .before .before .before .before .before .if1 .taken, c .before .before .before .before .before .before .before .before .before .before .before .before .before .before .before .before .before .before .before .before .before .before .before .before .before .before .before .before .before .before .before .before .before .before .before .before .before .before .before .before .before .before .before .before .before .before .before .before .before .before .before .before .before .before .before .before .before .before .before .before .before .before .before .before .before .before .before .before .before .before .before .before .before .before .before .good)
+
+add-run-open-2 : tie.Need-add-run-open-2 Inv-loop μ-loop
+add-run-open-2 c = let g = c .before .before .before .before .before .before .before .before .before .before .before .before .before .before .before .before .before .before .before .before .before .before .before .before .before .before .before .before .before .before .before .before .before .before .before .before .loop .inv .0 in let h = c .before .before .before .before .before .before .before .before .before .before .before .before .before .before .before .before .before .before .before .before .before .before .before .before .before .before .before .before .before .before .before .before .before .before .if1 .taken in omega (arith, going-room g h, g .kept .answers, c .before .before .before .before .before .before .before .before .before .before .before .before .before .before .before .before .before .before .before .before .before .before .before .before .before .before .before .before .before .before .before .before .before .before .before .before .before .before .before .before .before .before .before .before .before .before .before .before .before .before .before .before .before .before .before .run-open .kept .1 .1 .1 .1 .1 .1 .1 .1 .1 .0, c .before .before .before .before .before .before .before .before .before .before .before .before .before .before .before .before .before .before .before .before .before .before .before .before .before .before .before .before .before .before .before .before .before .before .before .before .before .before .before .before .before .before .before .before .before .before .before .before .before .before .before .before .before .before .before .before .before .before .before .before .before .before .before .before .before .before .before .before .before .before .before .before .before .before .before .good)
+
+run-open-requires-2 : tie.Need-run-open-requires-2 Inv-loop μ-loop
+run-open-requires-2 c κs = let g = c .before .before .before .before .before .before .before .before .before .before .before .before .before .before .before .before .before .before .before .before .before .before .before .before .before .before .before .before .before .before .before .before .before .before .before .before .loop .inv .0 in let h = c .before .before .before .before .before .before .before .before .before .before .before .before .before .before .before .before .before .before .before .before .before .before .before .before .before .before .before .before .before .before .before .before .before .before .if1 .taken in going-on g (turned h (c .before .before .before .before .before .before .before .before .before .before .before .before .before .before .before .before .before .before .before .before .before .before .before .before .before .make-end .ensures)) .may
 
 loop-less : tie.Need-loop-less Inv-loop μ-loop
-loop-less c = let a = c .before .before .before .before .before .before .before .before .before .before .before .before .before .before .before .before .before .before .before .before .before .before .before .before .before .before .before .before .before .before .before .before .before .before .before .before .before .before .before .before .args in let q = c .before .before .before .before .before .before .before .before .before .before .before .before .before .before .before .before .before .before .before .before .before .before .before .before .before .before .before .before .before .loop in let u = c .before .before .before .before .before .before .before .before .before .before .before .before .before .before .before .before .before .make-add in midrun-less (now (a .calls)) (a .s) (storage (now (a .spans)) (now (a .order)) (now (a .tally)) (now (a .rows)) (now (a .marks)) (now (a .locations)) (now (a .waiting)) (now (a .pool))) (now (a .answers)) (c .before .before .before .before .before .before .before .before .before .before .before .before .before .before .before .before .before .before .before .before .before .before .before .before .before .before .before .before .before .before .before .before .before .before .before .before .before .before .before .before .pre) (q .z) (storage (q .spans) (q .order) (q .tally) (q .rows) (q .marks) (q .locations) (q .waiting) (q .pool)) (q .answers) (q .at) (q .n) (q .inv) (c .before .before .before .before .before .before .before .before .before .before .before .before .before .before .before .before .before .before .before .before .before .before .before .before .before .before .before .before .loop-test .taken) (u .result .session) (storage (u .last .1 .0) (u .last .1 .1 .0) (u .last .1 .1 .1 .0) (u .last .1 .1 .1 .1 .0) (u .last .1 .1 .1 .1 .1 .0) (u .last .1 .1 .1 .1 .1 .1 .0) (u .last .1 .1 .1 .1 .1 .1 .1 .0) (u .last .1 .1 .1 .1 .1 .1 .1 .1 .0)) (u .result .number) (u .result .next) (u .ensures)
+loop-less c = omega (arith, c .before .before .before .before .before .before .before .before .before .before .before .before .before .before .before .before .before .before .before .before .before .before .before .before .before .before .before .before .before .before .before .before .before .before .before .before .before .before .before .before .before .before .before .before .before .before .before .before .before .before .before .before .before .if1 .taken, c .before .before .before .before .before .before .before .before .before .before .before .before .before .before .before .before .before .before .run-open2 .ensures .onward .upto)
 
 loop-again : tie.Need-loop-again Inv-loop μ-loop
-loop-again c = let a = c .before .before .before .before .before .before .before .before .before .before .before .before .before .before .before .before .before .before .before .before .before .before .before .before .before .before .before .before .before .before .before .before .before .before .before .before .before .before .before .before .args in let q = c .before .before .before .before .before .before .before .before .before .before .before .before .before .before .before .before .before .before .before .before .before .before .before .before .before .before .before .before .before .loop in let u = c .before .before .before .before .before .before .before .before .before .before .before .before .before .before .before .before .before .make-add in midrun-turn (now (a .calls)) (a .s) (storage (now (a .spans)) (now (a .order)) (now (a .tally)) (now (a .rows)) (now (a .marks)) (now (a .locations)) (now (a .waiting)) (now (a .pool))) (now (a .answers)) (c .before .before .before .before .before .before .before .before .before .before .before .before .before .before .before .before .before .before .before .before .before .before .before .before .before .before .before .before .before .before .before .before .before .before .before .before .before .before .before .before .pre) (q .z) (storage (q .spans) (q .order) (q .tally) (q .rows) (q .marks) (q .locations) (q .waiting) (q .pool)) (q .answers) (q .at) (q .n) (q .inv) (c .before .before .before .before .before .before .before .before .before .before .before .before .before .before .before .before .before .before .before .before .before .before .before .before .before .before .before .before .loop-test .taken) (u .result .session) (storage (u .last .1 .0) (u .last .1 .1 .0) (u .last .1 .1 .1 .0) (u .last .1 .1 .1 .1 .0) (u .last .1 .1 .1 .1 .1 .0) (u .last .1 .1 .1 .1 .1 .1 .0) (u .last .1 .1 .1 .1 .1 .1 .1 .0) (u .last .1 .1 .1 .1 .1 .1 .1 .1 .0)) (u .result .number) (u .result .next) (u .ensures)
-
-make-call-requires : tie.Need-make-call-requires Inv-loop μ-loop
-make-call-requires c κs = let a = c .before .before .before .before .before .before .before .before .before .before .before .before .before .before .before .before .before .before .before .before .before .before .args in let q = c .before .before .before .before .before .before .before .before .before .before .before .loop in midrun-asks (now (a .calls)) (a .s) (storage (now (a .spans)) (now (a .order)) (now (a .tally)) (now (a .rows)) (now (a .marks)) (now (a .locations)) (now (a .waiting)) (now (a .pool))) (now (a .answers)) (c .before .before .before .before .before .before .before .before .before .before .before .before .before .before .before .before .before .before .before .before .before .before .pre) (q .z) (storage (q .spans) (q .order) (q .tally) (q .rows) (q .marks) (q .locations) (q .waiting) (q .pool)) (q .answers) (q .at) (q .n) (q .inv) (c .before .before .before .before .before .before .before .before .before .before .loop-test .taken)
-
-mul-answers-2 : tie.Need-mul-answers-2 Inv-loop μ-loop
-mul-answers-2 c = let a = c .before .before .before .before .before .before .before .before .before .before .before .before .before .before .before .before .before .before .before .before .before .before .before .before .before .before .before .before .before .before .before .before .before .before .before .before .before .before .before .args in let q = c .before .before .before .before .before .before .before .before .before .before .before .before .before .before .before .before .before .before .before .before .before .before .before .before .before .before .before .before .loop in let u = c .before .before .before .before .before .before .before .before .before .before .before .before .before .before .before .before .make-call in omega (arith, midrun-room (now (a .calls)) (a .s) (storage (now (a .spans)) (now (a .order)) (now (a .tally)) (now (a .rows)) (now (a .marks)) (now (a .locations)) (now (a .waiting)) (now (a .pool))) (now (a .answers)) (c .before .before .before .before .before .before .before .before .before .before .before .before .before .before .before .before .before .before .before .before .before .before .before .before .before .before .before .before .before .before .before .before .before .before .before .before .before .before .before .pre) (q .z) (storage (q .spans) (q .order) (q .tally) (q .rows) (q .marks) (q .locations) (q .waiting) (q .pool)) (q .answers) (q .at) (q .n) (q .inv) (c .before .before .before .before .before .before .before .before .before .before .before .before .before .before .before .before .before .before .before .before .before .before .before .before .before .before .before .loop-test .taken) (u .result .session) (storage (u .last .1 .0) (u .last .1 .1 .0) (u .last .1 .1 .1 .0) (u .last .1 .1 .1 .1 .0) (u .last .1 .1 .1 .1 .1 .0) (u .last .1 .1 .1 .1 .1 .1 .0) (u .last .1 .1 .1 .1 .1 .1 .1 .0) (u .last .1 .1 .1 .1 .1 .1 .1 .1 .0)) (u .result .number) (u .result .next) (u .ensures), here (now (a .calls)) (a .s) (storage (now (a .spans)) (now (a .order)) (now (a .tally)) (now (a .rows)) (now (a .marks)) (now (a .locations)) (now (a .waiting)) (now (a .pool))) (now (a .answers)) (c .before .before .before .before .before .before .before .before .before .before .before .before .before .before .before .before .before .before .before .before .before .before .before .before .before .before .before .before .before .before .before .before .before .before .before .before .before .before .before .pre) (q .z) (storage (q .spans) (q .order) (q .tally) (q .rows) (q .marks) (q .locations) (q .waiting) (q .pool)) (q .answers) (q .at) (q .n) (q .inv) .long, c .before .before .before .before .before .before .before .before .before .before .before .before .before .before .before .before .before .before .before .before .before .before .before .before .before .before .before .before .before .before .before .before .before .before .before .before .before .before .before .good)
-
-slice-write-answers-2 : tie.Need-slice-write-answers-2 Inv-loop μ-loop
-slice-write-answers-2 c = let a = c .before .before .before .before .before .before .before .before .before .before .before .before .before .before .before .before .before .before .before .before .before .before .before .before .before .before .before .before .before .before .before .before .before .before .before .before .before .before .before .args in let q = c .before .before .before .before .before .before .before .before .before .before .before .before .before .before .before .before .before .before .before .before .before .before .before .before .before .before .before .before .loop in let u = c .before .before .before .before .before .before .before .before .before .before .before .before .before .before .before .before .make-call in midrun-room (now (a .calls)) (a .s) (storage (now (a .spans)) (now (a .order)) (now (a .tally)) (now (a .rows)) (now (a .marks)) (now (a .locations)) (now (a .waiting)) (now (a .pool))) (now (a .answers)) (c .before .before .before .before .before .before .before .before .before .before .before .before .before .before .before .before .before .before .before .before .before .before .before .before .before .before .before .before .before .before .before .before .before .before .before .before .before .before .before .pre) (q .z) (storage (q .spans) (q .order) (q .tally) (q .rows) (q .marks) (q .locations) (q .waiting) (q .pool)) (q .answers) (q .at) (q .n) (q .inv) (c .before .before .before .before .before .before .before .before .before .before .before .before .before .before .before .before .before .before .before .before .before .before .before .before .before .before .before .loop-test .taken) (u .result .session) (storage (u .last .1 .0) (u .last .1 .1 .0) (u .last .1 .1 .1 .0) (u .last .1 .1 .1 .1 .0) (u .last .1 .1 .1 .1 .1 .0) (u .last .1 .1 .1 .1 .1 .1 .0) (u .last .1 .1 .1 .1 .1 .1 .1 .0) (u .last .1 .1 .1 .1 .1 .1 .1 .1 .0)) (u .result .number) (u .result .next) (u .ensures)
-
-add-n-2 : tie.Need-add-n-2 Inv-loop μ-loop
-add-n-2 c = let a = c .before .before .before .before .before .before .before .before .before .before .before .before .before .before .before .before .before .before .before .before .before .before .before .before .before .before .before .before .before .before .before .before .before .before .before .before .before .before .before .before .args in let q = c .before .before .before .before .before .before .before .before .before .before .before .before .before .before .before .before .before .before .before .before .before .before .before .before .before .before .before .before .before .loop in let u = c .before .before .before .before .before .before .before .before .before .before .before .before .before .before .before .before .before .make-call in omega (arith, midrun-room (now (a .calls)) (a .s) (storage (now (a .spans)) (now (a .order)) (now (a .tally)) (now (a .rows)) (now (a .marks)) (now (a .locations)) (now (a .waiting)) (now (a .pool))) (now (a .answers)) (c .before .before .before .before .before .before .before .before .before .before .before .before .before .before .before .before .before .before .before .before .before .before .before .before .before .before .before .before .before .before .before .before .before .before .before .before .before .before .before .before .pre) (q .z) (storage (q .spans) (q .order) (q .tally) (q .rows) (q .marks) (q .locations) (q .waiting) (q .pool)) (q .answers) (q .at) (q .n) (q .inv) (c .before .before .before .before .before .before .before .before .before .before .before .before .before .before .before .before .before .before .before .before .before .before .before .before .before .before .before .before .loop-test .taken) (u .result .session) (storage (u .last .1 .0) (u .last .1 .1 .0) (u .last .1 .1 .1 .0) (u .last .1 .1 .1 .1 .0) (u .last .1 .1 .1 .1 .1 .0) (u .last .1 .1 .1 .1 .1 .1 .0) (u .last .1 .1 .1 .1 .1 .1 .1 .0) (u .last .1 .1 .1 .1 .1 .1 .1 .1 .0)) (u .result .number) (u .result .next) (u .ensures), here (now (a .calls)) (a .s) (storage (now (a .spans)) (now (a .order)) (now (a .tally)) (now (a .rows)) (now (a .marks)) (now (a .locations)) (now (a .waiting)) (now (a .pool))) (now (a .answers)) (c .before .before .before .before .before .before .before .before .before .before .before .before .before .before .before .before .before .before .before .before .before .before .before .before .before .before .before .before .before .before .before .before .before .before .before .before .before .before .before .before .pre) (q .z) (storage (q .spans) (q .order) (q .tally) (q .rows) (q .marks) (q .locations) (q .waiting) (q .pool)) (q .answers) (q .at) (q .n) (q .inv) .long, c .before .before .before .before .before .before .before .before .before .before .before .before .before .before .before .before .before .before .before .before .before .before .before .before .before .before .before .before .before .before .before .before .before .before .before .before .before .before .before .before .good)
-
-loop-less-2 : tie.Need-loop-less-2 Inv-loop μ-loop
-loop-less-2 c = let a = c .before .before .before .before .before .before .before .before .before .before .before .before .before .before .before .before .before .before .before .before .before .before .before .before .before .before .before .before .before .before .before .before .before .before .before .before .before .before .before .before .args in let q = c .before .before .before .before .before .before .before .before .before .before .before .before .before .before .before .before .before .before .before .before .before .before .before .before .before .before .before .before .before .loop in let u = c .before .before .before .before .before .before .before .before .before .before .before .before .before .before .before .before .before .make-call in midrun-less (now (a .calls)) (a .s) (storage (now (a .spans)) (now (a .order)) (now (a .tally)) (now (a .rows)) (now (a .marks)) (now (a .locations)) (now (a .waiting)) (now (a .pool))) (now (a .answers)) (c .before .before .before .before .before .before .before .before .before .before .before .before .before .before .before .before .before .before .before .before .before .before .before .before .before .before .before .before .before .before .before .before .before .before .before .before .before .before .before .before .pre) (q .z) (storage (q .spans) (q .order) (q .tally) (q .rows) (q .marks) (q .locations) (q .waiting) (q .pool)) (q .answers) (q .at) (q .n) (q .inv) (c .before .before .before .before .before .before .before .before .before .before .before .before .before .before .before .before .before .before .before .before .before .before .before .before .before .before .before .before .loop-test .taken) (u .result .session) (storage (u .last .1 .0) (u .last .1 .1 .0) (u .last .1 .1 .1 .0) (u .last .1 .1 .1 .1 .0) (u .last .1 .1 .1 .1 .1 .0) (u .last .1 .1 .1 .1 .1 .1 .0) (u .last .1 .1 .1 .1 .1 .1 .1 .0) (u .last .1 .1 .1 .1 .1 .1 .1 .1 .0)) (u .result .number) (u .result .next) (u .ensures)
-
-loop-again-2 : tie.Need-loop-again-2 Inv-loop μ-loop
-loop-again-2 c = let a = c .before .before .before .before .before .before .before .before .before .before .before .before .before .before .before .before .before .before .before .before .before .before .before .before .before .before .before .before .before .before .before .before .before .before .before .before .before .before .before .before .args in let q = c .before .before .before .before .before .before .before .before .before .before .before .before .before .before .before .before .before .before .before .before .before .before .before .before .before .before .before .before .before .loop in let u = c .before .before .before .before .before .before .before .before .before .before .before .before .before .before .before .before .before .make-call in midrun-turn (now (a .calls)) (a .s) (storage (now (a .spans)) (now (a .order)) (now (a .tally)) (now (a .rows)) (now (a .marks)) (now (a .locations)) (now (a .waiting)) (now (a .pool))) (now (a .answers)) (c .before .before .before .before .before .before .before .before .before .before .before .before .before .before .before .before .before .before .before .before .before .before .before .before .before .before .before .before .before .before .before .before .before .before .before .before .before .before .before .before .pre) (q .z) (storage (q .spans) (q .order) (q .tally) (q .rows) (q .marks) (q .locations) (q .waiting) (q .pool)) (q .answers) (q .at) (q .n) (q .inv) (c .before .before .before .before .before .before .before .before .before .before .before .before .before .before .before .before .before .before .before .before .before .before .before .before .before .before .before .before .loop-test .taken) (u .result .session) (storage (u .last .1 .0) (u .last .1 .1 .0) (u .last .1 .1 .1 .0) (u .last .1 .1 .1 .1 .0) (u .last .1 .1 .1 .1 .1 .0) (u .last .1 .1 .1 .1 .1 .1 .0) (u .last .1 .1 .1 .1 .1 .1 .1 .0) (u .last .1 .1 .1 .1 .1 .1 .1 .1 .0)) (u .result .number) (u .result .next) (u .ensures)
+loop-again c = let g = c .before .before .before .before .before .before .before .before .before .before .before .before .before .before .before .before .before .before .before .before .before .before .before .before .before .before .before .before .before .before .before .before .before .before .before .before .before .before .before .before .before .before .before .before .before .before .before .before .before .before .before .before .before .before .before .loop .inv .0 in let h = c .before .before .before .before .before .before .before .before .before .before .before .before .before .before .before .before .before .before .before .before .before .before .before .before .before .before .before .before .before .before .before .before .before .before .before .before .before .before .before .before .before .before .before .before .before .before .before .before .before .before .before .before .before .if1 .taken in let x = c .before .before .before .before .before .before .before .before .before .before .before .before .before .before .before .before .before .before .run-open2 .ensures in (going-on (going-on g (turned h (c .before .before .before .before .before .before .before .before .before .before .before .before .before .before .before .before .before .before .before .before .before .before .before .before .before .before .before .before .before .before .before .before .before .before .before .before .before .before .before .before .before .before .before .before .make-end .ensures))) (x .onward), x .stops)
 
 same-length : tie.Need-same-length Inv-loop μ-loop
-same-length c = let a = c .before .before .before .before .before .before .before .before .before .before .before .before .args in let q = c .before .loop in here (now (a .calls)) (a .s) (storage (now (a .spans)) (now (a .order)) (now (a .tally)) (now (a .rows)) (now (a .marks)) (now (a .locations)) (now (a .waiting)) (now (a .pool))) (now (a .answers)) (c .before .before .before .before .before .before .before .before .before .before .before .before .pre) (q .z) (storage (q .spans) (q .order) (q .tally) (q .rows) (q .marks) (q .locations) (q .waiting) (q .pool)) (q .answers) (q .at) (q .n) (q .inv) .frame .spans .long
+same-length c = c .before .before .before .loop .inv .0 .kept .spans ∙ c .before .before .before .before .before .before .before .before .before .before .before .before .before .before .before .before .before .before .before .before .before .before .run-open .kept .1 .0
 
 same-length-2 : tie.Need-same-length-2 Inv-loop μ-loop
-same-length-2 c = let a = c .before .before .before .before .before .before .before .before .before .before .before .before .args in let q = c .before .loop in here (now (a .calls)) (a .s) (storage (now (a .spans)) (now (a .order)) (now (a .tally)) (now (a .rows)) (now (a .marks)) (now (a .locations)) (now (a .waiting)) (now (a .pool))) (now (a .answers)) (c .before .before .before .before .before .before .before .before .before .before .before .before .pre) (q .z) (storage (q .spans) (q .order) (q .tally) (q .rows) (q .marks) (q .locations) (q .waiting) (q .pool)) (q .answers) (q .at) (q .n) (q .inv) .frame .order .long
+same-length-2 c = c .before .before .before .loop .inv .0 .kept .order ∙ c .before .before .before .before .before .before .before .before .before .before .before .before .before .before .before .before .before .before .before .before .before .before .run-open .kept .1 .1 .0
 
 same-length-3 : tie.Need-same-length-3 Inv-loop μ-loop
-same-length-3 c = let a = c .before .before .before .before .before .before .before .before .before .before .before .before .args in let q = c .before .loop in here (now (a .calls)) (a .s) (storage (now (a .spans)) (now (a .order)) (now (a .tally)) (now (a .rows)) (now (a .marks)) (now (a .locations)) (now (a .waiting)) (now (a .pool))) (now (a .answers)) (c .before .before .before .before .before .before .before .before .before .before .before .before .pre) (q .z) (storage (q .spans) (q .order) (q .tally) (q .rows) (q .marks) (q .locations) (q .waiting) (q .pool)) (q .answers) (q .at) (q .n) (q .inv) .frame .tally .long
+same-length-3 c = c .before .before .before .loop .inv .0 .kept .tally ∙ c .before .before .before .before .before .before .before .before .before .before .before .before .before .before .before .before .before .before .before .before .before .before .run-open .kept .1 .1 .1 .0
 
 same-length-4 : tie.Need-same-length-4 Inv-loop μ-loop
-same-length-4 c = let a = c .before .before .before .before .before .before .before .before .before .before .before .before .args in let q = c .before .loop in here (now (a .calls)) (a .s) (storage (now (a .spans)) (now (a .order)) (now (a .tally)) (now (a .rows)) (now (a .marks)) (now (a .locations)) (now (a .waiting)) (now (a .pool))) (now (a .answers)) (c .before .before .before .before .before .before .before .before .before .before .before .before .pre) (q .z) (storage (q .spans) (q .order) (q .tally) (q .rows) (q .marks) (q .locations) (q .waiting) (q .pool)) (q .answers) (q .at) (q .n) (q .inv) .frame .rows .long
+same-length-4 c = c .before .before .before .loop .inv .0 .kept .rows ∙ c .before .before .before .before .before .before .before .before .before .before .before .before .before .before .before .before .before .before .before .before .before .before .run-open .kept .1 .1 .1 .1 .0
 
 same-length-5 : tie.Need-same-length-5 Inv-loop μ-loop
-same-length-5 c = let a = c .before .before .before .before .before .before .before .before .before .before .before .before .args in let q = c .before .loop in here (now (a .calls)) (a .s) (storage (now (a .spans)) (now (a .order)) (now (a .tally)) (now (a .rows)) (now (a .marks)) (now (a .locations)) (now (a .waiting)) (now (a .pool))) (now (a .answers)) (c .before .before .before .before .before .before .before .before .before .before .before .before .pre) (q .z) (storage (q .spans) (q .order) (q .tally) (q .rows) (q .marks) (q .locations) (q .waiting) (q .pool)) (q .answers) (q .at) (q .n) (q .inv) .frame .marks .long
+same-length-5 c = c .before .before .before .loop .inv .0 .kept .marks ∙ c .before .before .before .before .before .before .before .before .before .before .before .before .before .before .before .before .before .before .before .before .before .before .run-open .kept .1 .1 .1 .1 .1 .0
 
 same-length-6 : tie.Need-same-length-6 Inv-loop μ-loop
-same-length-6 c = let a = c .before .before .before .before .before .before .before .before .before .before .before .before .args in let q = c .before .loop in here (now (a .calls)) (a .s) (storage (now (a .spans)) (now (a .order)) (now (a .tally)) (now (a .rows)) (now (a .marks)) (now (a .locations)) (now (a .waiting)) (now (a .pool))) (now (a .answers)) (c .before .before .before .before .before .before .before .before .before .before .before .before .pre) (q .z) (storage (q .spans) (q .order) (q .tally) (q .rows) (q .marks) (q .locations) (q .waiting) (q .pool)) (q .answers) (q .at) (q .n) (q .inv) .frame .locations .long
+same-length-6 c = c .before .before .before .loop .inv .0 .kept .locations ∙ c .before .before .before .before .before .before .before .before .before .before .before .before .before .before .before .before .before .before .before .before .before .before .run-open .kept .1 .1 .1 .1 .1 .1 .0
 
 same-length-7 : tie.Need-same-length-7 Inv-loop μ-loop
-same-length-7 c = let a = c .before .before .before .before .before .before .before .before .before .before .before .before .args in let q = c .before .loop in here (now (a .calls)) (a .s) (storage (now (a .spans)) (now (a .order)) (now (a .tally)) (now (a .rows)) (now (a .marks)) (now (a .locations)) (now (a .waiting)) (now (a .pool))) (now (a .answers)) (c .before .before .before .before .before .before .before .before .before .before .before .before .pre) (q .z) (storage (q .spans) (q .order) (q .tally) (q .rows) (q .marks) (q .locations) (q .waiting) (q .pool)) (q .answers) (q .at) (q .n) (q .inv) .frame .waiting .long
+same-length-7 c = c .before .before .before .loop .inv .0 .kept .waiting ∙ c .before .before .before .before .before .before .before .before .before .before .before .before .before .before .before .before .before .before .before .before .before .before .run-open .kept .1 .1 .1 .1 .1 .1 .1 .0
 
 same-length-8 : tie.Need-same-length-8 Inv-loop μ-loop
-same-length-8 c = let a = c .before .before .before .before .before .before .before .before .before .before .before .before .args in let q = c .before .loop in here (now (a .calls)) (a .s) (storage (now (a .spans)) (now (a .order)) (now (a .tally)) (now (a .rows)) (now (a .marks)) (now (a .locations)) (now (a .waiting)) (now (a .pool))) (now (a .answers)) (c .before .before .before .before .before .before .before .before .before .before .before .before .pre) (q .z) (storage (q .spans) (q .order) (q .tally) (q .rows) (q .marks) (q .locations) (q .waiting) (q .pool)) (q .answers) (q .at) (q .n) (q .inv) .frame .pool
+same-length-8 c = c .before .before .before .loop .inv .0 .kept .pool ∙ c .before .before .before .before .before .before .before .before .before .before .before .before .before .before .before .before .before .before .before .before .before .before .run-open .kept .1 .1 .1 .1 .1 .1 .1 .1 .0
 
 same-length-9 : tie.Need-same-length-9 Inv-loop μ-loop
-same-length-9 c = let a = c .before .before .before .before .before .before .before .before .before .before .before .before .args in let q = c .before .loop in here (now (a .calls)) (a .s) (storage (now (a .spans)) (now (a .order)) (now (a .tally)) (now (a .rows)) (now (a .marks)) (now (a .locations)) (now (a .waiting)) (now (a .pool))) (now (a .answers)) (c .before .before .before .before .before .before .before .before .before .before .before .before .pre) (q .z) (storage (q .spans) (q .order) (q .tally) (q .rows) (q .marks) (q .locations) (q .waiting) (q .pool)) (q .answers) (q .at) (q .n) (q .inv) .long
+same-length-9 c = c .before .before .before .loop .inv .0 .kept .answers ∙ c .before .before .before .before .before .before .before .before .before .before .before .before .before .before .before .before .before .before .before .before .before .before .run-open .kept .1 .1 .1 .1 .1 .1 .1 .1 .1 .0
 
 returns : tie.Need-returns Inv-loop μ-loop
-returns c = let a = c .before .before .before .before .before .before .before .before .before .before .before .before .args in let q = c .before .loop in midrun-ends (now (a .calls)) (a .s) (storage (now (a .spans)) (now (a .order)) (now (a .tally)) (now (a .rows)) (now (a .marks)) (now (a .locations)) (now (a .waiting)) (now (a .pool))) (now (a .answers)) (c .before .before .before .before .before .before .before .before .before .before .before .before .pre) (q .z) (storage (q .spans) (q .order) (q .tally) (q .rows) (q .marks) (q .locations) (q .waiting) (q .pool)) (q .answers) (q .at) (q .n) (q .inv) (c .loop-test .left)
+returns c = let t = c .before .before .before in run-ends (onward-trans (t .before .before .before .before .before .before .before .before .before .before .before .before .before .before .before .before .before .before .before .run-open .ensures .onward) (t .loop .inv .0 .onward)) (c .before .if1 .left)
 
 pub run-calls-spec : {M : Type 1} → statement M
 run-calls-spec =
@@ -97,21 +86,16 @@ run-calls-spec =
     (tie.spec
     Inv-loop
     μ-loop
+    run-open-requires
     loop-holds
-    mul-if1
-    shared-slice-read-if1
-    make-add-requires
+    make-end-requires
     mul-answers
     slice-write-answers
-    add-n
+    add-run-open
+    add-run-open-2
+    run-open-requires-2
     loop-less
     loop-again
-    make-call-requires
-    mul-answers-2
-    slice-write-answers-2
-    add-n-2
-    loop-less-2
-    loop-again-2
     same-length
     same-length-2
     same-length-3
