@@ -15,7 +15,7 @@ use Rattle.laws.specs.Ceiling.{ended}
 use Rattle.laws.specs.Kept.{add-same}
 use Rattle.placing.specs.Done.{order-view}
 use Rattle.lists.specs.Flags.{claimed}
-use Rattle.entering.specs.Entering.{Storing, Stores, Entering, Entered, may-store-claimed, entered-claimed}
+use Rattle.entering.specs.Entering.{Storing, Stores, Entered, may-store-claimed, entered-claimed}
 use Rattle.session.specs.declared.Session.{Session}
 use Rattle.session.specs.Storage.{Storage, Frame, frame-trans}
 use Rattle.session.specs.Turn.{waiting-frame}
@@ -85,7 +85,7 @@ module _ (ins outs : List ℕ) (s : Session) (σ : Storage) where
       r-is : r ≡ length (a .model .adds)
       r-is = er ∙ a .rep .counted .added-is
 
-      enters : Entering (σ .waiting) (σ .pool) u r (s .used) ins outs
+      enters : Storing (σ .waiting) (σ .pool) u r (s .used) ins outs
       enters = rw (u-is, r-is, a .rep .counted .used-is) (may-enter (a .parallelism) (a .places) (a .model) s σ (a .rep) ins outs (gone a))
 
     -- its outputs are flagged, and then its lists are stored
@@ -104,8 +104,8 @@ module _ (ins outs : List ℕ) (s : Session) (σ : Storage) where
           frame-stored : Frame (a .parallelism) (a .places) (s .guide .written) (s .guide .written) σ (with-lists σ w pool)
           frame-stored = rw (stored .waiting-is, stored .pool-is) (frame-entered (a .parallelism) (a .places) (a .model) s σ (a .rep) ins outs (gone a) (s .guide .written))
 
-          pub add-links : (greatest ins < u) × (r < u) × (4 * u ≤ length w)
-          add-links = rw (u-is a, r-is a) (may-link (a .parallelism) (a .places) (length (σ .pool)) (a .model) ins outs _ _ unplaced (a .between .sound) (a .accepted))
+          pub add-links : (m : ℕ) → m ≡ greatest ins → (m < u) × (r < u) × (4 * u ≤ length w)
+          add-links m em = rw (em, u-is a, r-is a) (may-link (a .parallelism) (a .places) (length (σ .pool)) (a .model) ins outs _ _ unplaced (a .between .sound) (a .accepted))
 
         module _ (t : ℕ) (x : List ℕ) (lx : length x ≡ length w) (L : Links w u (s .lead) ins r t x) where
           -- what is admitted

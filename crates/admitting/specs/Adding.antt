@@ -17,7 +17,7 @@ use Rattle.lists.specs.Lists.{Lists, cell, stored}
 use Rattle.lists.specs.ListLaws.{lists-low, lists-add, used-few, stored-length}
 use Rattle.registrar.specs.Delayed.{Delayed}
 use Rattle.registrar.specs.Keeps.{delayed-same}
-use Rattle.entering.specs.Entering.{entered-waiting, entered-pool, Entering}
+use Rattle.entering.specs.Entering.{entered-waiting, entered-pool, Storing}
 use Rattle.session.specs.declared.Session.{Session}
 use Rattle.session.specs.Storage.{Storage, Frame, frame-refl}
 use Rattle.session.specs.Rep.{Counted, Core, Rep}
@@ -71,7 +71,7 @@ module _ (P N : ℕ) (k : Model) (s : Session) (σ : Storage) (R : Rep P N k s �
   below : Below N outs
   below = all-below outs (A .outs-inside)
 
-  pub may-enter : Entering (σ .waiting) (σ .pool) N r (pooled (k .adds)) ins outs
+  pub may-enter : Storing (σ .waiting) (σ .pool) N r (pooled (k .adds)) ins outs
   may-enter =
       record {
         inside = A .more;
@@ -81,7 +81,6 @@ module _ (P N : ℕ) (k : Model) (s : Session) (σ : Storage) (R : Rep P N k s �
         room = A .room;
         ins-fit = λ j h. omega (arith, below-at N ins (all-below ins (A .ins-inside)) j h, R .core .guided .stands .small, R .core .guided .v-is);
         outs-fit = λ j h. omega (arith, below-at N outs below j h, R .core .guided .stands .small, R .core .guided .v-is);
-        below = below;
       }
 
   lists′ : Lists N (k .adds ++ (a ∷ [])) (pooled (k .adds ++ (a ∷ []))) w pool

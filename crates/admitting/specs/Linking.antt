@@ -16,6 +16,7 @@ use Rattle.laws.specs.Limits.{AllBelow}
 use Rattle.laws.specs.ModelBase.{bool-cases}
 use Rattle.laws.specs.Delaying.{not-ready}
 use Rattle.laws.specs.Sound.{Sound, sound-adding, sound-delaying}
+use Rattle.lists.specs.Arguments.{ready-none, ready-low, ready-high}
 use Rattle.lists.specs.FlagLaws.{flags-kept}
 use Rattle.lists.specs.ListLaws.{lists-kept}
 use Rattle.registrar.specs.Delayed.{Joins, Stacks, occurs}
@@ -34,24 +35,11 @@ pub record Links (w : List ℕ) (v lead : ℕ) (ins : List ℕ) (r t : ℕ) (w�
   pub stacks : ready lead ins ≡ true → Stacks w v r 0 t w′
   pub joins : ready lead ins ≡ false → (t ≡ 0) × Joins w v (greatest ins) r w′
 
--- placed at once: no inputs, or the greatest below the watermark
-pub ready-none : (m : ℕ) (l : List ℕ) → length l ≡ 0 → true ≡ ready m l
-unfolding ready
-ready-none m [] e = refl
-ready-none m (x ∷ l) e = absurd (omega arith)
-
-pub ready-some : (m g : ℕ) (l : List ℕ) → (length l ≡ 0 → ⊥) → g ≡ greatest l → ltb g m ≡ ready m l
-unfolding ready
-ready-some m g [] h e = absurd (h refl)
-ready-some m g (x ∷ l) h e = rw e refl
+-- the same of whatever list has so many places and m as the greatest
+abbrev pub LinksNew : List ℕ → ℕ → ℕ → ℕ → ℕ → ℕ → ℕ → List ℕ → Type 0
+LinksNew w v lead inputs m r t w′ = (ins : List ℕ) → inputs ≡ length ins → m ≡ greatest ins → Links w v lead ins r t w′
 
 module _ (w : List ℕ) (v lead : ℕ) (ins : List ℕ) (r : ℕ) (w′ : List ℕ) where
-  pub links-stack : (t : ℕ) → ready lead ins ≡ true → Stacks w v r 0 t w′ → Links w v lead ins r t w′
-  links-stack t h Z = record { stacks = λ e. Z; joins = λ e. absurd (false≢true (sym e ∙ h)) }
-
-  pub links-join : (m : ℕ) → m ≡ greatest ins → ready lead ins ≡ false → Joins w v m r w′ → Links w v lead ins r 0 w′
-  links-join m em h J = record { stacks = λ e. absurd (false≢true (sym h ∙ e)); joins = λ e. (refl, rw em at J) }
-
   -- heads and links alone have changed
   pub links-rest : (t : ℕ) → Links w v lead ins r t w′ → drop (2 * v) w′ ≡ drop (2 * v) w
   links-rest t L = go (bool-cases (ready lead ins))
@@ -59,6 +47,17 @@ module _ (w : List ℕ) (v lead : ℕ) (ins : List ℕ) (r : ℕ) (w′ : List �
       go : (ready lead ins ≡ true) ⊎ (ready lead ins ≡ false) → drop (2 * v) w′ ≡ drop (2 * v) w
       go (inl h) = L .stacks h .kept .rest
       go (inr h) = L .joins h .1 .rest
+
+-- no inputs, the greatest below the watermark, or not
+module _ (w : List ℕ) (v lead inputs m r : ℕ) (w′ : List ℕ) where
+  pub links-none : (t : ℕ) → inputs ≡ 0 → Stacks w v r 0 t w′ → LinksNew w v lead inputs m r t w′
+  links-none t h Z ins e g = record { stacks = λ x. Z; joins = λ x. absurd (false≢true (sym x ∙ ready-none lead ins (omega arith))) }
+
+  pub links-low : (t : ℕ) → m < lead → Stacks w v r 0 t w′ → LinksNew w v lead inputs m r t w′
+  links-low t h Z ins e g = record { stacks = λ x. Z; joins = λ x. absurd (false≢true (sym x ∙ ready-low lead ins (omega arith))) }
+
+  pub links-high : (inputs ≡ 0 → ⊥) → lead ≤ m → Joins w v m r w′ → LinksNew w v lead inputs m r 0 w′
+  links-high n h J ins e g = record { stacks = λ x. absurd (false≢true (sym (ready-high lead ins (λ z. n (e ∙ z)) (omega arith)) ∙ x)); joins = λ x. (refl, rw g at J) }
 
 -- the first half of the waiting storage decides neither lists nor flags
 core-waiting : (P N : ℕ) (j : Model) (g : Guide) (lead : ℕ) (σ : Storage) (w : List ℕ) → length w ≡ length (σ .waiting) → drop (2 * N) w ≡ drop (2 * N) (σ .waiting) → Core P N j g lead σ → Core P N j g lead (with-waiting w σ)

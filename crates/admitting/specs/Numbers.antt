@@ -1,15 +1,15 @@
 -- The numbers that the checks give, from session and storage, are the model's answers. u is V as an index. Assumes nothing.
 use mathlib.Core.Path.{_≡_, ap, _∙_}
-use mathlib.Core.List.{List, _++_}
+use mathlib.Core.List.{List}
 use mathlib.Core.Bool.{Bool}
 use Prim.Native.Nat.{ℕ}
 use native.Mathlib.Omega.{arith}
 use lib.ListN.{length}
-use Rattle.rules.specs.Model.{Model}
+use Rattle.rules.specs.Model.{Model, greatest}
 use Rattle.rules.specs.Checks.{verdict, taken}
 use Rattle.rules.specs.Calls.{Call, set, add, flush, final, answer}
-use Rattle.checking.specs.Parts.{set-checks, list-checks, state-checks, flush-checks, final-checks}
-use Rattle.checking.specs.Contracts.{ChecksSet, MayAdd, ClaimsAdd}
+use Rattle.checking.specs.Parts.{set-checks, add-checks, flush-checks, final-checks}
+use Rattle.checking.specs.Contracts.{ChecksSet, MayAdmit, ClaimsAdd}
 use Rattle.checking.specs.Laws.{answer-set, answer-add, answer-flush, answer-final}
 use Rattle.session.specs.declared.Session.{Session}
 use Rattle.session.specs.Storage.{Storage}
@@ -29,12 +29,15 @@ set-number x n u s σ eu c P N k R =
     ∙ answer-set N (length (σ .pool)) x k
 
 -- what the checks of add ask
-pub may-check : (u : ℕ) (s : Session) (σ : Storage) → u ≡ s .guide .v → Asks s σ → MayAdd (σ .waiting) u (s .used) (length (σ .pool))
-may-check u s σ eu a =
+pub may-check : (ins : List ℕ) (m u : ℕ) (s : Session) (σ : Storage) → u ≡ s .guide .v → m ≡ greatest ins → Asks s σ → MayAdmit (σ .waiting) ins m u (s .used) (length (σ .pool))
+may-check ins m u s σ eu em a =
     record {
-      taken = taken (a .model);
-      flags = rw (eu ∙ a .rep .core .guided .v-is) (a .rep .core .stored .flags);
-      fits = omega (arith, a .rep .counted .used-is, a .rep .core .stored .lists .fits);
+      may = record {
+        taken = taken (a .model);
+        flags = rw (eu ∙ a .rep .core .guided .v-is) (a .rep .core .stored .flags);
+        fits = omega (arith, a .rep .counted .used-is, a .rep .core .stored .lists .fits);
+      };
+      top-is = em;
     }
 
 pub add-number : (ins outs : List ℕ) (n u added : ℕ) (s : Session) (σ : Storage) (w : List ℕ) → u ≡ s .guide .v → added ≡ s .added
@@ -42,10 +45,10 @@ pub add-number : (ins outs : List ℕ) (n u added : ℕ) (s : Session) (σ : Sto
 add-number ins outs n u added s σ w eu ea c P N k R =
     let e : u ≡ N = eu ∙ R .core .guided .v-is in
     c .is (taken k) (rw e (R .core .stored .flags))
-    ∙ ap (λ (b : Bool). verdict (list-checks b u ins outs ++ state-checks u (taken k) outs added (s .used) (length ins) (length (σ .pool)))) (R .counted .closed-is)
-    ∙ ap (λ (v : ℕ). verdict (list-checks (k .closed) v ins outs ++ state-checks v (taken k) outs added (s .used) (length ins) (length (σ .pool)))) e
-    ∙ ap (λ (v : ℕ). verdict (list-checks (k .closed) N ins outs ++ state-checks N (taken k) outs v (s .used) (length ins) (length (σ .pool)))) (ea ∙ R .counted .added-is)
-    ∙ ap (λ (v : ℕ). verdict (list-checks (k .closed) N ins outs ++ state-checks N (taken k) outs (length (k .adds)) v (length ins) (length (σ .pool)))) (R .counted .used-is)
+    ∙ ap (λ (b : Bool). verdict (add-checks b u ins outs (taken k) added (s .used) (length (σ .pool)))) (R .counted .closed-is)
+    ∙ ap (λ (v : ℕ). verdict (add-checks (k .closed) v ins outs (taken k) added (s .used) (length (σ .pool)))) e
+    ∙ ap (λ (v : ℕ). verdict (add-checks (k .closed) N ins outs (taken k) v (s .used) (length (σ .pool)))) (ea ∙ R .counted .added-is)
+    ∙ ap (λ (v : ℕ). verdict (add-checks (k .closed) N ins outs (taken k) (length (k .adds)) v (length (σ .pool)))) (R .counted .used-is)
     ∙ answer-add N (length (σ .pool)) ins outs k
 
 -- where it is 0, the work of add may be done

@@ -1,14 +1,13 @@
 // A set or an add admitted: its number worked out, and, where that is 0, its own marks or lists stored. What it set free or added is then
 // placed, with all that this sets off. The storage goes along in the eight slices of a session.
 ghost use mathlib.Core.Path.{_≡_};
-ghost use Prim.Native.Nat.{_+_, _*_, _≤_, _<_};
+ghost use Prim.Native.Nat.{_*_, _≤_, _<_};
 ghost use lib.ListN.{length};
-ghost use Rattle.rules.specs.Model.{ready, greatest};
 ghost use Rattle.rules.specs.Calls.{set as set-call, add as add-call};
 ghost use Rattle.session.specs.Storage.{storage};
 ghost use Rattle.session.specs.Settle.{MaySettle};
 ghost use Rattle.admitting.specs.Promise.{Asks};
-ghost use Rattle.admitting.specs.Linking.{Links};
+ghost use Rattle.admitting.specs.Linking.{LinksNew};
 ghost use Rattle.admitting.specs.Admitted.{counted, Places, Admits};
 use session::Session;
 
@@ -68,27 +67,19 @@ pub fn admit_set(
     }
 }
 
-// Whether a registration is placed at once: it has no inputs, or the greatest is below the watermark.
-fn is_ready(ins: &[u64], lead: usize) -> bool
-    ensures { λ r. ⌜ r ≡ ready lead (now (ins .entry)) ⌝ }
+// Registration r with so many inputs, m being the greatest, is put on the stack to be placed at once, or waits under m where that is not
+// below the watermark; the stack's top link, 0 where it waits.
+fn link_new(waiting: &mut [u64], inputs: usize, m: u64, v: usize, lead: usize, r: usize) -> u64
+    requires { ⌜ (m < v) × (r < v) × (4 * v ≤ length (now waiting)) ⌝ }
+    ensures { λ t. ⌜ LinksNew (now (waiting .entry)) v lead inputs m r t (now (waiting .exit)) ⌝ }
 {
-    if ins.len() == 0 {
-        return true;
+    if inputs != 0 {
+        if lead as u64 <= m {
+            registrar::delay(waiting, v, m as usize, r);
+            return 0;
+        }
     }
-    lists::greatest(ins) < lead as u64
-}
-
-// Registration r is put on the stack to be placed at once, or waits under its greatest input; the stack's top link, 0 where it waits.
-fn link_new(waiting: &mut [u64], ins: &[u64], v: usize, lead: usize, r: usize) -> u64
-    requires { ⌜ (greatest (now ins) < v) × (r < v) × (4 * v ≤ length (now waiting)) ⌝ }
-    ensures { λ t. ⌜ Links (now (waiting .entry)) v lead (now (ins .entry)) r t (now (waiting .exit)) ⌝ }
-{
-    if is_ready(ins, lead) {
-        return registrar::stack(waiting, v, r, 0);
-    }
-    let m = lists::greatest(ins);
-    registrar::delay(waiting, v, m as usize, r);
-    0
+    registrar::stack(waiting, v, r, 0)
 }
 
 // The add of a registration that reads the places ins and writes the places outs.
@@ -110,7 +101,8 @@ pub fn admit_add(
 {
     let v = wide(s.guide.v);
     let r = wide(s.added);
-    let n = checking::claim_add(waiting, ins, outs, s.closed, v, r, s.used, pool.len());
+    let m = lists::greatest(ins);
+    let n = checking::claim_add(waiting, ins, outs, m, s.closed, v, r, s.used, pool.len());
     if n != 0 {
         return Admitted {
             number: n,
@@ -122,7 +114,7 @@ pub fn admit_add(
         };
     }
     entering::store_lists(waiting, pool, ins, outs, v, r, s.used);
-    let top = link_new(waiting, ins, v, s.lead, r);
+    let top = link_new(waiting, ins.len(), m, v, s.lead, r);
     Admitted {
         number: 0,
         lead: s.lead,

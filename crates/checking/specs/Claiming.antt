@@ -4,77 +4,123 @@ use mathlib.Core.List.{List, _++_}
 use mathlib.Core.Bool.{Bool, true, false, not, true≢false, false≢true}
 use Prim.Native.Nat.{ℕ, _+_, _-_, _≤_, _<_}
 use native.Mathlib.Omega.{arith}
+use lib.Dec.{leb, ltb}
 use lib.ListN.{length}
 use borrow.Author.Tests.{le-ltb, lt-leb, leb-false, ltb-false}
-use Rattle.rules.specs.Checks.{verdict, any, repeats}
+use Rattle.rules.specs.Checks.{verdict, any, repeats, check-places}
 use Rattle.laws.specs.Accepted.{verdict-head, or-false}
+use Rattle.lists.specs.Part.{Below}
+use Rattle.lists.specs.Arguments.{any-below, below-any, below-append, greatest-below, below-greatest}
 use Rattle.lists.specs.Flags.{Flags, Flagged, Claims, flag-at}
 use Rattle.lists.specs.FlagLaws.{flags-any, flagged-of}
-use Rattle.checking.specs.Parts.{list-checks, state-checks}
-use Rattle.checking.specs.Contracts.{MayAdd, ChecksAdd, AdmitsAdd, ClaimsAdd}
-use Rattle.checking.specs.Laws.{state-verdict, verdict-first, verdict-rest, lists-numbered, lists-passed}
+use Rattle.checking.specs.Parts.{list-checks, state-checks, add-checks}
+use Rattle.checking.specs.Contracts.{MayAdd, MayAdmit, ChecksAdd, AdmitsAdd, ClaimsAdd}
+use Rattle.checking.specs.Laws.{lists-good, state-verdict, verdict-rest, lists-numbered}
 
--- the later checks of add passed
-pub record StatePassed (N : ℕ) (t : ℕ → Bool) (outs : List ℕ) (added used inputs W : ℕ) : Type 0 where
+-- add passes all of its checks
+pub record AddPasses (closed : Bool) (N : ℕ) (ins outs : List ℕ) (t : ℕ → Bool) (added used W : ℕ) : Type 0 where
+  pub not-closed : closed ≡ false
+  pub ins-few : length ins ≤ 65535
+  pub outs-few : length outs ≤ 65535
+  pub ins-inside : Below N ins
+  pub outs-inside : Below N outs
   pub once : repeats outs ≡ false
   pub free : any t outs ≡ false
   pub more : added < N
-  pub room : used + inputs + length outs ≤ W
+  pub room : used + length ins + length outs ≤ W
 
-state-passed : (N : ℕ) (t : ℕ → Bool) (outs : List ℕ) (added used inputs W : ℕ) → verdict (state-checks N t outs added used inputs W) ≡ 0 → StatePassed N t outs added used inputs W
-unfolding state-checks
-state-passed N t outs added used inputs W h =
-    let a = verdict-head _ _ h (omega arith) in
-    let b = verdict-head _ _ (a .1) (omega arith) in
-    let c = verdict-head _ _ (b .1) (omega arith) in
-    let d = verdict-head _ _ (c .1) (omega arith) in
-    record { once = a .0; free = b .0; more = leb-false N added (c .0); room = ltb-false W (used + inputs + length outs) (d .0) }
+module _ (closed : Bool) (N : ℕ) (ins outs : List ℕ) (t : ℕ → Bool) (added used W : ℕ) where
+  passes-of : verdict (add-checks closed N ins outs t added used W) ≡ 0 → AddPasses closed N ins outs t added used W
+  unfolding list-checks state-checks check-places
+  passes-of h =
+      let a = verdict-head _ _ h (omega arith) in
+      let b = verdict-head _ _ (a .1) (omega arith) in
+      let c = verdict-head _ _ (b .1) (omega arith) in
+      let d = verdict-head _ _ (c .1) (omega arith) in
+      let e = verdict-head _ _ (d .1) (omega arith) in
+      let f = verdict-head _ _ (e .1) (omega arith) in
+      let g = verdict-head _ _ (f .1) (omega arith) in
+      let i = verdict-head _ _ (g .1) (omega arith) in
+      let few = or-false (ltb 65535 (length ins)) (ltb 65535 (length outs)) (b .0) in
+      let inside = below-append N ins outs (any-below N (ins ++ outs) (d .0)) in
+      record {
+        not-closed = a .0;
+        ins-few = ltb-false 65535 (length ins) (few .0);
+        outs-few = ltb-false 65535 (length outs) (few .1);
+        ins-inside = inside .0;
+        outs-inside = inside .1;
+        once = e .0;
+        free = f .0;
+        more = leb-false N added (g .0);
+        room = ltb-false W (used + length ins + length outs) (i .0);
+      }
+
+  of-passes : N ≤ 4611686018427387904 → AddPasses closed N ins outs t added used W → verdict (add-checks closed N ins outs t added used W) ≡ 0
+  unfolding verdict
+  of-passes h p =
+      verdict-rest (list-checks closed N ins outs) (state-checks N t outs added used (length ins) W) (lists-numbered closed N ins outs)
+      (sym (lists-good N ins outs closed (p .not-closed) (p .ins-few) (p .outs-few) (below-any N ins (p .ins-inside)) (below-any N outs (p .outs-inside)) h))
+      ∙ sym (state-verdict N t outs added used (length ins) W false false false false (p .once) (p .free) (lt-leb N added (p .more)) (le-ltb W (used + length ins + length outs) (p .room)))
 
 module _ (w ins outs : List ℕ) (closed : Bool) (v added used room : ℕ) where
   -- refused, the storage as it was
-  refused : ((t : ℕ → Bool) → Flags v t w → verdict (list-checks closed v ins outs ++ state-checks v t outs added used (length ins) room) ≡ 0 → ⊥) → AdmitsAdd w ins outs closed v added used room false w
-  refused h = record { passes = λ q. absurd (false≢true q); fails = λ q. h; claims = λ q. absurd (false≢true q); same = λ q. refl }
+  refused : ((t : ℕ → Bool) → AddPasses closed v ins outs t added used room → ⊥) → AdmitsAdd w ins outs closed v added used room false w
+  refused h = record { passes = λ q. absurd (false≢true q); fails = λ q t f z. h t (passes-of closed v ins outs t added used room z); claims = λ q. absurd (false≢true q); same = λ q. refl }
 
-  module _ (n : ℕ) (e : n ≡ verdict (list-checks closed v ins outs)) where
-    pub lists-fail : (n ≡ 0 → ⊥) → AdmitsAdd w ins outs closed v added used room false w
-    lists-fail h =
-        let k : verdict (list-checks closed v ins outs) ≡ 0 → ⊥ = λ z. h (e ∙ z) in
-        refused (λ t f z. k (sym (verdict-first (list-checks closed v ins outs) (state-checks v t outs added used (length ins) room) k) ∙ z))
+  pub closed-fails : closed ≡ true → AdmitsAdd w ins outs closed v added used room false w
+  closed-fails e = refused (λ t p. true≢false (sym e ∙ p .not-closed))
 
-    module _ (z : n ≡ 0) (m : MayAdd w v used room) where
-      rest : (t : ℕ → Bool) → verdict (list-checks closed v ins outs ++ state-checks v t outs added used (length ins) room) ≡ verdict (state-checks v t outs added used (length ins) room)
-      rest t = verdict-rest (list-checks closed v ins outs) (state-checks v t outs added used (length ins) room) (lists-numbered closed v ins outs) (sym e ∙ z)
+  pub ins-many : 65535 < length ins → AdmitsAdd w ins outs closed v added used room false w
+  ins-many h = refused (λ t p. omega (arith, p .ins-few))
 
-      passed : (t : ℕ → Bool) → verdict (list-checks closed v ins outs ++ state-checks v t outs added used (length ins) room) ≡ 0 → StatePassed v t outs added used (length ins) room
-      passed t h = state-passed v t outs added used (length ins) room (sym (rest t) ∙ h)
+  pub outs-many : 65535 < length outs → AdmitsAdd w ins outs closed v added used room false w
+  outs-many h = refused (λ t p. omega (arith, p .outs-few))
 
-      pub count-fails : v ≤ added → AdmitsAdd w ins outs closed v added used room false w
-      count-fails h = refused (λ t f q. omega (arith, passed t q .more))
+  pub count-fails : v ≤ added → AdmitsAdd w ins outs closed v added used room false w
+  count-fails h = refused (λ t p. omega (arith, p .more))
 
-      pub room-fails : room - used < length ins + length outs → AdmitsAdd w ins outs closed v added used room false w
-      room-fails h = refused (λ t f q. omega (arith, passed t q .room))
+  pub outs-outside : any (λ x. leb v x) outs ≡ true → AdmitsAdd w ins outs closed v added used room false w
+  outs-outside e = refused (λ t p. true≢false (sym e ∙ below-any v outs (p .outs-inside)))
 
+  module _ (top : ℕ) (m : MayAdmit w ins top v used room) where
+    pub ins-outside : v ≤ top → AdmitsAdd w ins outs closed v added used room false w
+    ins-outside h = refused (λ t p. omega (arith, m .top-is, greatest-below v ins (omega (arith, p .more)) (p .ins-inside)))
+
+    pub room-fails : room - used < length ins + length outs → AdmitsAdd w ins outs closed v added used room false w
+    room-fails h = refused (λ t p. omega (arith, p .room))
+
+    module _ (b : any (λ x. leb v x) outs ≡ false) where
       pub may-claim : Flagged w v outs
-      may-claim = flagged-of v (m .taken) w (m .flags) outs (lists-passed closed v ins outs (sym e ∙ z) .1)
+      may-claim = flagged-of v (m .may .taken) w (m .may .flags) outs (any-below v outs b)
 
-      module _ (more : added < v) (fits : length ins + length outs ≤ room - used) (r : Bool) (w′ : List ℕ) (c : Claims w v outs r w′) where
-        same-any : (t : ℕ → Bool) → Flags v t w → any (flag-at w v) outs ≡ any t outs
-        same-any t f = flags-any v t w f outs (lists-passed closed v ins outs (sym e ∙ z) .1)
+      same-any : (t : ℕ → Bool) → Flags v t w → any (flag-at w v) outs ≡ any t outs
+      same-any t f = flags-any v t w f outs (any-below v outs b)
 
+      module _ (small : v ≤ 4611686018427387904) (open′ : closed ≡ false) (i : length ins ≤ 65535) (o : length outs ≤ 65535) (l : top < v) (h : added < v) (fits : length ins + length outs ≤ room - used)
+          (r : Bool) (w′ : List ℕ) (c : Claims w v outs r w′) where
         pub admits : AdmitsAdd w ins outs closed v added used room r w′
-        unfolding verdict
-        admits = record { passes = λ q t f. good q t f; fails = λ q t f h. bad q t f (passed t h); claims = c .claims; same = c .same }
+        admits = record { passes = λ q t f. of-passes closed v ins outs t added used room small (good q t f); fails = λ q t f z. bad q t f (passes-of closed v ins outs t added used room z); claims = c .claims; same = c .same }
           where
-            good : r ≡ true → (t : ℕ → Bool) → Flags v t w → verdict (list-checks closed v ins outs ++ state-checks v t outs added used (length ins) room) ≡ 0
+            down : (x : Bool) → not x ≡ true → x ≡ false
+            down true e = absurd (false≢true e)
+            down false e = refl
+
+            good : r ≡ true → (t : ℕ → Bool) → Flags v t w → AddPasses closed v ins outs t added used room
             good q t f =
                 let k = or-false (repeats outs) (any (flag-at w v) outs) (down _ (sym (c .answer) ∙ q)) in
-                rest t ∙ sym (state-verdict v t outs added used (length ins) room false false false false (k .0) (sym (same-any t f) ∙ k .1) (lt-leb v added more) (le-ltb room (used + length ins + length outs) (omega (arith, m .fits))))
-              where
-                down : (b : Bool) → not b ≡ true → b ≡ false
-                down true h = absurd (false≢true h)
-                down false h = refl
+                record {
+                  not-closed = open′;
+                  ins-few = i;
+                  outs-few = o;
+                  ins-inside = below-greatest v ins (omega (arith, m .top-is));
+                  outs-inside = any-below v outs b;
+                  once = k .0;
+                  free = sym (same-any t f) ∙ k .1;
+                  more = h;
+                  room = omega (arith, m .may .fits);
+                }
 
-            bad : r ≡ false → (t : ℕ → Bool) → Flags v t w → StatePassed v t outs added used (length ins) room → ⊥
+            bad : r ≡ false → (t : ℕ → Bool) → Flags v t w → AddPasses closed v ins outs t added used room → ⊥
             bad q t f p = true≢false (sym (c .answer ∙ rw (p .once, same-any t f ∙ p .free)) ∙ q)
 
   -- the number

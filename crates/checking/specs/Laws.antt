@@ -153,7 +153,7 @@ module _ (w outs : List ℕ) (v added used inputs room : ℕ) (m : MayCheck w ou
         state-good h = record { is = λ t f. state-verdict v t outs added used inputs room false false false false a (told false b t f) (lt-leb v added c) (le-ltb room (used + inputs + length outs) (omega (arith, m .fits))); same = same }
 
 -- a list of checks after another
-pub verdict-first : (xs ys : List Check) → (verdict xs ≡ 0 → ⊥) → verdict (xs ++ ys) ≡ verdict xs
+verdict-first : (xs ys : List Check) → (verdict xs ≡ 0 → ⊥) → verdict (xs ++ ys) ≡ verdict xs
 unfolding verdict
 verdict-first [] ys h = absurd (h refl)
 verdict-first (c ∷ xs) ys h = go (bool-cases (c .fails)) (λ z. verdict-first xs ys z)

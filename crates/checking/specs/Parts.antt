@@ -24,6 +24,10 @@ state-checks N t outs added used inputs W =
     ∷ (record { fails = any t outs; number = 8 }
     ∷ (record { fails = leb N added; number = 9 } ∷ (record { fails = ltb W (used + inputs + length outs); number = 10 } ∷ [])))
 
+-- all of add's
+abbrev pub add-checks : Bool → ℕ → List ℕ → List ℕ → (ℕ → Bool) → ℕ → ℕ → ℕ → List Check
+add-checks closed N ins outs t added used W = list-checks closed N ins outs ++ state-checks N t outs added used (length ins) W
+
 unfoldable pub flush-checks : Bool → ℕ → List Check
 flush-checks closed flushes = record { fails = closed; number = 7 } ∷ (record { fails = leb 65535 flushes; number = 11 } ∷ [])
 

@@ -6,7 +6,6 @@ use Prim.Native.Nat.{ℕ, _+_, _*_, _≤_, _<_}
 use native.Mathlib.Omega.{arith}
 use lib.ListN.{length, getD, set}
 use lib.Seq.{set-comm}
-use Rattle.lists.specs.Part.{Below}
 use Rattle.lists.specs.Flags.{claimed}
 use Rattle.lists.specs.FlagLaws.{claimed-length}
 use Rattle.lists.specs.Lists.{cell, stored}
@@ -40,18 +39,7 @@ pub record Stores (w pool : List ℕ) (v r used : ℕ) (ins outs w′ pool′ : 
   pub waiting-is : w′ ≡ set w (2 * v + r) (cell used (length ins))
   pub pool-is : pool′ ≡ entered-pool pool used ins outs
 
--- what flagging the outputs and storing the lists asks
-pub record Entering (w pool : List ℕ) (v r used : ℕ) (ins outs : List ℕ) : Type 0 where
-  pub inside : r < v
-  pub long : 4 * v ≤ length w
-  pub small : used ≤ 2198989701120
-  pub few : length ins < 65536
-  pub room : used + length ins + length outs ≤ length pool
-  pub ins-fit : (j : ℕ) → j < length ins → getD ins j 0 < 4294967296
-  pub outs-fit : (j : ℕ) → j < length outs → getD outs j 0 < 4294967296
-  pub below : Below v outs
-
--- and what it leaves
+-- and what is left where the outputs are flagged too
 pub record Entered (w pool : List ℕ) (v r used : ℕ) (ins outs w′ pool′ : List ℕ) : Type 0 where
   pub waiting-is : w′ ≡ entered-waiting w v r used ins outs
   pub pool-is : pool′ ≡ entered-pool pool used ins outs
@@ -63,7 +51,7 @@ module _ (w pool : List ℕ) (v r used : ℕ) (ins outs : List ℕ) where
 
   -- the outputs are flagged before that
   module _ (x : List ℕ) (ex : x ≡ claimed w v outs) where
-    pub may-store-claimed : Entering w pool v r used ins outs → Storing x pool v r used ins outs
+    pub may-store-claimed : Storing w pool v r used ins outs → Storing x pool v r used ins outs
     may-store-claimed e =
         record {
           inside = e .inside;

@@ -45,6 +45,11 @@ unfolding greatest Below
 greatest-below N [] z b = z
 greatest-below N (x ∷ xs) z b = omega (arith, b .0, greatest-below N xs z (b .1))
 
+pub below-greatest : (N : ℕ) (xs : List ℕ) → greatest xs < N → Below N xs
+unfolding greatest Below
+below-greatest N [] h = tt
+below-greatest N (x ∷ xs) h = (omega arith, below-greatest N xs (omega arith))
+
 -- ready: no inputs, or the greatest below the watermark
 pub ready-none : (m : ℕ) (xs : List ℕ) → length xs ≡ 0 → ready m xs ≡ true
 unfolding ready

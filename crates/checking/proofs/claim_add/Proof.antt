@@ -14,13 +14,13 @@ returns : tie.Need-returns
 returns c = claimed-add _ _ _ _ _ _ _ _ _ _ (c .before .before .before .admits-add .ensures) (c .if1 .taken)
 
 check-add-requires : tie.Need-check-add-requires
-check-add-requires c κs = may-again _ _ _ _ _ _ _ _ _ _ (c .before .before .before .before .admits-add .ensures) (c .before .if1 .left) (c .before .before .before .before .before .before .before .before .before .pre)
+check-add-requires c κs = may-again _ _ _ _ _ _ _ _ _ _ (c .before .before .before .before .admits-add .ensures) (c .before .if1 .left) (c .before .before .before .before .before .before .before .before .before .pre .may)
 
 same-length-2 : tie.Need-same-length-2
 same-length-2 c = search needs
 
 returns-2 : tie.Need-returns-2
-returns-2 c = refused-add _ _ _ _ _ _ _ _ _ _ (c .before .before .before .before .before .before .before .admits-add .ensures) (c .before .before .before .before .if1 .left) (c .before .before .before .before .before .before .before .before .before .before .before .before .pre) _ _ (c .before .before .check-add .ensures)
+returns-2 c = refused-add _ _ _ _ _ _ _ _ _ _ (c .before .before .before .before .before .before .before .admits-add .ensures) (c .before .before .before .before .if1 .left) (c .before .before .before .before .before .before .before .before .before .before .before .before .pre .may) _ _ (c .before .before .check-add .ensures)
 
 pub claim-add-spec : {M : Type 1} → statement M
 claim-add-spec =
