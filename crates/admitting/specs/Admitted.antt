@@ -2,6 +2,7 @@
 -- both together are the call's promise. Assumes nothing.
 use mathlib.Core.Path.{_≡_, sym, subst}
 use mathlib.Core.Bool.{Bool, true, false}
+use mathlib.Core.List.{List}
 use Prim.Native.Nat.{ℕ, _+_, _*_}
 use lib.Dec.{ltb}
 use lib.ListN.{length, set}
@@ -20,16 +21,16 @@ abbrev pub counted : Session → Admitted → Session
 counted s a =
     record { guide = s .guide; lead = a .lead; added = a .added; used = a .used; delayed = a .delayed; flushes = s .flushes; closed = s .closed; registrations = s .registrations; places = s .places }
 
--- the row of an added registration r has n as its written; a set stores none
-unfoldable pub noted : Bool → ℕ → ℕ → Storage → Storage
-noted true r n σ = with-rows σ (set (σ .rows) (5 * r + 2) n)
-noted false r n σ = σ
+-- the rows once that of an added registration r has n as its written; a set stores none
+unfoldable pub noted : Bool → ℕ → ℕ → List ℕ → List ℕ
+noted true r n rs = set rs (5 * r + 2) n
+noted false r n rs = rs
 
 -- what was admitted is placed, with all that it sets off, and the row of an added registration notes the order's length
 pub record Places (s : Session) (a : Admitted) (s′ : Session) (σ τ : Storage) : Type 0 where
   pub settled : Storage
   pub settles : Settles (s .added) (counted s a) σ (a .top) s′ settled
-  pub is : τ ≡ noted (ltb (s .added) (a .added)) (s .added) (s′ .guide .written) settled
+  pub is : τ ≡ with-rows settled (noted (ltb (s .added) (a .added)) (s .added) (s′ .guide .written) (settled .rows))
 
 -- the call c was admitted or refused: the number is the model's; refused, nothing has changed; admitted, placing makes the call
 pub record Admits (c : Call) (s : Session) (a : Admitted) (σ τ : Storage) : Type 0 where

@@ -1,11 +1,12 @@
 -- The own part of an accepted set or add is stored, and what is to be placed stands on the stack: so the call is admitted, and the cascade
 -- does the rest. Refused, nothing has changed. Assumes nothing.
-use mathlib.Core.Path.{_≡_, sym, ap, _∙_, subst}
-use mathlib.Core.Bool.{Bool}
+use mathlib.Core.Path.{_≡_, refl, sym, ap, _∙_, subst}
+use mathlib.Core.Bool.{Bool, true, false}
+use mathlib.Core.List.{List}
 use Prim.Native.Nat.{ℕ, _+_, _*_, _≤_, _<_}
 use native.Mathlib.Omega.{arith}
 use lib.Dec.{ltb}
-use lib.ListN.{length, set}
+use lib.ListN.{length, set, length-set}
 use borrow.Author.Tests.{lt-ltb, le-ltb}
 use Rattle.rules.specs.Model.{Model}
 use Rattle.rules.specs.Calls.{Call}
@@ -48,23 +49,31 @@ pub admits-not : (c : Call) (s : Session) (a : Admitted) (σ τ : Storage) → N
 admits-not c s a σ τ h z e = record { number-is = h; refused = λ x. e; may = λ x. absurd (z x); does = λ x. absurd (z x) }
 
 -- what is noted after the cascade: nothing by a set, its row's written by an add
-pub noted-none : (r q n : ℕ) (σ : Storage) → q ≤ r → noted (ltb r q) r n σ ≡ σ
-unfolding noted
-noted-none r q n σ h = ap (λ (b : Bool). noted b r n σ) (le-ltb r q h)
+module _ (r q n : ℕ) where
+  pub rows-none : (rs : List ℕ) → q ≤ r → noted (ltb r q) r n rs ≡ rs
+  unfolding noted
+  rows-none rs h = ap (λ (b : Bool). noted b r n rs) (le-ltb r q h)
 
-pub noted-row : (r q n : ℕ) (σ : Storage) → r < q → noted (ltb r q) r n σ ≡ with-rows σ (set (σ .rows) (5 * r + 2) n)
-unfolding noted
-noted-row r q n σ h = ap (λ (b : Bool). noted b r n σ) (lt-ltb r q h)
+  pub rows-one : (rs : List ℕ) → r < q → noted (ltb r q) r n rs ≡ set rs (5 * r + 2) n
+  unfolding noted
+  rows-one rs h = ap (λ (b : Bool). noted b r n rs) (lt-ltb r q h)
 
--- what was admitted is placed once the cascade has run, r being the number of an added registration as an index
+  pub noted-none : (σ : Storage) → q ≤ r → with-rows σ (noted (ltb r q) r n (σ .rows)) ≡ σ
+  noted-none σ h = ap (λ (rs : List ℕ). with-rows σ rs) (rows-none (σ .rows) h)
+
+  pub noted-row : (σ : Storage) → r < q → with-rows σ (noted (ltb r q) r n (σ .rows)) ≡ with-rows σ (set (σ .rows) (5 * r + 2) n)
+  noted-row σ h = ap (λ (rs : List ℕ). with-rows σ rs) (rows-one (σ .rows) h)
+
+pub noted-long : (b : Bool) (r n : ℕ) (rs : List ℕ) → length (noted b r n rs) ≡ length rs
+unfolding noted
+noted-long true r n rs = length-set rs (5 * r + 2) n
+noted-long false r n rs = refl
+
+-- the cascade has run, and what an add notes is noted
 module _ (s : Session) (a : Admitted) (s′ : Session) (σ τ : Storage) (Z : Settles (s .added) (counted s a) σ (a .top) s′ τ) where
-  pub places-none : a .added ≤ s .added → Places s a s′ σ τ
-  places-none h = record { settled = τ; settles = Z; is = sym (noted-none (s .added) (a .added) (s′ .guide .written) τ h) }
+  pub places : (rs : List ℕ) → rs ≡ noted (ltb (s .added) (a .added)) (s .added) (s′ .guide .written) (τ .rows) → Places s a s′ σ (with-rows τ rs)
+  places rs e = record { settled = τ; settles = Z; is = ap (λ (x : List ℕ). with-rows τ x) e }
 
-  module _ (h : s .added < a .added) (r : ℕ) (er : r ≡ s .added) where
-    pub places-row : Places s a s′ σ (with-rows τ (set (τ .rows) (5 * r + 2) (s′ .guide .written)))
-    places-row = rw er (record { settled = τ; settles = Z; is = sym (noted-row (s .added) (a .added) (s′ .guide .written) τ h) })
-
-    -- there is a row for it
-    pub row-there : MaySettle (s .added) (counted s a) σ (a .top) → 5 * r + 2 < length (τ .rows)
-    row-there m = omega (arith, m .rep .counted .added-is, m .sound .limits .many, m .rep .core .rowed .long, Z .frame .rows .long)
+  -- an added registration has a row
+  pub row-there : MaySettle (s .added) (counted s a) σ (a .top) → s .added < a .added → 5 * s .added + 2 < length (τ .rows)
+  row-there m h = omega (arith, m .rep .counted .added-is, m .sound .limits .many, m .rep .core .rowed .long, Z .frame .rows .long)

@@ -1,14 +1,15 @@
 // A set or an add admitted: its number worked out, and, where that is 0, its own marks or lists stored. What it set free or added is then
 // placed, with all that this sets off. The storage goes along in the eight slices of a session.
 ghost use mathlib.Core.Path.{_≡_};
-ghost use Prim.Native.Nat.{_*_, _≤_, _<_};
+ghost use Prim.Native.Nat.{_+_, _*_, _≤_, _<_};
+ghost use lib.Dec.{ltb};
 ghost use lib.ListN.{length};
 ghost use Rattle.rules.specs.Calls.{set as set-call, add as add-call};
 ghost use Rattle.session.specs.Storage.{storage};
 ghost use Rattle.session.specs.Settle.{MaySettle};
 ghost use Rattle.admitting.specs.Promise.{Asks};
 ghost use Rattle.admitting.specs.Linking.{LinksNew};
-ghost use Rattle.admitting.specs.Admitted.{counted, Places, Admits};
+ghost use Rattle.admitting.specs.Admitted.{counted, noted, Places, Admits};
 use session::Session;
 
 // A call's number, and where that is 0 the session's counts after its own marks or lists are stored, with the top link of the stack of
@@ -125,6 +126,17 @@ pub fn admit_add(
     }
 }
 
+// Where the count of registrations went from `before` to `after`, the row of the one that was added notes the order's length.
+pub fn note_added(rows: &mut [u32], before: u32, after: u32, written: u32)
+    requires { ⌜ (before < after → 5 * before + 2 < length (now rows)) ⌝ }
+    ensures { λ _. ⌜ now (rows .exit) ≡ noted (ltb before after) before written (now (rows .entry)) ⌝ }
+{
+    if before < after {
+        let i = 5 * wide(before) + 2;
+        rows[i] = written;
+    }
+}
+
 // Places what was admitted, with all that it sets off; the row of an added registration notes the order's length.
 pub fn place_admitted(
     s: Session,
@@ -166,9 +178,6 @@ pub fn place_admitted(
         a.top,
         s.added,
     );
-    if s.added < a.added {
-        let i = 5 * wide(s.added) + 2;
-        rows[i] = t.guide.written;
-    }
+    note_added(rows, s.added, a.added, t.guide.written);
     t
 }

@@ -3,4 +3,5 @@ pub mod Replay
 pub mod Making
 pub mod Turn
 pub mod Continuing
+pub mod Cascading
 pub mod Running

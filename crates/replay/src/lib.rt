@@ -176,18 +176,30 @@ fn run_open(
         let a = d.admitted;
         answers[n] = a.number;
         if a.number == 0 {
-            z = admitting::place_admitted(
-                z,
-                spans,
-                order,
-                tally,
-                rows,
-                marks,
-                locations,
-                waiting,
-                pool,
-                a,
-            );
+            let c = z.added;
+            z.lead = a.lead;
+            z.added = a.added;
+            z.used = a.used;
+            z.delayed = a.delayed;
+            let mut t = a.top;
+            while t != 0 {
+                let e = session::place_next(
+                    spans,
+                    order,
+                    tally,
+                    rows,
+                    marks,
+                    locations,
+                    waiting,
+                    pool,
+                    z,
+                    t,
+                    c,
+                );
+                z = e.session;
+                t = e.top;
+            }
+            admitting::note_added(rows, c, a.added, z.guide.written);
         }
         at = d.next;
         n += 1;

@@ -151,7 +151,7 @@ fn place_one(
 }
 
 // Takes the top of the stack off, places it, and pushes what its outputs set free.
-fn place_next(
+pub fn place_next(
     spans: &mut [u32],
     order: &mut [u32],
     tally: &mut [u32],
