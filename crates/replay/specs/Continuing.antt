@@ -8,8 +8,11 @@ use lib.ListN.{length, getD, set}
 use Rattle.rules.specs.Calls.{Call}
 use Rattle.session.specs.declared.Session.{Session}
 use Rattle.session.specs.Storage.{Storage, storage}
+use Rattle.admitting.specs.declared.Admitted.{Admitted}
 use Rattle.admitting.specs.Promise.{Asks}
-use Rattle.replay.specs.Replay.{Made, Readable}
+use Rattle.admitting.specs.Admitted.{Places}
+use Rattle.replay.specs.Replay.{Made, AdmitsAt, Readable}
+use Rattle.replay.specs.Making.{made-refused, made-placed}
 use Rattle.replay.specs.Turn.{Running, running-asks, running-readable, running-room, running-turn}
 
 -- some list of calls is being made
@@ -43,13 +46,9 @@ pub record Kept (σ : Storage) (out : List ℕ) (σ′ : Storage) (out′ : List
   pub pool : length (σ′ .pool) ≡ length (σ .pool)
   pub answers : length out′ ≡ length out
 
--- seven slices under other names, and the pool
-pub storage-as : {σ : Storage} {sp o t rs m lo w : List ℕ} → sp ≡ σ .spans → o ≡ σ .order → t ≡ σ .tally → rs ≡ σ .rows → m ≡ σ .marks → lo ≡ σ .locations → w ≡ σ .waiting → storage sp o t rs m lo w (σ .pool) ≡ σ
-storage-as a b c d e f g = rw (a, b, c, d, e, f, g)
-
 module _ {l : List ℕ} {s : Session} {σ : Storage} {out : List ℕ} {at n : ℕ} {s′ : Session} {σ′ : Storage} where
   -- one call more
-  pub turned : {num next : ℕ} → at < length l → Made l at num next s s′ σ σ′ → Onward l s σ out at n s′ σ′ (set out n num) next (n + 1)
+  turned : {num next : ℕ} → at < length l → Made l at num next s s′ σ σ′ → Onward l s σ out at n s′ σ′ (set out n num) next (n + 1)
   turned {num} {next} h M = record { running = λ P N all σ₀ out₀ R. running-turn P N l all σ₀ out₀ s σ out at n R h s′ σ′ num next M; upto = omega (arith, M .past) }
 
   module _ {out′ : List ℕ} {at′ n′ : ℕ} (O : Onward l s σ out at n s′ σ′ out′ at′ n′) where
@@ -103,7 +102,7 @@ module _ {l : List ℕ} {s₁ : Session} {σ₁ : Storage} {out₁ : List ℕ} {
   pub going-room : at < length l → n < length out
   going-room = running-room (G .may .P) (G .may .N) l (G .may .all) (G .may .σ₀) (G .may .out₀) s σ out at n (G .may .running)
 
-  pub going-on : {s′ : Session} {σ′ : Storage} {out′ : List ℕ} {at′ n′ : ℕ} → Onward l s σ out at n s′ σ′ out′ at′ n′ → Going l s₁ σ₁ out₁ at₁ n₁ s′ σ′ out′ at′ n′
+  going-on : {s′ : Session} {σ′ : Storage} {out′ : List ℕ} {at′ n′ : ℕ} → Onward l s σ out at n s′ σ′ out′ at′ n′ → Going l s₁ σ₁ out₁ at₁ n₁ s′ σ′ out′ at′ n′
   going-on X =
       let k = onward-kept X (G .may) in
       record {
@@ -123,6 +122,24 @@ module _ {l : List ℕ} {s₁ : Session} {σ₁ : Storage} {out₁ : List ℕ} {
             };
       }
 
-  -- session and storage under other names
-  pub going-as : {z : Session} {τ : Storage} → z ≡ s → τ ≡ σ → Going l s₁ σ₁ out₁ at₁ n₁ z τ out at n
-  going-as e f = rw (e, f) G
+  module _ (h : at < length l) where
+    -- a flush or a final is made, and what follows it
+    pub going-next : {s′ : Session} {σ′ : Storage} {num next : ℕ} → Made l at num next s s′ σ σ′ → MayContinue l s′ σ′ (set out n num) next (n + 1)
+    going-next M = onward-may (turned h M) (G .may)
+
+    pub going-past : {s′ s″ : Session} {σ′ σ″ : Storage} {num next : ℕ} {out″ : List ℕ} {at″ n″ : ℕ} → Made l at num next s s′ σ σ′ → Onward l s′ σ′ (set out n num) next (n + 1) s″ σ″ out″ at″ n″ → Going l s₁ σ₁ out₁ at₁ n₁ s″ σ″ out″ at″ n″
+    going-past M X = going-on (onward-trans (turned h M) X)
+
+    -- a set or an add is refused, or admitted and placed; then session and slices have other names
+    module _ {a : Admitted} {next : ℕ} {τ : Storage} (E : AdmitsAt l at a next s σ τ) {z : Session} {sp o t rs m lo w : List ℕ} where
+      made-as : {s′ : Session} {υ : Storage} → Made l at (a .number) next s s′ σ υ → z ≡ s′ → sp ≡ υ .spans → o ≡ υ .order → t ≡ υ .tally → rs ≡ υ .rows → m ≡ υ .marks → lo ≡ υ .locations → w ≡ υ .waiting
+          → Going l s₁ σ₁ out₁ at₁ n₁ z (storage sp o t rs m lo w (υ .pool)) (set out n (a .number)) next (n + 1)
+      made-as M e₀ e₁ e₂ e₃ e₄ e₅ e₆ e₇ = rw (e₀, e₁, e₂, e₃, e₄, e₅, e₆, e₇) (going-on (turned h M))
+
+      pub going-refused : (a .number ≡ 0 → ⊥) → z ≡ s → sp ≡ τ .spans → o ≡ τ .order → t ≡ τ .tally → rs ≡ τ .rows → m ≡ τ .marks → lo ≡ τ .locations → w ≡ τ .waiting
+          → Going l s₁ σ₁ out₁ at₁ n₁ z (storage sp o t rs m lo w (τ .pool)) (set out n (a .number)) next (n + 1)
+      going-refused x = made-as (made-refused E x)
+
+      pub going-placed : {s′ : Session} {υ : Storage} → a .number ≡ 0 → Places s a s′ τ υ → z ≡ s′ → sp ≡ υ .spans → o ≡ υ .order → t ≡ υ .tally → rs ≡ υ .rows → m ≡ υ .marks → lo ≡ υ .locations → w ≡ υ .waiting
+          → Going l s₁ σ₁ out₁ at₁ n₁ z (storage sp o t rs m lo w (υ .pool)) (set out n (a .number)) next (n + 1)
+      going-placed x Q = made-as (made-placed E x Q)

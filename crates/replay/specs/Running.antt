@@ -25,7 +25,7 @@ use Rattle.session.specs.Rep.{Rep}
 use Rattle.opening.specs.Opened.{sizes, first-session, Opens, enough-of}
 use Rattle.replay.specs.Replay.{replay-number, Ran, Replays, Exported}
 use Rattle.replay.specs.Turn.{Running, running-start, running-end}
-use Rattle.replay.specs.Continuing.{MayContinue, Onward}
+use Rattle.replay.specs.Continuing.{MayContinue, Onward, onward-may, Going, going-begins}
 
 -- a fresh session, and numbers that are the calls `all`, for whose own numbers there is room
 pub record Starts (P N : ℕ) (all : List Call) (l : List ℕ) (s : Session) (σ : Storage) (out : List ℕ) : Type 0 where
@@ -54,8 +54,14 @@ module _ {l : List ℕ} {s₀ : Session} {σ₀ : Storage} {out₀ : List ℕ} w
   pub run-may : MayRun l s₀ σ₀ out₀ → MayContinue l s₀ σ₀ out₀ 0 0
   run-may ask = record { P = ask .P; N = ask .N; all = ask .all; σ₀ = σ₀; out₀ = out₀; running = begun (ask .P) (ask .N) (ask .all) (ask .starts) }
 
-  pub run-ends : {s : Session} {σ : Storage} {out : List ℕ} {at n : ℕ} → Onward l s₀ σ₀ out₀ 0 0 s σ out at n → length l ≤ at → Runs l s₀ σ₀ out₀ s σ out
-  run-ends {s} {σ} {out} {at} {n} O h = record { ran = λ P N all S. running-end P N l all σ₀ out₀ s σ out at n (O .running P N all σ₀ out₀ (begun P N all S)) h }
+  module _ {s : Session} {σ : Storage} {out : List ℕ} {at n : ℕ} (O : Onward l s₀ σ₀ out₀ 0 0 s σ out at n) where
+    -- from the first flush or final on, to the end
+    pub run-begins : MayRun l s₀ σ₀ out₀ → Going l s σ out at n s σ out at n
+    run-begins ask = going-begins (onward-may O (run-may ask))
+
+    pub run-ends : {s′ : Session} {σ′ : Storage} {out′ : List ℕ} {at′ n′ : ℕ} → Going l s σ out at n s′ σ′ out′ at′ n′ → length l ≤ at′ → Runs l s₀ σ₀ out₀ s′ σ′ out′
+    run-ends {s′} {σ′} {out′} {at′} {n′} G h =
+        record { ran = λ P N all S. running-end P N l all σ₀ out₀ s′ σ′ out′ at′ n′ (G .onward .running P N all σ₀ out₀ (O .running P N all σ₀ out₀ (begun P N all S))) h }
 
 -- the same from the storage before it was opened
 moved : (P N : ℕ) (cs : List Call) (s : Session) (σ τ υ : Storage) (out out′ : List ℕ) → τ .pool ≡ σ .pool → Frame P N 0 0 σ τ → Ran P N cs s τ υ out out′ → Ran P N cs s σ υ out out′
@@ -84,7 +90,7 @@ verdict-first (c ∷ cs) ds h = go (bool-cases (c .fails)) (λ z. verdict-first 
     go (inl e) f = rw (e, verdict)
     go (inr e) f = rw (e, verdict) (f (λ z. h (rw (e, verdict) z)))
 
-module _ (P N : ℕ) (l : List ℕ) (σ : Storage) (out : List ℕ) where
+module _ (P N : ℕ) (σ : Storage) where
   abbrev Passed : Type 0
   Passed = ((ltb P 1 || ltb 64999 P) ≡ false) × (((ltb N 1 || ltb 16777216 N) ≡ false) × (too-short P N (sizes σ) ≡ false))
 
@@ -102,62 +108,62 @@ module _ (P N : ℕ) (l : List ℕ) (σ : Storage) (out : List ℕ) where
       let x = passed e in
       rw (x .0, x .1 .0, x .1 .1)
 
-  module _ (well : Bool) (many : ℕ) (C : Counts l well many) where
-    pub replay-malformed : (s : Session) → well ≡ false → Replays P N l 15 s σ σ out out
+module _ {P N : ℕ} {l : List ℕ} {σ : Storage} {out : List ℕ} {well : Bool} {many : ℕ} (C : Counts l well many) where
+  pub replay-malformed : {n : ℕ} {s : Session} → n ≡ 15 → well ≡ false → Replays P N l n s σ σ out out
+  unfolding replay-number
+  replay-malformed d e =
+      record {
+        number-is = rw (C .malformed e) d;
+        refused = λ z. (refl, refl);
+        ran = λ z. absurd (omega (arith, d, z));
+      }
+
+  module _ (w : well ≡ true) where
+    pub replay-refused : {n m : ℕ} {s : Session} → n ≡ m → m ≡ verdict (check-open P N (sizes σ)) → (m ≡ 0 → ⊥) → Replays P N l n s σ σ out out
     unfolding replay-number
-    replay-malformed s e =
+    replay-refused d e h =
         record {
-          number-is = rw (C .malformed e);
+          number-is = rw (C .formed w .1) (d ∙ e ∙ sym (verdict-first (check-open P N (sizes σ)) _ (λ z. h (e ∙ z))));
           refused = λ z. (refl, refl);
-          ran = λ z. absurd (omega arith);
+          ran = λ z. absurd (h (sym d ∙ z));
         }
 
-    module _ (w : well ≡ true) where
-      pub replay-refused : (n : ℕ) (s : Session) → n ≡ verdict (check-open P N (sizes σ)) → (n ≡ 0 → ⊥) → Replays P N l n s σ σ out out
-      unfolding replay-number
-      replay-refused n s e h =
-          record {
-            number-is = rw (C .formed w .1) (e ∙ sym (verdict-first (check-open P N (sizes σ)) _ (λ z. h (e ∙ z))));
-            refused = λ z. (refl, refl);
-            ran = λ z. absurd (h z);
-          }
+    pub replay-no-room : {n : ℕ} {s : Session} → n ≡ 2 → 0 ≡ verdict (check-open P N (sizes σ)) → length out < many → Replays P N l n s σ σ out out
+    unfolding replay-number verdict
+    replay-no-room d e h =
+        let f : ltb (length out) (length (C .formed w .0)) ≡ true = lt-ltb (length out) (length (C .formed w .0)) (omega (arith, C .formed w .2)) in
+        record {
+          number-is = rw (C .formed w .1) (d ∙ sym (passed-open P N σ _ e ∙ rw f));
+          refused = λ z. (refl, refl);
+          ran = λ z. absurd (omega (arith, d, z));
+        }
 
-      pub replay-no-room : (s : Session) → 0 ≡ verdict (check-open P N (sizes σ)) → length out < many → Replays P N l 2 s σ σ out out
-      unfolding replay-number verdict
-      replay-no-room s e h =
-          let f : ltb (length out) (length (C .formed w .0)) ≡ true = lt-ltb (length out) (length (C .formed w .0)) (omega (arith, C .formed w .2)) in
-          record {
-            number-is = rw (C .formed w .1) (sym (passed-open _ e ∙ rw f));
-            refused = λ z. (refl, refl);
-            ran = λ z. absurd (omega arith);
-          }
+    starts-of : {n : ℕ} {s : Session} {τ : Storage} → 0 ≡ verdict (check-open P N (sizes σ)) → many ≤ length out → Opens P N n s σ τ → Starts P N (C .formed w .0) l s τ out
+    starts-of {n} e h O =
+        let z : n ≡ 0 = O .number ∙ sym e in
+        record {
+          positive = enough-of P N σ e .one;
+          is = C .formed w .1;
+          room = omega (arith, C .formed w .2);
+          rep = O .rep z;
+          first = ap (λ (x : Session). x .guide .written) (O .session z) ∙ first-written P N;
+        }
 
-      starts-of : (n : ℕ) (s : Session) (τ : Storage) → 0 ≡ verdict (check-open P N (sizes σ)) → many ≤ length out → Opens P N n s σ τ → Starts P N (C .formed w .0) l s τ out
-      starts-of n s τ e h O =
-          let z : n ≡ 0 = O .number ∙ sym e in
-          record {
-            positive = enough-of P N σ e .one;
-            is = C .formed w .1;
-            room = omega (arith, C .formed w .2);
-            rep = O .rep z;
-            first = ap (λ (x : Session). x .guide .written) (O .session z) ∙ first-written P N;
-          }
+    pub may-run : {n : ℕ} {s : Session} {τ : Storage} → 0 ≡ verdict (check-open P N (sizes σ)) → many ≤ length out → Opens P N n s σ τ → MayRun l s τ out
+    may-run e h O = record { P = P; N = N; all = C .formed w .0; starts = starts-of e h O }
 
-      pub may-run : (n : ℕ) (s : Session) (τ : Storage) → 0 ≡ verdict (check-open P N (sizes σ)) → many ≤ length out → Opens P N n s σ τ → MayRun l s τ out
-      may-run n s τ e h O = record { P = P; N = N; all = C .formed w .0; starts = starts-of n s τ e h O }
-
-      pub replay-done : (n : ℕ) (s s′ : Session) (τ υ : Storage) (out′ : List ℕ) → 0 ≡ verdict (check-open P N (sizes σ)) → many ≤ length out → Opens P N n s σ τ → τ .pool ≡ σ .pool → Runs l s τ out s′ υ out′
-          → Replays P N l 0 s′ σ υ out out′
-      unfolding replay-number verdict
-      replay-done n s s′ τ υ out′ e h O ep R =
-          let z : n ≡ 0 = O .number ∙ sym e in
-          let f : ltb (length out) (length (C .formed w .0)) ≡ false = le-ltb (length out) (length (C .formed w .0)) (omega (arith, C .formed w .2)) in
-          let r = R .ran P N (C .formed w .0) (starts-of n s τ e h O) in
-          record {
-            number-is = rw (C .formed w .1) (sym (passed-open _ e ∙ rw f));
-            refused = λ x. absurd (x refl);
-            ran = λ x. (C .formed w .0, C .formed w .1, moved P N (C .formed w .0) s′ σ τ υ out out′ ep (O .frame z) r);
-          }
+    pub replay-done : {n : ℕ} {s s′ : Session} {τ υ : Storage} {out′ : List ℕ} → 0 ≡ verdict (check-open P N (sizes σ)) → many ≤ length out → Opens P N n s σ τ → τ .pool ≡ σ .pool → Runs l s τ out s′ υ out′
+        → Replays P N l 0 s′ σ υ out out′
+    unfolding replay-number verdict
+    replay-done {n} {s} {s′} {τ} {υ} {out′} e h O ep R =
+        let z : n ≡ 0 = O .number ∙ sym e in
+        let f : ltb (length out) (length (C .formed w .0)) ≡ false = le-ltb (length out) (length (C .formed w .0)) (omega (arith, C .formed w .2)) in
+        let r = R .ran P N (C .formed w .0) (starts-of e h O) in
+        record {
+          number-is = rw (C .formed w .1) (sym (passed-open P N σ _ e ∙ rw f));
+          refused = λ x. absurd (x refl);
+          ran = λ x. (C .formed w .0, C .formed w .1, moved P N (C .formed w .0) s′ σ τ υ out out′ ep (O .frame z) r);
+        }
 
 -- by one number
 module _ {P N : ℕ} {l : List ℕ} {n : ℕ} {s : Session} {σ τ : Storage} {out out′ : List ℕ} (R : Replays P N l n s σ τ out out′) where

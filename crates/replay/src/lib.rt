@@ -279,6 +279,17 @@ fn run_calls(
     r.session
 }
 
+// A refusal: its number, with a session that is of no use.
+fn refused(n: u64) -> Answer
+    ensures { λ r. ⌜ r .number ≡ n ⌝ }
+{
+    let s = opening::fresh(0, 0);
+    Answer {
+        number: n,
+        session: s,
+    }
+}
+
 // Opens a session of parallelism p and v places on the storage and makes the encoded calls, storing each one's number in `answers`.
 // Refused, nothing is written, and the session is of no use.
 pub fn replay(
@@ -299,11 +310,7 @@ pub fn replay(
 {
     let c = encoding::count_calls(calls);
     if !c.well {
-        let s = opening::fresh(0, 0);
-        return Answer {
-            number: 15,
-            session: s,
-        };
+        return refused(15);
     }
     let n = opening::check_open(
         p,
@@ -317,18 +324,10 @@ pub fn replay(
         tally.len(),
     );
     if n != 0 {
-        let s = opening::fresh(0, 0);
-        return Answer {
-            number: n,
-            session: s,
-        };
+        return refused(n);
     }
     if answers.len() < c.calls {
-        let s = opening::fresh(0, 0);
-        return Answer {
-            number: 2,
-            session: s,
-        };
+        return refused(2);
     }
     let o = opening::open(
         tally,

@@ -5,10 +5,9 @@ use Prim.Native.Nat.{_-_}
 use mathlib.Core.Logic.{⊎-elim}
 use native.Mathlib.Omega.{arith}
 use Rattle.session.specs.Storage.{storage}
-use Rattle.replay.specs.Making.{made-refused, made-placed}
 use Rattle.admitting.specs.Begun.{places, row-there}
 use Rattle.replay.specs.Cascading.{Cascading, cascading-begins, cascading-turn, cascading-less, cascading-step, cascading-ends}
-use Rattle.replay.specs.Continuing.{storage-as, turned, Going, going-begins, going-asks, going-readable, going-room, going-on, going-as}
+use Rattle.replay.specs.Continuing.{Going, going-begins, going-asks, going-readable, going-room, going-refused, going-placed}
 use Rattle.replay.proofs.run_open.Statement.{statement}
 use Rattle.replay.proofs.run_open.Tie as tie
 
@@ -32,7 +31,7 @@ loop-holds : tie.Need-loop-holds Inv-loop2 μ-loop2 Inv-loop μ-loop
 loop-holds c = going-begins (c .before .before .before .before .before .before .before .before .before .before .pre)
 
 mul-if1 : tie.Need-mul-if1 Inv-loop2 μ-loop2 Inv-loop μ-loop
-mul-if1 c = omega (arith, c .loop-test .taken, c .before .before .before .before .before .before .before .before .before .before .before .before .good)
+mul-if1 c = omega (arith, c .loop-test .taken, c .before .before .before .before .before .before .before .before .before .before .before .before .good .1 .1 .1 .1 .1 .1 .1 .1 .1 .1 .0)
 
 shared-slice-read-if1 : tie.Need-shared-slice-read-if1 Inv-loop2 μ-loop2 Inv-loop μ-loop
 shared-slice-read-if1 c = c .before .loop-test .taken
@@ -41,7 +40,7 @@ admit-call-requires : tie.Need-admit-call-requires Inv-loop2 μ-loop2 Inv-loop �
 admit-call-requires c κs = let g = c .before .before .before .before .before .before .before .before .before .before .before .loop .inv in (going-asks g, (going-readable g (c .before .before .before .before .before .before .before .before .before .before .loop-test .taken), c .before .before .before .before .before .before .before .before .if1 .left))
 
 mul-answers : tie.Need-mul-answers Inv-loop2 μ-loop2 Inv-loop μ-loop
-mul-answers c = let g = c .before .before .before .before .before .before .before .before .before .before .before .before .before .before .before .before .before .before .before .loop .inv in let h = c .before .before .before .before .before .before .before .before .before .before .before .before .before .before .before .before .before .before .loop-test .taken in omega (arith, going-room g h, g .kept .answers, c .before .before .before .before .before .before .before .before .before .before .before .before .before .before .before .before .before .before .before .before .before .before .before .before .before .before .before .before .before .before .good)
+mul-answers c = let g = c .before .before .before .before .before .before .before .before .before .before .before .before .before .before .before .before .before .before .before .loop .inv in let h = c .before .before .before .before .before .before .before .before .before .before .before .before .before .before .before .before .before .before .loop-test .taken in omega (arith, going-room g h, g .kept .answers, c .before .before .before .before .before .before .before .before .before .before .before .before .before .before .before .before .before .before .before .before .before .before .before .before .before .before .before .before .before .before .good .1 .1 .1 .1 .1 .1 .1 .1 .1 .0)
 
 slice-write-answers : tie.Need-slice-write-answers Inv-loop2 μ-loop2 Inv-loop μ-loop
 slice-write-answers c = going-room (c .before .before .before .before .before .before .before .before .before .before .before .before .before .before .before .before .before .before .before .loop .inv) (c .before .before .before .before .before .before .before .before .before .before .before .before .before .before .before .before .before .before .loop-test .taken)
@@ -62,7 +61,7 @@ note-added-requires : tie.Need-note-added-requires Inv-loop2 μ-loop2 Inv-loop �
 note-added-requires c κs = let i = c .before .before .loop2 .inv in row-there (c .before .before .before .before .before .before .before .before .before .before .before .before .before .before .before .before .before .before .before .before .before .before .before .before .loop .z) (c .before .before .before .before .before .before .before .before .before .before .before .before .admit-call .result .admitted) _ _ _ (cascading-ends i (c .before .loop2-test .left)) (i .may)
 
 add-n : tie.Need-add-n Inv-loop2 μ-loop2 Inv-loop μ-loop
-add-n c = let g = c .before .before .before .before .before .before .before .before .before .before .before .before .before .before .before .before .before .before .before .before .before .loop .inv in let h = c .before .before .before .before .before .before .before .before .before .before .before .before .before .before .before .before .before .before .before .before .loop-test .taken in omega (arith, going-room g h, g .kept .answers, c .before .before .before .before .before .before .before .before .before .before .before .before .before .before .before .before .before .before .before .before .before .before .before .before .before .before .before .before .before .before .before .before .good)
+add-n c = let g = c .before .before .before .before .before .before .before .before .before .before .before .before .before .before .before .before .before .before .before .before .before .loop .inv in let h = c .before .before .before .before .before .before .before .before .before .before .before .before .before .before .before .before .before .before .before .before .loop-test .taken in omega (arith, going-room g h, g .kept .answers, c .before .before .before .before .before .before .before .before .before .before .before .before .before .before .before .before .before .before .before .before .before .before .before .before .before .before .before .before .before .before .before .before .good .1 .1 .1 .1 .1 .1 .1 .1 .1 .0)
 
 loop-less : tie.Need-loop-less Inv-loop2 μ-loop2 Inv-loop μ-loop
 loop-less c = let d = c .before .before .before .before .before .before .before .before .before .admit-call .ensures in omega (arith, d .past, d .within)
@@ -70,8 +69,8 @@ loop-less c = let d = c .before .before .before .before .before .before .before 
 loop-again : tie.Need-loop-again Inv-loop2 μ-loop2 Inv-loop μ-loop
 loop-again c = let g = c .before .before .before .before .before .before .before .before .before .before .before .before .before .before .before .before .before .before .before .before .before .loop .inv in let h = c .before .before .before .before .before .before .before .before .before .before .before .before .before .before .before .before .before .before .before .before .loop-test .taken in let d = c .before .before .before .before .before .before .before .before .before .admit-call .ensures in
     ⊎-elim
-    (λ w. going-as (going-on g (turned h (made-placed d (w .0 .taken) (places (c .before .before .before .before .before .before .before .before .before .before .before .before .before .before .before .before .before .before .before .before .before .loop .z) (c .before .before .before .before .before .before .before .before .before .admit-call .result .admitted) _ _ _ (cascading-ends (w .1 .inv) (w .2 .left)) _ (w .4 .ensures))))) (w .14) (storage-as (w .7) (w .8) (w .9) (w .10) (w .11) (w .12) (w .13)))
-    (λ w. going-as (going-on g (turned h (made-refused d (w .0 .left)))) (w .8) (storage-as (w .1) (w .2) (w .3) (w .4) (w .5) (w .6) (w .7)))
+    (λ w. going-placed g h d (w .0 .taken) (places (c .before .before .before .before .before .before .before .before .before .before .before .before .before .before .before .before .before .before .before .before .before .loop .z) (c .before .before .before .before .before .before .before .before .before .admit-call .result .admitted) _ _ _ (cascading-ends (w .1 .inv) (w .2 .left)) _ (w .4 .ensures)) (w .14) (w .7) (w .8) (w .9) (w .10) (w .11) (w .12) (w .13))
+    (λ w. going-refused g h d (w .0 .left) (w .8) (w .1) (w .2) (w .3) (w .4) (w .5) (w .6) (w .7))
     (c .if2 .came)
 
 same-length : tie.Need-same-length Inv-loop2 μ-loop2 Inv-loop μ-loop
