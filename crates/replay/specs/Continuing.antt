@@ -52,7 +52,7 @@ module _ {l : List ℕ} {s : Session} {σ : Storage} {out : List ℕ} {at n : �
   turned {num} {next} h M = record { running = λ P N all σ₀ out₀ R. running-turn P N l all σ₀ out₀ s σ out at n R h s′ σ′ num next M; upto = omega (arith, M .past) }
 
   module _ {out′ : List ℕ} {at′ n′ : ℕ} (O : Onward l s σ out at n s′ σ′ out′ at′ n′) where
-    pub onward-trans : {s″ : Session} {σ″ : Storage} {out″ : List ℕ} {at″ n″ : ℕ} → Onward l s′ σ′ out′ at′ n′ s″ σ″ out″ at″ n″ → Onward l s σ out at n s″ σ″ out″ at″ n″
+    onward-trans : {s″ : Session} {σ″ : Storage} {out″ : List ℕ} {at″ n″ : ℕ} → Onward l s′ σ′ out′ at′ n′ s″ σ″ out″ at″ n″ → Onward l s σ out at n s″ σ″ out″ at″ n″
     onward-trans X = record { running = λ P N all σ₀ out₀ R. X .running P N all σ₀ out₀ (O .running P N all σ₀ out₀ R); upto = omega (arith, O .upto, X .upto) }
 
     module _ (ask : MayContinue l s σ out at n) where
@@ -78,7 +78,7 @@ module _ {l : List ℕ} {s : Session} {σ : Storage} {out : List ℕ} {at n : �
             answers = later .long ∙ sym (ask .running .long);
           }
 
--- the invariant
+-- midway, having begun at s₁, σ₁, out₁, at₁ and n₁
 pub record Going (l : List ℕ) (s₁ : Session) (σ₁ : Storage) (out₁ : List ℕ) (at₁ n₁ : ℕ) (s : Session) (σ : Storage) (out : List ℕ) (at n : ℕ) : Type 0 where
   pub onward : Onward l s₁ σ₁ out₁ at₁ n₁ s σ out at n
   pub may : MayContinue l s σ out at n

@@ -1,7 +1,7 @@
 // A list of calls, encoded as numbers, made on a fresh session: the claim about every list of calls, as a function that runs.
 ghost use mathlib.Core.Path.{_≡_};
-ghost use Prim.Native.Nat.{ℕ, _+_, _*_, _≤_, _<_};
-ghost use lib.ListN.{length, getD};
+ghost use Prim.Native.Nat.{_+_, _≤_};
+ghost use lib.ListN.{getD};
 ghost use Rattle.session.specs.Storage.{storage};
 ghost use Rattle.admitting.specs.Promise.{Asks};
 ghost use Rattle.replay.specs.Replay.{Made, AdmitsAt, Readable, Replays, Exported};
@@ -341,9 +341,8 @@ pub fn replay(
         p,
         v,
     );
-    let s = o.session;
     let z = run_calls(
-        s,
+        o.session,
         spans,
         order,
         tally,
