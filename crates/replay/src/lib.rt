@@ -135,6 +135,7 @@ fn make_end(
 }
 
 // Makes the sets and adds from `from` on, up to the first flush or final, and stores each one's number; `done` calls were made before.
+// What a call sets off is placed here, on the loop's own session, which a function for it would copy.
 fn run_open(
     s: Session,
     spans: &mut [u32],
