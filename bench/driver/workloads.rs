@@ -76,7 +76,9 @@ fn poseidon(list: &mut List, places: usize) {
     let mut next = 0..;
     let mut fresh = || next.next().expect("the numbers do not end");
     let mut sponges = [[None; STATE]; 16];
-    for permutation in 0..(places / PLACES).max(1) {
+    // The first permutation of each sponge sets the rest of its state too.
+    let first = sponges.len() * (STATE - RATE);
+    for permutation in 0..(places.saturating_sub(first) / PLACES).max(1) {
         let sponge = &mut sponges[permutation % 16];
         let mut state = sponge.map(|place| place.unwrap_or(0));
         for (i, place) in state.iter_mut().enumerate() {
