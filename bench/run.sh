@@ -3,7 +3,7 @@
 # tables and draws the plots. What is measured is kept as target/bench/times.tsv and counts.tsv.
 #
 #   bench/run.sh          a few minutes
-#   bench/run.sh --full   V up to 2^22 on all sides (2^24 on `replay`), 100,000 waiting: half an hour
+#   bench/run.sh --full   V up to 2^22 on all sides (2^24 on `replay`), 100,000 waiting: ten minutes
 #   bench/run.sh --lto    the Rust with link-time optimisation; can stand beside --full
 #   bench/run.sh --plots FOLDER   writes the plots there; else they go to target/bench
 set -euo pipefail
