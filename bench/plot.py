@@ -12,7 +12,7 @@ from report import SIDES, times
 
 LABELS = {"published": "Rust, published", "ordered": "Rust, ordered", "ours": "ours"}
 COLOURS = {"published": "#b3541e", "ordered": "#d9a441", "ours": "#1f6f8b"}
-WIDTH, HEIGHT, LEFT, RIGHT, TOP, BOTTOM = 640, 400, 70, 150, 40, 55
+WIDTH, HEIGHT, LEFT, RIGHT, TOP, BOTTOM = 720, 400, 95, 205, 40, 55
 
 
 class Axis:
