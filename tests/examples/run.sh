@@ -1,0 +1,35 @@
+#!/bin/bash
+# Every job of examples/ gives the listing that is kept beside it, the generated ones are what their
+# commands write, and the answers in examples/README.md are those of the refused ones. Needs
+# target/bin/order, which the proofs' step builds.
+set -euo pipefail
+cd "$(dirname "$0")/../.."
+
+order=target/bin/order
+failed=0 count=0
+for job in examples/*.job examples/refused/*.job; do
+  count=$((count + 1))
+  $order <"$job" | diff "${job%.job}.listing" - || { echo "tests/examples: $job has another listing" >&2; failed=1; }
+done
+
+while read -r name command; do
+  $command | diff "examples/$name" - >/dev/null || { echo "tests/examples: $name is not what '$command' writes" >&2; failed=1; }
+done < <(sed -n 's/^| \[\([a-z]*\.job\)\].*| `\(tools[^`]*\)` |$/\1 \2/p' examples/README.md)
+
+told=0
+while IFS='|' read -r name status line; do
+  told=$((told + 1))
+  [ "$(printf 'status=%s\nline=%s' "$status" "$line")" = "$(cat "examples/refused/$name.listing")" ] ||
+    { echo "tests/examples: README tells another answer of $name" >&2; failed=1; }
+done < <(sed -n 's/^| \[\([a-z-]*\)\](refused.*| status=\([0-9]*\), line=\([0-9]*\) |.*/\1|\2|\3/p' examples/README.md)
+[ "$told" -eq "$(ls examples/refused/*.job | wc -l)" ] || { echo "tests/examples: README leaves out a refused job" >&2; failed=1; }
+[ $failed = 0 ] || exit 1
+
+for words in 'poseidon' 'poseidon 0' 'tower 3' 'chain 4 --parallelism x'; do
+  status=0
+  # shellcheck disable=SC2086
+  tools/circuit.py $words >/dev/null 2>&1 || status=$?
+  [ $status = 2 ] || { echo "tests/examples: circuit.py takes '$words'" >&2; exit 1; }
+done
+tools/circuit.py wide 100000 2>&1 | head -n 1 | grep -qx 'parallelism=8' || { echo "tests/examples: circuit.py minds a closed pipe" >&2; exit 1; }
+echo "examples: $count jobs with their listings, $told answers told, 4 misuses refused"
