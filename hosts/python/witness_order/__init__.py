@@ -1,0 +1,28 @@
+"""Execution orders of circuits, by the proved libraries. (Host code: not proved; what it calls is.)
+
+    from witness_order import Calls, replay, run_job
+
+    listing = run_job("parallelism=2\nplaces=2\nin=\nout=0\nin=0\nout=1\nfinal=1\n")
+    for entry in listing.entries:
+        print(entry.added, entry.parallelism)
+
+    calls = Calls().set(0).add([0], [1, 2]).add([2], [3]).final()
+    result = replay(parallelism=4, places=4, calls=calls)
+    print(result.numbers, [entry.added for entry in result.entries()], result.summary().median)
+
+A job or a list of calls that is refused as a whole raises `Rejected`, with the number as a `Refusal` and,
+for a job, the line. A call refused within a list raises nothing: `numbers` has its number, and it has
+changed nothing. The formats stand in docs/JOB.md and docs/REPLAY.md.
+
+The shared libraries are looked for in the folder that ORDER_LIBS names, beside an installed module, and
+in the repository, where they are linked from the archives of `rt staticlib` when that is needed.
+"""
+from .layout import Entry, Figures, Row
+from .libraries import LibraryMissing
+from .refusals import Refusal
+from .calls import Calls, Rejected, Replayed, replay
+from .job import Listed, Listing, run_job
+
+__all__ = [
+    "Calls", "Entry", "Figures", "LibraryMissing", "Listed", "Listing", "Refusal", "Rejected", "Replayed", "Row", "replay", "run_job",
+]

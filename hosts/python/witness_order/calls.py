@@ -1,0 +1,111 @@
+"""A list of calls made on a fresh session. (Host code: not proved; `replay_calls`, which runs them, is.)"""
+import ctypes
+
+from . import layout
+from .libraries import function, lent
+from .refusals import Refusal
+
+SET, ADD, FLUSH, FINAL = 1, 2, 3, 4
+MOST = 2**64 - 1
+
+
+class Rejected(Exception):
+    """A job, a list of calls or a tally was refused: `refusal`, and for a job `line`."""
+
+    def __init__(self, number, line=None):
+        self.refusal = Refusal(number)
+        self.line = line
+        where = "" if line is None else f"line {line}: "
+        super().__init__(f"{where}{self.refusal} (number {number})")
+
+
+def numbers_of(values):
+    """A list of places as 64-bit numbers."""
+    found = list(values)
+    for value in found:
+        if not isinstance(value, int) or not 0 <= value <= MOST:
+            raise ValueError(f"{value!r} is no 64-bit place")
+    return found
+
+
+class Calls:
+    """A list of calls, made one after another; each method returns the list itself."""
+
+    def __init__(self):
+        self.encoded = []
+        self.count = 0
+        self.pooled = 0
+
+    def _more(self, numbers):
+        self.encoded += numbers
+        self.count += 1
+        return self
+
+    def set(self, place):
+        return self._more([SET, *numbers_of([place])])
+
+    def add(self, inputs, outputs):
+        ins, outs = numbers_of(inputs), numbers_of(outputs)
+        self.pooled += len(ins) + len(outs)
+        return self._more([ADD, len(ins), *ins, len(outs), *outs])
+
+    def flush(self):
+        return self._more([FLUSH])
+
+    def final(self):
+        return self._more([FINAL])
+
+
+class Replayed:
+    """What a list of calls left: each call's number (0 where it was accepted), the order, rows, marks and tally."""
+
+    def __init__(self, storage, numbers, length):
+        self.storage = storage
+        self.numbers = numbers
+        self.length = length
+
+    def entries(self):
+        """The order's entries, one after another."""
+        return (layout.entry_at(self.storage["order"], index) for index in range(self.length))
+
+    def row(self, registration):
+        """A registration's row; zeros but for `written` until its entry stands in the order."""
+        if not 0 <= registration < len(self.storage["rows"]) // layout.ROW_NUMBERS:
+            raise IndexError(registration)
+        return layout.row_at(self.storage["rows"], registration)
+
+    def tally(self):
+        """How many entries have each parallelism, from 0 to P."""
+        return list(self.storage["tally"])
+
+    def mark(self, place):
+        """0 untracked, 32,768 written by a registration, 49,152 set."""
+        if not 0 <= place < len(self.storage["marks"]):
+            raise IndexError(place)
+        return self.storage["marks"][place]
+
+    def summary(self):
+        """The average, the median, the counts for 0 to 127 and the 65 sums of thousands."""
+        numbers = (ctypes.c_uint32 * layout.SUMMARY_NUMBERS)()
+        refused = function("order_summary")(*lent(self.storage["tally"], numbers))
+        if refused:
+            raise Rejected(refused)
+        return layout.figures_of(numbers)
+
+
+def replay(parallelism, places, calls, pool=None):
+    """Runs a list of calls on a fresh session. The pool has room for all lists of the calls unless given.
+
+    Raises Rejected where the parallelism or the count of places is out of range, and MemoryError where
+    there is no memory for so many places."""
+    parallelism, places, size = numbers_of([parallelism, places, calls.pooled if pool is None else pool])
+    if not layout.in_range(parallelism, places):
+        raise Rejected(Refusal.OUT_OF_RANGE)
+    storage = layout.storage(parallelism, places, size)
+    answers = (ctypes.c_uint64 * calls.count)()
+    encoded = (ctypes.c_uint64 * len(calls.encoded))(*calls.encoded)
+    result = function("replay_calls")(*lent(*storage.values(), answers, encoded), parallelism, places)
+    # An accepted list gives 64 times the order's length, a refused one its number, which is below 64.
+    if 0 < result < 64:
+        raise Rejected(result)
+    return Replayed(storage, list(answers), result // 64)

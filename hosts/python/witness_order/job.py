@@ -1,0 +1,41 @@
+"""A job run by one call. (Host code: not proved; `order_job`, which runs it, is.)"""
+import collections
+import ctypes
+
+from .calls import Rejected
+from .libraries import function, lent
+
+LISTING_BYTES = 65_536
+
+# An entry's line: its order index, and the line's other fields by their names.
+Listed = collections.namedtuple("Listed", "index added accepted parallelism written")
+
+
+class Listing:
+    """The listing of an accepted job: its text, the numbers of its head by name, its entries."""
+
+    def __init__(self, text):
+        self.text = text
+        self.head = {}
+        self.entries = []
+        for line in text.splitlines():
+            numbers = {key: int(number) for key, number in (word.split("=") for word in line.split(" "))}
+            if "order" in numbers:
+                self.entries.append(Listed(numbers["order"], *(numbers[key] for key in Listed._fields[1:])))
+            else:
+                self.head.update(numbers)
+
+    def __str__(self):
+        return self.text
+
+
+def run_job(job, room=LISTING_BYTES):
+    """Runs a job, given as text or bytes, with so many bytes for its listing. Raises Rejected where it is refused."""
+    data = job.encode() if isinstance(job, str) else bytes(job)
+    text = (ctypes.c_uint8 * len(data)).from_buffer_copy(data) if data else (ctypes.c_uint8 * 0)()
+    listing = (ctypes.c_uint8 * room)()
+    result = function("order_job")(*lent(text, listing))
+    rest, number = divmod(result, 64)
+    if number:
+        raise Rejected(number, rest)
+    return Listing(bytes(listing[:rest]).decode("ascii"))

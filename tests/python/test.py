@@ -1,0 +1,148 @@
+"""The Python module against the proved libraries: J1, lists of calls beside jobs, refusals, bad arguments."""
+import os
+import random
+import subprocess
+import sys
+import unittest
+
+ROOT = os.path.dirname(os.path.dirname(os.path.dirname(os.path.abspath(__file__))))
+sys.path.insert(0, os.path.join(ROOT, "hosts", "python"))
+
+import witness_order as order  # noqa: E402
+
+
+def read(*path):
+    with open(os.path.join(ROOT, *path), encoding="ascii") as text:
+        return text.read()
+
+
+def random_list(seed):
+    """A random list of calls as the lines of a job and as Calls, with P and V; some of it is refused."""
+    source = random.Random(seed)
+    parallelism, places = source.choice([1, 2, 3, 8, 64]), source.randrange(1, 40)
+    calls, lines = order.Calls(), []
+    for _ in range(source.randrange(1, 60)):
+        if source.random() < 0.3:
+            place = source.randrange(places + 1)
+            calls.set(place)
+            lines.append([f"set={place}"])
+        elif source.random() < 0.1:
+            calls.flush()
+            lines.append(["flush=1"])
+        else:
+            ins = [source.randrange(places) for _ in range(source.randrange(4))]
+            outs = [source.randrange(places) for _ in range(source.randrange(3))]
+            calls.add(ins, outs)
+            lines.append(["in=" + ",".join(map(str, ins)), "out=" + ",".join(map(str, outs))])
+    calls.final()
+    lines.append(["final=1"])
+    return parallelism, places, calls, lines
+
+
+class Jobs(unittest.TestCase):
+    def test_j1(self):
+        listing = order.run_job(read("crates", "order", "stdin"))
+        self.assertEqual(str(listing), read("crates", "order", "stdout"))
+        self.assertEqual([entry.added for entry in listing.entries], [0, 2, 1, 3])
+        self.assertEqual(listing.head["median"], 2)
+        self.assertEqual(order.run_job(read("crates", "order", "stdin").encode()).text, listing.text)
+
+    def test_refused(self):
+        for name in sorted(os.listdir(os.path.join(ROOT, "examples", "refused"))):
+            if name.endswith(".job"):
+                expected = dict(line.split("=") for line in read("examples", "refused", name[:-4] + ".listing").split())
+                with self.assertRaises(order.Rejected) as refused:
+                    order.run_job(read("examples", "refused", name))
+                self.assertEqual(refused.exception.refusal, int(expected["status"]), name)
+                self.assertEqual(refused.exception.line, int(expected["line"]), name)
+                self.assertIn(str(refused.exception.refusal), str(refused.exception))
+
+    def test_room(self):
+        text = read("crates", "order", "stdout")
+        self.assertEqual(order.run_job(read("crates", "order", "stdin"), len(text)).text, text)
+        with self.assertRaises(order.Rejected) as refused:
+            order.run_job(read("crates", "order", "stdin"), len(text) - 1)
+        self.assertEqual((refused.exception.refusal, refused.exception.line), (order.Refusal.LONG_LISTING, 1))
+        with self.assertRaises(order.Rejected) as refused:
+            order.run_job(b"#" * 65_537)
+        self.assertEqual(refused.exception.refusal, order.Refusal.LONG_JOB)
+
+
+class Lists(unittest.TestCase):
+    def test_beside_jobs(self):
+        """The calls that are accepted, as a job, give the order that the whole list gives."""
+        finished = 0
+        for seed in range(400):
+            parallelism, places, calls, lines = random_list(seed)
+            result = order.replay(parallelism, places, calls)
+            self.assertEqual(len(result.numbers), len(lines))
+            if result.numbers[-1]:
+                continue
+            finished += 1
+            accepted = [line for number, call in zip(result.numbers, lines) if number == 0 for line in call]
+            listing = order.run_job("\n".join([f"parallelism={parallelism}", f"places={places}", *accepted, ""]))
+            self.assertEqual(
+                [(entry.added, entry.accepted, entry.parallelism, result.row(entry.added).written) for entry in result.entries()],
+                [(entry.added, entry.accepted, entry.parallelism, entry.written) for entry in listing.entries],
+            )
+            for index, entry in enumerate(result.entries()):
+                self.assertEqual(result.row(entry.added).index, index)
+                self.assertEqual(entry.value, entry.added)
+            tally = [0] * (parallelism + 1)
+            for entry in result.entries():
+                tally[entry.parallelism] += 1
+            self.assertEqual(result.tally(), tally)
+            summary = result.summary()
+            self.assertEqual(summary.median, listing.head["median"])
+            self.assertEqual(sum(summary.counts), sum(summary.thousands))
+            self.assertEqual(sum(summary.counts), result.length)
+            self.assertAlmostEqual(summary.average, result.length / 65_000, places=7)
+        self.assertGreater(finished, 40)
+
+    def test_marks(self):
+        result = order.replay(2, 4, order.Calls().set(0).add([0], [1]).add([3], [2]))
+        self.assertEqual([result.mark(place) for place in range(4)], [49_152, 32_768, 0, 0])
+
+    def test_numbers(self):
+        calls = order.Calls().set(0).set(0).add([0], [9]).final().flush()
+        self.assertEqual(order.replay(2, 4, calls).numbers, [0, 8, 5, 0, 7])
+        self.assertEqual(order.replay(2, 4, order.Calls().add([], [0, 1]), pool=1).numbers, [10])
+
+    def test_refused(self):
+        for parallelism, places in [(0, 1), (65_000, 1), (1, 0), (1, 16_777_217), (2**32 + 1, 1), (1, 2**64 - 1)]:
+            with self.assertRaises(order.Rejected) as refused:
+                order.replay(parallelism, places, order.Calls())
+            self.assertEqual(refused.exception.refusal, order.Refusal.OUT_OF_RANGE)
+
+    def test_bad_arguments(self):
+        for bad in (-1, 2**64, 1.5, "1", None):
+            for call in (lambda: order.Calls().set(bad), lambda: order.Calls().add([bad], []), lambda: order.Calls().add([], [bad])):
+                self.assertRaises(ValueError, call)
+            if bad is not None:
+                self.assertRaises(ValueError, order.replay, 1, 1, order.Calls(), pool=bad)
+            self.assertRaises(ValueError, order.replay, bad, 1, order.Calls())
+        result = order.replay(1, 1, order.Calls())
+        for bad in (-1, 1):
+            self.assertRaises(IndexError, result.row, bad)
+            self.assertRaises(IndexError, result.mark, bad)
+
+    def test_large(self):
+        """A chain of 100,000: every width is 1."""
+        calls = order.Calls().set(0)
+        for place in range(1, 100_000):
+            calls.add([place - 1], [place])
+        result = order.replay(4, 100_000, calls.final())
+        self.assertEqual(result.length, 99_999)
+        self.assertTrue(all(entry.parallelism == 1 for entry in result.entries()))
+
+
+class Libraries(unittest.TestCase):
+    def test_missing(self):
+        script = "import witness_order as w\ntry: w.run_job('')\nexcept w.LibraryMissing as e: print('missing:', e)"
+        environment = dict(os.environ, ORDER_LIBS="/nonexistent", PYTHONPATH=os.path.join(ROOT, "hosts", "python"))
+        said = subprocess.run([sys.executable, "-c", script], env=environment, capture_output=True, text=True, check=True)
+        self.assertIn("missing: no liborder_host.so in /nonexistent", said.stdout)
+
+
+if __name__ == "__main__":
+    unittest.main()
