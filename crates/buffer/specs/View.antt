@@ -52,3 +52,5 @@ pub record Laid (g : Guide) (s : List ℕ) : Type 0 where
   pub short : Most (g .p + 1) (g .window .lens)
   pub numbered : g .window .ids ≡ upto (getD (g .window .ids) 0 0) 32
   pub lent : 4 * (32 * (g .p + 1)) ≤ length s
+  -- a held entry has no parallelism yet: its fourth number is 0
+  pub unassigned : (i j : ℕ) → i < 32 → j < getD (g .window .lens) i 0 → getD s (4 * (getD (g .window .rows) i 0 * (g .p + 1) + j) + 3) 0 ≡ 0

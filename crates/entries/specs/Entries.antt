@@ -17,6 +17,10 @@ item-of e = record { value = e .value; added = e .added; accepted = e .accepted 
 unfoldable pub entry-of : Entry → OrderEntry
 entry-of e = record { item = item-of e; parallelism = e .parallelism }
 
+-- an entry as a span holds it: it has no parallelism yet, and 0 in its place
+abbrev pub held-entry : Entry → Entry
+held-entry e = record { value = e .value; added = e .added; accepted = e .accepted; parallelism = 0 }
+
 -- an entry's numbers
 abbrev pub numbers : Entry → List ℕ
 numbers e = e .value ∷ e .added ∷ e .accepted ∷ e .parallelism ∷ []

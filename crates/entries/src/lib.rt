@@ -1,10 +1,10 @@
 // Entries in flat slices, four numbers each: value, added, accepted, parallelism. A span's entry has its parallelism only once it is
-// appended to the order.
+// appended to the order; until then its fourth number is 0.
 ghost use mathlib.Core.Path.{_≡_};
 ghost use mathlib.Core.List.{_++_, _∷_, []};
 ghost use Prim.Native.Nat.{ℕ, _+_, _*_, _≤_, _<_};
 ghost use lib.ListN.{length, take, drop, getD, set};
-ghost use Rattle.entries.specs.Entries.{entry-at, numbers, over, row, annotated, appended};
+ghost use Rattle.entries.specs.Entries.{entry-at, held-entry, numbers, over, row, annotated, appended};
 
 pub struct Entry {
     pub value: u32,
@@ -37,6 +37,20 @@ pub fn store(s: &mut [u32], k: usize, e: Entry)
     s[i + 1] = e.added;
     s[i + 2] = e.accepted;
     s[i + 3] = e.parallelism;
+}
+
+// Stores an entry as a span holds it, with 0 for its parallelism.
+pub fn store_held(s: &mut [u32], k: usize, e: Entry)
+    requires { ⌜ 4 * k + 4 ≤ length (now s) ⌝ }
+    ensures { λ _. ⌜ now (s .exit) ≡ over (now (s .entry)) (4 * k) (numbers (held-entry e)) ⌝ }
+{
+    let f = Entry {
+        value: e.value,
+        added: e.added,
+        accepted: e.accepted,
+        parallelism: 0,
+    };
+    store(s, k, f);
 }
 
 // Appends the a entries of the row at base to the order at n, each with its parallelism, the next span having b.

@@ -3,7 +3,7 @@ use mathlib.Core.Path.{_≡_, refl}
 use mathlib.Core.List.{List}
 use Prim.Native.Nat.{ℕ, zero, suc, _+_, _*_, _≤_, _<_}
 use native.Mathlib.Omega.{arith}
-use lib.ListN.{length, take, replicate}
+use lib.ListN.{length, take, replicate, getD-replicate}
 use Rattle.rules.specs.Guide.{fresh, tally, tallied, held}
 use Rattle.laws.specs.GuideInv.{len-empties}
 use Rattle.buffer.specs.declared.Guide.{Guide}
@@ -51,6 +51,7 @@ module _ (p v : ℕ) (s o t : List ℕ) (hp : 1 ≤ p) (hq : p < 65000) (hv : v 
         short = most-zeros (p + 1) 32;
         numbered = refl;
         lent = ls;
+        unassigned = λ i j hi hj. absurd (omega (arith, getD-replicate {A = ℕ} 32 i 0 0 hi));
       }
 
   pub fresh-stands : Stands (first-guide p v) s o t

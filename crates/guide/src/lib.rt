@@ -162,7 +162,7 @@ fn place_existing(
     let p = g.p;
     let at = w.ids[i];
     let q = w.lens[i] as u32;
-    entries::store(
+    entries::store_held(
         spans,
         (w.rows[i] as usize) * (p as usize + 1) + q as usize,
         e,
@@ -214,7 +214,7 @@ fn place_opened(
     let mut w = h.window;
     let p = g.p;
     let at = w.ids[31];
-    entries::store(spans, (w.rows[31] as usize) * (p as usize + 1), e);
+    entries::store_held(spans, (w.rows[31] as usize) * (p as usize + 1), e);
     w.lens[31] = 1;
     Pushed {
         guide: Guide {

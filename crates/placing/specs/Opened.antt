@@ -10,7 +10,7 @@ use Rattle.rules.specs.Guide.{Guide as GuideModel, put, release}
 use Rattle.laws.specs.History.{len}
 use Rattle.laws.specs.GuideInv.{len-extend, release-spans, release-first}
 use Rattle.entries.specs.declared.Entry.{Entry}
-use Rattle.entries.specs.Entries.{over, numbers, item-of}
+use Rattle.entries.specs.Entries.{over, held-entry, numbers, item-of}
 use Rattle.buffer.specs.declared.Guide.{Guide}
 use Rattle.buffer.specs.View.{view, Laid}
 use Rattle.buffer.specs.Moves.{with-window, longer, put-spans, slot-fits}
@@ -40,7 +40,7 @@ module _ (g h : Guide) (s o o′ t t′ : List ℕ) (n : ℕ) (k : Laid g s) (hn
   pub opened-slot : 4 * (getD (h .window .rows) 31 0 * (g .p + 1)) + 4 ≤ length s
   opened-slot = omega (arith, slot-fits (with-window g (h .window) (h .written)) s (here .stands .laid) 31 (omega (arith, opened-empty)), opened-empty)
 
-  pub open-put : (s′ : List ℕ) (e : Entry) → s′ ≡ over s (4 * (getD (h .window .rows) 31 0 * (g .p + 1))) (numbers e) → Done g (begun g h) s o t s′ o′ t′ (put 31 (item-of e) b)
+  pub open-put : (s′ : List ℕ) (e : Entry) → s′ ≡ over s (4 * (getD (h .window .rows) 31 0 * (g .p + 1))) (numbers (held-entry e)) → Done g (begun g h) s o t s′ o′ t′ (put 31 (item-of e) b)
   unfolding longer put-spans
   open-put s′ e es =
       let h′ = with-window g (h .window) (h .written) in

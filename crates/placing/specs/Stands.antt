@@ -10,7 +10,7 @@ use lib.Seq.{drop-at, getD-take}
 use Rattle.rules.specs.Guide.{parallelism, tallied, tally}
 use Rattle.laws.specs.Width.{width-flat, width-le}
 use Rattle.entries.specs.declared.Entry.{Entry}
-use Rattle.entries.specs.Entries.{row, entry-at, annotated, appended, entry-of}
+use Rattle.entries.specs.Entries.{row, entry-at, held-entry, annotated, appended, entry-of}
 use Rattle.entries.specs.Stored.{row-add, over-elsewhere, appended-elsewhere, over-length}
 use Rattle.buffer.specs.declared.Guide.{Guide}
 use Rattle.buffer.specs.View.{order-of, Laid}
@@ -61,10 +61,10 @@ module _ (g : Guide) (s o t : List ℕ) (k : Stands g s o t) where
         let f = slot-fits g s (k .laid) i h in
         let r : getD (g .window .rows) i 0 < 32 = omega (arith, most-at 31 (g .window .rows) i (k .laid .below)) in
         record {
-          spans-length = over-length s (slot-of g i) e f;
+          spans-length = over-length s (slot-of g i) (held-entry e) f;
           order-length = refl;
           tally-length = refl;
-          spans-beyond = λ j z. over-elsewhere s (slot-of g i) e j f (inr (omega (arith, row-ends (g .p) (getD (g .window .rows) i 0) 32 r)));
+          spans-beyond = λ j z. over-elsewhere s (slot-of g i) (held-entry e) j f (inr (omega (arith, row-ends (g .p) (getD (g .window .rows) i 0) 32 r)));
           grows = omega arith;
           order-kept = λ j z. refl;
           order-beyond = λ j z. refl;

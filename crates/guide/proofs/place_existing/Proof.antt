@@ -24,33 +24,33 @@ element-copy-out-q c = search needs
 cast-q : tie.Need-cast-q
 cast-q c = search needs
 
-element-copy-out-store : tie.Need-element-copy-out-store
-element-copy-out-store c = search needs
+element-copy-out-store-held : tie.Need-element-copy-out-store-held
+element-copy-out-store-held c = search needs
 
-cast-store : tie.Need-cast-store
-cast-store c = search needs
+cast-store-held : tie.Need-cast-store-held
+cast-store-held c = search needs
 
-cast-store-2 : tie.Need-cast-store-2
-cast-store-2 c = search needs
+cast-store-held-2 : tie.Need-cast-store-held-2
+cast-store-held-2 c = search needs
 
-add-store : tie.Need-add-store
-add-store c = search needs
+add-store-held : tie.Need-add-store-held
+add-store-held c = search needs
 
-mul-store : tie.Need-mul-store
-mul-store c =
+mul-store-held : tie.Need-mul-store-held
+mul-store-held c =
     let s = c .before .before .before .before .before .before .before .before in
     omega (arith, slot-fits (s .args .g) (now (s .args .spans)) (s .pre .0 .laid) (s .args .i) (s .pre .1 .1 .1 .1))
 
-cast-store-3 : tie.Need-cast-store-3
-cast-store-3 c = search needs
+cast-store-held-3 : tie.Need-cast-store-held-3
+cast-store-held-3 c = search needs
 
-add-store-2 : tie.Need-add-store-2
-add-store-2 c =
+add-store-held-2 : tie.Need-add-store-held-2
+add-store-held-2 c =
     let s = c .before .before .before .before .before .before .before .before in
     omega (arith, slot-fits (s .args .g) (now (s .args .spans)) (s .pre .0 .laid) (s .args .i) (s .pre .1 .1 .1 .1))
 
-store-requires : tie.Need-store-requires
-store-requires c κs =
+store-held-requires : tie.Need-store-held-requires
+store-held-requires c κs =
     let s = c .before .before .before .before .before .before .before .before in
     omega (arith, slot-fits (s .args .g) (now (s .args .spans)) (s .pre .0 .laid) (s .args .i) (s .pre .1 .1 .1 .1))
 
@@ -74,7 +74,7 @@ unfolding longer put-spans
 release-one-requires c κs =
     let s = c .before .before .before .before .before .before .before .before .before .before .before .before .before .before .before in
     let a = s .args in
-    let u = c .before .before .before .before .before .before .store in
+    let u = c .before .before .before .before .before .before .store-held in
     (put-is (a .g) (now (a .spans)) (u .last .0) (now (a .order)) (now (a .tally)) (a .i) (a .e) (s .pre .0) (s .pre .1 .1) (u .ensures) .stands, longer-free (a .g) (a .i) (s .pre .1 .1 .0) (s .pre .1 .0))
 
 same-length : tie.Need-same-length
@@ -91,7 +91,7 @@ unfolding longer put-spans
 returns c =
     let s = c .before .before .before .before .before .before .before .before .before .before .before .before .before .before .before .before .before .before .before .before .before in
     let a = s .args in
-    let u = c .before .before .before .before .before .before .before .before .before .before .before .before .store in
+    let u = c .before .before .before .before .before .before .before .before .before .before .before .before .store-held in
     let z = c .before .before .before .before .before .release-one in
     (put-gone (a .g) (now (a .spans)) (u .last .0) (now (a .order)) (now (a .tally)) (a .i) (a .e) (s .pre .0) (s .pre .1 .1) (u .ensures) (z .result) (z .last .1 .1 .0) (z .last .1 .1 .1 .0) (omega (arith, c .before .before .before .before .before .before .before .before .before .if1 .taken)) (z .ensures .0), (refl, refl))
 
@@ -103,7 +103,7 @@ unfolding longer put-spans
 returns-2 c =
     let s = c .before .before .before .before .before .before .before .before .before .before .before .before in
     let a = s .args in
-    let u = c .before .before .before .store in
+    let u = c .before .before .before .store-held in
     (put-kept (a .g) (now (a .spans)) (u .last .0) (now (a .order)) (now (a .tally)) (a .i) (a .e) (s .pre .0) (s .pre .1 .1) (u .ensures) (omega (arith, c .if1 .left)), (refl, refl))
 
 pub place-existing-spec : {M : Type 1} → statement M
@@ -115,14 +115,14 @@ place-existing-spec =
     mul-q
     element-copy-out-q
     cast-q
-    element-copy-out-store
-    cast-store
-    cast-store-2
-    add-store
-    mul-store
-    cast-store-3
-    add-store-2
-    store-requires
+    element-copy-out-store-held
+    cast-store-held
+    cast-store-held-2
+    add-store-held
+    mul-store-held
+    cast-store-held-3
+    add-store-held-2
+    store-held-requires
     add-w
     cast-w
     mul-w

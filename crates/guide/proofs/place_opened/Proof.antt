@@ -13,27 +13,27 @@ open-spans-requires c κs = search needs
 element-copy-out-at : tie.Need-element-copy-out-at
 element-copy-out-at c = search needs
 
-element-copy-out-store : tie.Need-element-copy-out-store
-element-copy-out-store c = search needs
+element-copy-out-store-held : tie.Need-element-copy-out-store-held
+element-copy-out-store-held c = search needs
 
-cast-store : tie.Need-cast-store
-cast-store c = search needs
+cast-store-held : tie.Need-cast-store-held
+cast-store-held c = search needs
 
-cast-store-2 : tie.Need-cast-store-2
-cast-store-2 c = search needs
+cast-store-held-2 : tie.Need-cast-store-held-2
+cast-store-held-2 c = search needs
 
-add-store : tie.Need-add-store
-add-store c = search needs
+add-store-held : tie.Need-add-store-held
+add-store-held c = search needs
 
-mul-store : tie.Need-mul-store
-mul-store c =
+mul-store-held : tie.Need-mul-store-held
+mul-store-held c =
     let s = c .before .before .before .before .before .before .before .before .before .before .before .before .before .before .before in
     let a = s .args in
     let r = c .before .before .before .before .before .before .before .before .open-spans in
     omega (arith, opened-slot (a .g) (r .result) (now (a .spans)) (now (a .order)) (r .last .1 .1 .0) (now (a .tally)) (r .last .1 .1 .1 .0) (a .n) (s .pre .0 .laid) (s .pre .1 .1 .0) (r .ensures))
 
-store-requires : tie.Need-store-requires
-store-requires c κs =
+store-held-requires : tie.Need-store-held-requires
+store-held-requires c κs =
     let s = c .before .before .before .before .before .before .before .before .before .before .before .before .before .before .before in
     let a = s .args in
     let r = c .before .before .before .before .before .before .before .before .open-spans in
@@ -56,7 +56,7 @@ returns c =
     let s = c .before .before .before .before .before .before .before .before .before .before .before .before .before .before .before .before .before .before in
     let a = s .args in
     let r = c .before .before .before .before .before .before .before .before .before .before .before .open-spans in
-    let u = c .before .before .store in
+    let u = c .before .before .store-held in
     (open-put (a .g) (r .result) (now (a .spans)) (now (a .order)) (r .last .1 .1 .0) (now (a .tally)) (r .last .1 .1 .1 .0) (a .n) (s .pre .0 .laid) (s .pre .1 .1 .0) (r .ensures) (u .last .0) (a .e) (u .ensures), (opened-number (a .g) (r .result) (now (a .spans)) (now (a .order)) (r .last .1 .1 .0) (now (a .tally)) (r .last .1 .1 .1 .0) (a .n) (s .pre .0 .laid) (s .pre .1 .1 .0) (r .ensures), refl))
 
 pub place-opened-spec : {M : Type 1} → statement M
@@ -65,12 +65,12 @@ place-opened-spec =
     (tie.spec
     open-spans-requires
     element-copy-out-at
-    element-copy-out-store
-    cast-store
-    cast-store-2
-    add-store
-    mul-store
-    store-requires
+    element-copy-out-store-held
+    cast-store-held
+    cast-store-held-2
+    add-store-held
+    mul-store-held
+    store-held-requires
     element-write-w
     same-length
     same-length-2
