@@ -1,9 +1,10 @@
 -- One entry more, and the release of span 0: what they do to window and storage, and that under `view` they are `put` and `release` of
 -- `rules`. Assumes nothing.
-use mathlib.Core.Path.{_≡_, refl, sym, ap, _∙_}
+use mathlib.Core.Path.{_≡_, sym, ap, _∙_}
 use mathlib.Core.List.{List, [], _∷_, _++_}
-use mathlib.Core.Logic.{_≢_, _⊎_, inl, inr, ⊎-elim}
-use Prim.Native.Nat.{ℕ, zero, suc, _+_, _*_, _≤_, _<_}
+use mathlib.Core.Logic.{_≢_}
+use Prim.Native.Nat.{ℕ, suc, _+_, _*_, _≤_, _<_}
+use native.Mathlib.Decide.{ℕ-discrete}
 use native.Mathlib.Omega.{arith}
 use lib.ListN.{length, getD, set, drop, length-set, length-append, length-drop, List·getD-append}
 use lib.Seq.{getD-set-same, getD-set-other, getD-drop, getD-at}
@@ -18,14 +19,8 @@ use Rattle.buffer.specs.View.{order-of, view, Laid, upto}
 use Rattle.buffer.specs.Rows.{row-ends, spans-put, spans-rotated, distinct-rotated, most-rotated, most-at, most-set, upto-at, upto-rotated, row-length}
 use Rattle.buffer.specs.Order.{order-released, first-released}
 
-same-or-other : (a b : ℕ) → (a ≡ b) ⊎ (a ≢ b)
-same-or-other zero zero = inl refl
-same-or-other zero (suc b) = inr (λ e. omega arith)
-same-or-other (suc a) zero = inr (λ e. omega arith)
-same-or-other (suc a) (suc b) = ⊎-elim (λ e. inl (ap suc e)) (λ n. inr (λ e. n (omega arith))) (same-or-other a b)
-
--- a rotated list: each element but the last was the next one's
-rotated-at : (xs : List ℕ) (y i : ℕ) → i + 1 < length xs → getD (drop 1 xs ++ (y ∷ [])) i 0 ≡ getD xs (i + 1) 0
+-- a rotated list: each element is what the next one was, and the last is new
+pub rotated-at : (xs : List ℕ) (y i : ℕ) → i + 1 < length xs → getD (drop 1 xs ++ (y ∷ [])) i 0 ≡ getD xs (i + 1) 0
 rotated-at xs y i h =
     let e : 1 + i ≡ i + 1 = omega arith in
     let l : i < length (drop 1 xs) = simp length-drop (omega arith) in
@@ -62,24 +57,30 @@ module _ (g : Guide) (s : List ℕ) (k : Laid g s) where
       let r : getD (g .window .rows) i 0 < 32 = omega (arith, most-at 31 (g .window .rows) i (k .below)) in
       omega (arith, row-ends (g .p) (getD (g .window .rows) i 0) 32 r, k .lent)
 
-  -- the entry that is put has no parallelism, and all others stay
+  -- the entry that is put has 0, and all others stay
   put-unassigned : (i : ℕ) (e : Entry) → i < 32 → getD (g .window .lens) i 0 ≤ g .p → (x j : ℕ) → x < 32 → j < getD (set (g .window .lens) i (getD (g .window .lens) i 0 + 1)) x 0
       → getD (over s (4 * slot-of g i) (numbers (held-entry e))) (4 * (getD (g .window .rows) x 0 * (g .p + 1) + j) + 3) 0 ≡ 0
-  put-unassigned i e hi h x j hx hj = go (same-or-other q (slot-of g i)) (same-or-other x i)
+  put-unassigned i e hi h x j hx hj = go (ℕ-discrete q (slot-of g i)) (ℕ-discrete x i)
     where
       q : ℕ
       q = getD (g .window .rows) x 0 * (g .p + 1) + j
 
-      other : q ≢ slot-of g i → j < getD (g .window .lens) x 0 → getD (over s (4 * slot-of g i) (numbers (held-entry e))) (4 * q + 3) 0 ≡ 0
-      other n l = ap (λ t. t .parallelism) (entry-other s (slot-of g i) (held-entry e) (slot-fits i h) q n) ∙ k .unassigned x j hx l
+      l : ℕ
+      l = getD (g .window .lens) i 0
 
-      go : (q ≡ slot-of g i) ⊎ (q ≢ slot-of g i) → (x ≡ i) ⊎ (x ≢ i) → getD (over s (4 * slot-of g i) (numbers (held-entry e))) (4 * q + 3) 0 ≡ 0
-      go (inl z) y = rw z (ap (λ t. t .parallelism) (entry-same s (slot-of g i) (held-entry e) (slot-fits i h)))
-      go (inr n) (inl z) =
-          let j′ : j < getD (g .window .lens) i 0 + 1 = rw (z, getD-set-same (g .window .lens) i (getD (g .window .lens) i 0 + 1) 0 (omega (arith, k .lens-many))) at hj in
-          let n′ : j ≢ getD (g .window .lens) i 0 = (λ w. n (rw (z, w))) in
+      s′ : List ℕ
+      s′ = over s (4 * slot-of g i) (numbers (held-entry e))
+
+      other : q ≢ slot-of g i → j < getD (g .window .lens) x 0 → getD s′ (4 * q + 3) 0 ≡ 0
+      other n z = ap (λ t. t .parallelism) (entry-other s (slot-of g i) (held-entry e) (slot-fits i h) q n) ∙ k .unassigned x j hx z
+
+      go : Dec (q ≡ slot-of g i) → Dec (x ≡ i) → getD s′ (4 * q + 3) 0 ≡ 0
+      go (yes z) y = rw z (ap (λ t. t .parallelism) (entry-same s (slot-of g i) (held-entry e) (slot-fits i h)))
+      go (no n) (yes z) =
+          let below : j < l + 1 = rw (z, getD-set-same (g .window .lens) i (l + 1) 0 (omega (arith, k .lens-many))) at hj in
+          let differs : j ≢ l = (λ w. n (rw (z, w))) in
           other n (rw z (omega arith))
-      go (inr n) (inr y) = other n (rw (getD-set-other (g .window .lens) i x (getD (g .window .lens) i 0 + 1) 0 y) at hj)
+      go (no n) (no y) = other n (rw (getD-set-other (g .window .lens) i x (l + 1) 0 y) at hj)
 
   pub put-laid : (i : ℕ) (e : Entry) → i < 32 → getD (g .window .lens) i 0 ≤ g .p → Laid (longer g i) (put-spans g s i e)
   unfolding longer put-spans
@@ -129,16 +130,19 @@ module _ (g : Guide) (s : List ℕ) (k : Laid g s) where
         short = most-rotated (g .p + 1) (g .window .lens) 0 (omega arith) (k .short);
         numbered = ids-rotated ∙ ap (λ t. upto t 32) (sym first-rotated);
         lent = k .lent;
-        unassigned = λ i j hi hj. go i j hi hj (same-or-other i 31);
+        unassigned = λ i j hi hj. go i j hi hj (ℕ-discrete i 31);
       }
     where
       lens : List ℕ
       lens = g .window .lens
 
-      go : (i j : ℕ) → i < 32 → j < getD (drop 1 lens ++ (0 ∷ [])) i 0 → (i ≡ 31) ⊎ (i ≢ 31) → getD s (4 * (getD (drop 1 (g .window .rows) ++ (getD (g .window .rows) 0 0 ∷ [])) i 0 * (g .p + 1) + j) + 3) 0 ≡ 0
-      go i j hi hj (inl e) = absurd (omega (arith, rotated-last lens 0 i (omega (arith, k .lens-many))))
-      go i j hi hj (inr n) =
-          rw (rotated-at (g .window .rows) (getD (g .window .rows) 0 0) i (omega (arith, k .rows-many)))
+      rows : List ℕ
+      rows = g .window .rows
+
+      go : (i j : ℕ) → i < 32 → j < getD (drop 1 lens ++ (0 ∷ [])) i 0 → Dec (i ≡ 31) → getD s (4 * (getD (drop 1 rows ++ (getD rows 0 0 ∷ [])) i 0 * (g .p + 1) + j) + 3) 0 ≡ 0
+      go i j hi hj (yes e) = absurd (omega (arith, rotated-last lens 0 i (omega (arith, k .lens-many))))
+      go i j hi hj (no n) =
+          rw (rotated-at rows (getD rows 0 0) i (omega (arith, k .rows-many)))
           (k .unassigned (i + 1) j (omega arith) (rw (rotated-at lens 0 i (omega (arith, k .lens-many))) at hj))
 
   pub release-view : (o : List ℕ) → 4 * (g .written + getD (g .window .lens) 0 0) ≤ length o → view (released-guide g) s (released-order g s o) ≡ release (g .p) 1 (view g s o)

@@ -1,7 +1,7 @@
 -- What a step of the guide leaves: `Done`, the storage after stands for the model b, and the frame. Laws: a release, two of them, a put, and
 -- what the pieces of the code ask of one another. Assumes nothing.
 use mathlib.Core.Path.{_≡_, refl, sym, ap, subst, _∙_}
-use mathlib.Core.List.{List, [], _∷_, _++_, map}
+use mathlib.Core.List.{List, [], map}
 use Prim.Native.Nat.{ℕ, suc, _+_, _*_, _≤_, _<_}
 use native.Mathlib.Omega.{arith}
 use lib.ListN.{length, getD, drop, length-drop, length-map}
@@ -15,7 +15,7 @@ use Rattle.entries.specs.Entries.{row, item-of, entry-of}
 use Rattle.buffer.specs.declared.Guide.{Guide}
 use Rattle.buffer.specs.View.{order-of, view, Laid}
 use Rattle.buffer.specs.Rows.{most-at, row-length, span-length, spans-length, upto-length, upto-at}
-use Rattle.buffer.specs.Moves.{with-window, longer, released-guide, released-order, put-spans, put-view, release-view}
+use Rattle.buffer.specs.Moves.{rotated-at, with-window, longer, released-guide, released-order, put-spans, put-view, release-view}
 use Rattle.buffer.specs.Fit.{Fit, laid-fit}
 use Rattle.tally.specs.Counting.{Countable}
 use Rattle.placing.specs.Frame.{Frame, frame-refl, frame-trans}
@@ -105,12 +105,7 @@ longer-free g i k f = record { room = rw (getD-set-other (g .window .lens) i 0 (
 module _ (g h : Guide) (e : h ≡ released-guide g) (l : length (g .window .lens) ≡ 32) where
   pub released-zero : getD (h .window .lens) 0 0 ≡ getD (g .window .lens) 1 0
   unfolding released-guide rotated
-  released-zero = rw e (go (g .window .lens) l)
-    where
-      go : (xs : List ℕ) → length xs ≡ 32 → getD (drop 1 xs ++ (0 ∷ [])) 0 0 ≡ getD xs 1 0
-      go [] z = absurd (omega arith)
-      go (x ∷ []) z = absurd (omega arith)
-      go (x ∷ (y ∷ xs)) z = refl
+  released-zero = rw e (rotated-at (g .window .lens) 0 0 (omega arith))
 
   pub released-number : length (g .window .ids) ≡ 32 → getD (h .window .ids) 31 0 ≡ getD (g .window .ids) 31 0 + 1
   unfolding released-guide rotated
