@@ -166,7 +166,7 @@ RULES = {
     "Guide": "parallelism parallelism-by last-parallelism annotate released fresh release flush seek found begin choose put settle apply place tallied tally",
     "Model": "initial member marked tracked run-from watermark greatest ready loc-of later top after spotted reg-of place-one due left queue keep push off rest with-set with-add cascade settle-all do-set do-add with-record note-add note-flush note-final with-flush do-flush do-final",
     "Checks": "verdict any repeats written-by taken pooled check-closed check-places check-set check-add check-flush check-final",
-    "Calls": "checks answer apply-call chosen step run",
+    "Calls": "checks answer apply-call unless-refused step run",
     "Alone": "alone holds stray worn check-push check-flush-alone requests reply location serve serve-step serve-all",
     "Summary": "sum average median-from median counts thousands figures",
     "Record": "mark-of unfilled fill row-after row-of summary",

@@ -109,7 +109,7 @@ module _ (P N : ℕ) (k : Model) (s : Session) (σ : Storage) (R : Rep P N k s �
         used-is = omega (arith, R .counted .used-is, lists′ .used-is, lists-add N (k .adds) (pooled (k .adds)) (σ .waiting) (σ .pool) (R .core .stored .lists) a (A .more) (A .room) (A .ins-few) (A .outs-few) .used-is);
         flushes-is = R .counted .flushes-is;
         closed-is = R .counted .closed-is;
-        registrations-is = R .counted .registrations-is;
+        registrations-is = rw (A .not-closed) (rw (A .not-closed) at (R .counted .registrations-is));
         places-is = R .counted .places-is;
       }
 

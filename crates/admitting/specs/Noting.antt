@@ -44,14 +44,14 @@ rowed-noted N r n k j σ h g e o R =
       ];
     }
 
--- the session with what final fixes
-abbrev pub with-fixed : Session → ℕ → ℕ → Session
-with-fixed s registrations places =
-    record { guide = s .guide; lead = s .lead; added = s .added; used = s .used; delayed = s .delayed; flushes = s .flushes; closed = s .closed; registrations = registrations; places = places }
+-- the session with the places that final fixes
+abbrev pub with-places : Session → ℕ → Session
+with-places s places =
+    record { guide = s .guide; lead = s .lead; added = s .added; used = s .used; delayed = s .delayed; flushes = s .flushes; closed = s .closed; registrations = s .registrations; places = places }
 
 -- a model with another record
 pub rep-record : (P N : ℕ) (d : Recorded) (k : Model) (s : Session) (σ : Storage) (rs : List ℕ) → Rep P N k s σ → Rowed N (with-record d k) (with-rows σ rs)
-    → Rep P N (with-record d k) (with-fixed s (d .registrations) (d .places)) (with-rows σ rs)
+    → Rep P N (with-record d k) (with-places s (d .places)) (with-rows σ rs)
 unfolding with-record watermark tracked taken
 rep-record P N d k s σ rs R W =
     record {
@@ -66,7 +66,7 @@ rep-record P N d k s σ rs R W =
         used-is = R .counted .used-is;
         flushes-is = R .counted .flushes-is;
         closed-is = R .counted .closed-is;
-        registrations-is = refl;
+        registrations-is = R .counted .registrations-is;
         places-is = refl;
       };
       delayed = R .delayed;
@@ -84,14 +84,13 @@ pub rep-noted : (P N r n : ℕ) (k : Model) (s : Session) (σ : Storage) → Rep
     → Rep P N (note-add k) s (with-rows σ (set (σ .rows) (5 * r + 2) n))
 unfolding note-add with-record
 rep-noted P N r n k s σ R e h en =
-    let d : Recorded = record { written = k .recorded .written ++ (length (k .guide .order) ∷ []); registrations = k .recorded .registrations; places = k .recorded .places } in
+    let d : Recorded = record { written = k .recorded .written ++ (length (k .guide .order) ∷ []); places = k .recorded .places } in
     let z = rep-record P N d k s σ (set (σ .rows) (5 * r + 2) n) R
     (rowed-noted N r n k (with-record d k) σ h refl
     (subst (λ (x : ℕ). getD (k .recorded .written ++ (length (k .guide .order) ∷ [])) x 0 ≡ n) e (getD-at (k .recorded .written) (length (k .guide .order)) [] 0 (length (k .recorded .written)) refl ∙ sym en))
     (λ q m. appended-other (k .recorded .written) (length (k .guide .order)) q (λ x. m (x ∙ e)))
     (R .core .rowed)) in
-    subst (λ (x : ℕ). Rep P N (with-record d k) (with-fixed s x (s .places)) (with-rows σ (set (σ .rows) (5 * r + 2) n))) (sym (R .counted .registrations-is))
-    (subst (λ (x : ℕ). Rep P N (with-record d k) (with-fixed s (k .recorded .registrations) x) (with-rows σ (set (σ .rows) (5 * r + 2) n))) (sym (R .counted .places-is)) z)
+    subst (λ (x : ℕ). Rep P N (with-record d k) (with-places s x) (with-rows σ (set (σ .rows) (5 * r + 2) n))) (sym (R .counted .places-is)) z
 
 frame-rows : (P N n : ℕ) (σ : Storage) (rs : List ℕ) → length rs ≡ length (σ .rows) → ((j : ℕ) → 5 * N ≤ j → getD rs j 0 ≡ getD (σ .rows) j 0) → Frame P N n n σ (with-rows σ rs)
 frame-rows P N n σ rs l h =

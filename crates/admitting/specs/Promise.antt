@@ -8,7 +8,7 @@ use native.Mathlib.Omega.{arith}
 use lib.ListN.{length}
 use borrow.Author.Tests.{eq-eqb, ne-eqb}
 use Rattle.rules.specs.Model.{Model}
-use Rattle.rules.specs.Calls.{Call, answer, apply-call, chosen, step}
+use Rattle.rules.specs.Calls.{Call, answer, apply-call, unless-refused, step}
 use Rattle.laws.specs.Sound.{Between}
 use Rattle.session.specs.declared.Session.{Session}
 use Rattle.session.specs.Storage.{Storage, Frame, frame-refl}
@@ -32,12 +32,12 @@ pub record Called (c : Call) (n : ℕ) (s s′ : Session) (σ σ′ : Storage) :
 
 -- the model after a refused and after an accepted call
 pub step-refused : (P N W : ℕ) (c : Call) (k : Model) → (answer N W c k ≡ 0 → ⊥) → step P N W c k ≡ k
-unfolding step chosen
-step-refused P N W c k h = rw (ne-eqb (answer N W c k) 0 h, chosen)
+unfolding step unless-refused
+step-refused P N W c k h = rw (ne-eqb (answer N W c k) 0 h, unless-refused)
 
 pub step-accepted : (P N W : ℕ) (c : Call) (k : Model) → answer N W c k ≡ 0 → step P N W c k ≡ apply-call P N c k
-unfolding step chosen
-step-accepted P N W c k h = rw (eq-eqb (answer N W c k) 0 h, chosen)
+unfolding step unless-refused
+step-accepted P N W c k h = rw (eq-eqb (answer N W c k) 0 h, unless-refused)
 
 -- a refused call: nothing has changed, and the number is the model's
 pub called-refused : (c : Call) (n : ℕ) (s : Session) (σ : Storage) → (n ≡ 0 → ⊥) → ((P N : ℕ) (k : Model) → Rep P N k s σ → n ≡ answer N (length (σ .pool)) c k) → Called c n s s σ σ

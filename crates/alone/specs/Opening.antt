@@ -10,7 +10,7 @@ use lib.ListN.{length, getD, take, replicate, length-replicate, getD-replicate, 
 use lib.Seq.{getD-take, getD-drop, ext-getD}
 use lib.Dec.{ltb}
 use borrow.Author.Tests.{ltb-false}
-use Rattle.rules.specs.Checks.{verdict, check-range}
+use Rattle.rules.specs.Checks.{verdict, any, check-range}
 use Rattle.rules.specs.Alone.{alone, check-alone}
 use Rattle.laws.specs.Accepted.{verdict-head, or-false}
 use Rattle.laws.specs.Alone.{alone-initial}
@@ -44,22 +44,23 @@ pub record Passed (p v s o t : ℕ) : Type 0 where
   pub tally : p < t
 
 pub passed : (p v s o t : ℕ) → verdict (check-alone p v s o t) ≡ 0 → Passed p v s o t
-unfolding check-alone check-range
+unfolding check-alone check-range any
 passed p v s o t z =
     let a = verdict-head _ _ z (omega arith) in
     let b = verdict-head _ _ (a .1) (omega arith) in
     let c = verdict-head _ _ (b .1) (omega arith) in
     let pa = or-false (ltb p 1) (ltb 64999 p) (a .0) in
     let pb = or-false (ltb v 1) (ltb 16777216 v) (b .0) in
-    let pc = or-false (ltb s (32 * (p + 1))) (ltb o v || ltb t (p + 1)) (c .0) in
-    let pd = or-false (ltb o v) (ltb t (p + 1)) (pc .1) in
+    let pc = or-false (ltb s (32 * (p + 1))) _ (c .0) in
+    let pd = or-false (ltb o v) _ (pc .1) in
+    let pe = or-false (ltb t (p + 1)) _ (pd .1) in
     record {
       one = omega (arith, ltb-false p 1 (pa .0));
       few = omega (arith, ltb-false 64999 p (pa .1));
       small = omega (arith, ltb-false 16777216 v (pb .1));
       spans = omega (arith, ltb-false s (32 * (p + 1)) (pc .0));
       order = omega (arith, ltb-false o v (pd .0));
-      tally = omega (arith, ltb-false t (p + 1) (pd .1));
+      tally = omega (arith, ltb-false t (p + 1) (pe .0));
     }
 
 -- four numbers an entry

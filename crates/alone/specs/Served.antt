@@ -5,7 +5,7 @@ use mathlib.Core.Logic.{_≢_}
 use mathlib.Core.Option.{Option, some, none}
 use Prim.Native.Nat.{ℕ}
 use Rattle.rules.specs.Guide.{Loc}
-use Rattle.rules.specs.Calls.{chosen}
+use Rattle.rules.specs.Calls.{unless-refused}
 use Rattle.rules.specs.Alone.{Alone as AloneModel, Request, push, flush, reply, serve-step, location}
 use Rattle.placing.specs.Frame.{Frame}
 use Rattle.alone.specs.declared.Alone.{Alone}
@@ -14,7 +14,7 @@ use Rattle.alone.specs.Held.{model, Held, number, given}
 
 -- the location that a request is given: a push's, where it is accepted
 unfoldable pub given-by : ℕ → ℕ → Request → AloneModel → Option Loc
-given-by P N (push after e) a = chosen (reply N (push after e) a) none (some (location P after e a))
+given-by P N (push after e) a = unless-refused (reply N (push after e) a) none (some (location P after e a))
 given-by P N flush a = none
 
 -- state and storage are as they were

@@ -1,12 +1,12 @@
 -- How a verdict comes about: the first check that fails gives its number, and those that pass are skipped. Assumes nothing.
 use mathlib.Core.Path.{_≡_, refl, sym, ap, _∙_}
 use mathlib.Core.List.{List, [], _∷_}
-use mathlib.Core.Bool.{Bool, true, false, _&&_, _||_}
+use mathlib.Core.Bool.{Bool, true, false, _&&_, _||_, or-false}
 use Prim.Native.Nat.{ℕ, _+_, _*_, _-_, _≤_, _<_}
 use lib.ListN.{getD}
 use lib.Dec.{leb, ltb}
 use borrow.Author.Tests.{le-leb, lt-leb, le-ltb, lt-ltb}
-use Rattle.rules.specs.Checks.{Check, verdict, check-range}
+use Rattle.rules.specs.Checks.{Check, verdict, any, short as short-length, spans-needed, tally-needed, check-range}
 use Rattle.rules.specs.Alone.{check-alone}
 use Rattle.alone_checks.specs.Numbers.{origin-not, stray-by, stray-after, push-checks, flush-checks}
 
@@ -38,8 +38,16 @@ module _ (p v s o t : ℕ) where
   abbrev pub short : Bool
   short = ltb s (32 * (p + 1)) || (ltb o v || ltb t (p + 1))
 
+  -- the same as the table's test
+  abbrev any-short : Bool
+  any-short = any short-length ((s, spans-needed p) ∷ (o, v) ∷ (t, tally-needed p) ∷ [])
+
+  any-is : any-short ≡ short
+  unfolding any
+  any-is = rw (or-false (ltb t (p + 1)))
+
   abbrev third : List Check
-  third = record { fails = short; number = 2 } ∷ []
+  third = record { fails = any-short; number = 2 } ∷ []
 
   abbrev second : List Check
   second = record { fails = bad-v; number = 1 } ∷ third
@@ -54,11 +62,11 @@ module _ (p v s o t : ℕ) where
 
   pub open-short : bad-p ≡ false → bad-v ≡ false → short ≡ true → 2 ≡ verdict (check-alone p v s o t)
   unfolding check-alone check-range
-  open-short a b c = passes-here bad-p 1 second a (passes-here bad-v 1 third b (fails-here short 2 [] c))
+  open-short a b c = passes-here bad-p 1 second a (passes-here bad-v 1 third b (fails-here any-short 2 [] (any-is ∙ c)))
 
   pub open-good : bad-p ≡ false → bad-v ≡ false → short ≡ false → 0 ≡ verdict (check-alone p v s o t)
   unfolding check-alone check-range verdict
-  open-good a b c = passes-here bad-p 1 second a (passes-here bad-v 1 third b (passes-here short 2 [] c refl))
+  open-good a b c = passes-here bad-p 1 second a (passes-here bad-v 1 third b (passes-here any-short 2 [] (any-is ∙ c) refl))
 
 -- a push
 module _ (last first : ℕ) (lens : List ℕ) (N pushes : ℕ) (has : Bool) (span pos : ℕ) where

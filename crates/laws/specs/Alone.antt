@@ -11,7 +11,7 @@ use lib.ListN.{length, take}
 use lib.Dec.{eqb, leb}
 use borrow.Author.Tests.{eqb-true, leb-false}
 use Rattle.rules.specs.Guide.{Loc, Item, Guide, fresh, flush as flush-guide, release, released, place, held}
-use Rattle.rules.specs.Calls.{chosen}
+use Rattle.rules.specs.Calls.{unless-refused}
 use Rattle.rules.specs.Alone.{Alone, alone, Request, push, flush, check-push, check-flush-alone, worn, requests, reply, serve, serve-step, serve-all}
 use Rattle.laws.specs.GuideInv.{Core, Later, flush-core, release-later, len-empties}
 use Rattle.laws.specs.Place.{place-step}
@@ -103,12 +103,12 @@ module _ (P N : ℕ) (hP : 1 ≤ P) where
 
   -- so does every request, refused or not
   pub serve-step-sound : (r : Request) (a : Alone) → AloneSound P N a → AloneSound P N (serve-step P N r a)
-  unfolding serve-step chosen
+  unfolding serve-step unless-refused
   serve-step-sound r a s = go (bool-cases (eqb (reply N r a) 0))
     where
       go : (eqb (reply N r a) 0 ≡ true) ⊎ (eqb (reply N r a) 0 ≡ false) → AloneSound P N (serve-step P N r a)
-      go (inl e) = rw (e, chosen) (serve-sound r a (eqb-true (reply N r a) 0 e) s)
-      go (inr e) = rw (e, chosen) s
+      go (inl e) = rw (e, unless-refused) (serve-sound r a (eqb-true (reply N r a) 0 e) s)
+      go (inr e) = rw (e, unless-refused) s
 
   pub alone-initial : AloneSound P N alone
   unfolding alone fresh released held

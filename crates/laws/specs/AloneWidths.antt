@@ -11,7 +11,7 @@ use native.Mathlib.Omega.{arith}
 use lib.ListN.{length, getD, replicate, length-append}
 use lib.Dec.{eqb}
 use Rattle.rules.specs.Guide.{Loc, Item, flush as flush-guide, place, tally}
-use Rattle.rules.specs.Calls.{chosen}
+use Rattle.rules.specs.Calls.{unless-refused}
 use Rattle.rules.specs.Alone.{Alone, alone, Request, push, flush, location, reply, serve, serve-step, serve-all}
 use Rattle.laws.specs.History.{len}
 use Rattle.laws.specs.GuideInv.{len-append, len-grow-same}
@@ -86,12 +86,12 @@ module _ (P N : ℕ) where
   serve-items flush a b t = release-each Item32 P 32 (a .guide) t
 
   step-items : (r : Request) (a : Alone) → Brings32 r → Throughout Item32 (a .guide) → Throughout Item32 ((serve-step P N r a) .guide)
-  unfolding serve-step chosen
+  unfolding serve-step unless-refused
   step-items r a b t = go (bool-cases (eqb (reply N r a) 0))
     where
       go : (eqb (reply N r a) 0 ≡ true) ⊎ (eqb (reply N r a) 0 ≡ false) → Throughout Item32 ((serve-step P N r a) .guide)
-      go (inl e) = rw (e, chosen) (serve-items r a b t)
-      go (inr e) = rw (e, chosen) t
+      go (inl e) = rw (e, unless-refused) (serve-items r a b t)
+      go (inr e) = rw (e, unless-refused) t
 
   all-items : (rs : List Request) (a : Alone) → Each32 rs → Throughout Item32 (a .guide) → Throughout Item32 ((serve-all P N rs a) .guide)
   unfolding serve-all

@@ -14,7 +14,7 @@ use Rattle.laws.specs.History.{len}
 use Rattle.laws.specs.Together.{Behind}
 use Rattle.laws.specs.GuideInv.{Later, flush-core, release-later, regroup, len-empties}
 use Rattle.rules.specs.Model.{note-add, note-flush, note-final, do-flush, do-final, Reg, Pending, Model, marked, tracked, watermark, greatest, loc-of, reg-of, keep, off, rest, with-set, with-add, ready, queue, do-set, do-add, with-flush, initial}
-use Rattle.rules.specs.Calls.{chosen, step, run, answer, apply-call, Call, set, add, flush, final}
+use Rattle.rules.specs.Calls.{unless-refused, step, run, answer, apply-call, Call, set, add, flush, final}
 use Rattle.laws.specs.ModelBase.{In, bool-cases, watermark-tracked, entry-at, greatest-ge, get-extend}
 use Rattle.laws.specs.ModelInv.{hist, Writes, Reads, Locations, Known, Inv, record-inv}
 use Rattle.laws.specs.CascadeInv.{off-inv, settle-inv}
@@ -203,12 +203,12 @@ module _ (P N : ℕ) (hP : 1 ≤ P) (k : Model) (v : Inv P N k []) where
   call-inv final = record-inv P N _ _ [] (record-inv P N _ _ [] (flush-inv _ _))
 
   pub step-inv : (W : ℕ) (c : Call) → Inv P N (step P N W c k) []
-  unfolding step chosen
+  unfolding step unless-refused
   step-inv W c = go (bool-cases (eqb (answer N W c k) 0))
     where
       go : (eqb (answer N W c k) 0 ≡ true) ⊎ (eqb (answer N W c k) 0 ≡ false) → Inv P N (step P N W c k) []
-      go (inl e) = rw (e, chosen) (call-inv c)
-      go (inr e) = rw (e, chosen) v
+      go (inl e) = rw (e, unless-refused) (call-inv c)
+      go (inr e) = rw (e, unless-refused) v
 
 -- a fresh session has it
 pub initial-inv : (P N : ℕ) → Inv P N initial []

@@ -12,7 +12,7 @@ use lib.Dec.{eqb}
 use borrow.Author.Tests.{eqb-true}
 use Rattle.rules.specs.Guide.{Loc, Item, held}
 use Rattle.rules.specs.Model.{Pending, Model, watermark, ready, reg-of, initial}
-use Rattle.rules.specs.Calls.{Call, answer, step, chosen, run}
+use Rattle.rules.specs.Calls.{Call, answer, step, unless-refused, run}
 use Rattle.laws.specs.History.{len, start, start-suc, start-mono}
 use Rattle.laws.specs.Together.{Behind, frontier, distance}
 use Rattle.laws.specs.ModelBase.{In, bool-cases, entry-at}
@@ -137,12 +137,12 @@ module _ (P N W : ℕ) (hP : 1 ≤ P) (k : Model) (o : Sound P N W k []) where
       no-weight (x ∷ l) e = absurd (omega arith)
 
   refused : (c : Call) → answer N W c k ≢ 0 → step P N W c k ≡ k
-  unfolding step chosen
+  unfolding step unless-refused
   refused c h = go (bool-cases (eqb (answer N W c k) 0))
     where
       go : (eqb (answer N W c k) 0 ≡ true) ⊎ (eqb (answer N W c k) 0 ≡ false) → step P N W c k ≡ k
       go (inl e) = absurd (h (eqb-true (answer N W c k) 0 e))
-      go (inr e) = rw (e, chosen)
+      go (inr e) = rw (e, unless-refused)
 
 -- demand 3, for every list of calls on a fresh session
 pub demand-3 : (P N W : ℕ) → 1 ≤ P → (calls : List Call) → Demand P N W calls (run P N W calls initial)

@@ -153,7 +153,6 @@ OfSession n e = (e .value ≡ e .added) × (e .accepted ≤ n)
 pub record Entries (N : ℕ) (k : Model) (st : List ℕ) : Type 0 where
   pub all : Throughout (OfSession (length (k .adds))) (k .guide)
   pub rows-written : (x : ℕ) → In x (k .recorded .written) → x ≤ length (k .guide .order)
-  pub registrations-few : k .recorded .registrations ≤ length (k .adds)
   pub places-few : k .recorded .places ≤ N
 
 module _ (P N W : ℕ) (hP : 1 ≤ P) where
@@ -171,15 +170,14 @@ module _ (P N W : ℕ) (hP : 1 ≤ P) where
             record {
               all = place-each (OfSession (length (k .adds))) P (after (k .located) ((reg-of k r) .ins)) e (k .guide) (refl, l) (h .all);
               rows-written = λ x y. omega (arith, h .rows-written x y, ap length (s .order-grows), length-append (k .guide .order) (s .more));
-              registrations-few = h .registrations-few;
               places-few = h .places-few;
             };
-        setting = λ x k v a h. record { all = h .all; rows-written = h .rows-written; registrations-few = h .registrations-few; places-few = h .places-few };
-        adding = λ ins outs k v a e h. record { all = more-adds k _ (simp length-append (omega arith)) (h .all); rows-written = h .rows-written; registrations-few = simp length-append (omega (arith, h .registrations-few)); places-few = h .places-few };
-        delaying = λ ins outs k v a e h. record { all = more-adds k _ (simp length-append (omega arith)) (h .all); rows-written = h .rows-written; registrations-few = simp length-append (omega (arith, h .registrations-few)); places-few = h .places-few };
+        setting = λ x k v a h. record { all = h .all; rows-written = h .rows-written; places-few = h .places-few };
+        adding = λ ins outs k v a e h. record { all = more-adds k _ (simp length-append (omega arith)) (h .all); rows-written = h .rows-written; places-few = h .places-few };
+        delaying = λ ins outs k v a e h. record { all = more-adds k _ (simp length-append (omega arith)) (h .all); rows-written = h .rows-written; places-few = h .places-few };
         flushing = λ k v a h. flushed k h;
         closing = λ k v a h. flushed k h;
-        recording = λ d k v n h. record { all = h .all; rows-written = λ x y. noted k h x (n .each x y); registrations-few = counted k d h (n .registrations-is); places-few = fixed k d h (n .places-is) };
+        recording = λ d k v n h. record { all = h .all; rows-written = λ x y. noted k h x (n .each x y); places-few = fixed k d h (n .places-is) };
       }
     where
       flushed : {f : ℕ} {c : Bool} (k : Model) → Entries N k [] → Entries N (with-flush P f c k) []
@@ -187,7 +185,6 @@ module _ (P N W : ℕ) (hP : 1 ≤ P) where
           record {
             all = release-each (OfSession (length (k .adds))) P 32 (k .guide) (h .all);
             rows-written = λ x y. simp length-append (omega (arith, h .rows-written x y));
-            registrations-few = h .registrations-few;
             places-few = h .places-few;
           }
 
@@ -195,14 +192,10 @@ module _ (P N W : ℕ) (hP : 1 ≤ P) where
       noted k h x (inl y) = h .rows-written x y
       noted k h x (inr y) = omega arith
 
-      counted : (k : Model) (d : Recorded) → Entries N k [] → (d .registrations ≡ k .recorded .registrations) ⊎ (d .registrations ≡ length (k .adds)) → d .registrations ≤ length (k .adds)
-      counted k d h (inl e) = omega (arith, h .registrations-few)
-      counted k d h (inr e) = omega arith
-
       fixed : (k : Model) (d : Recorded) → Entries N k [] → (d .places ≡ k .recorded .places) ⊎ (d .places ≡ watermark N k) → d .places ≤ N
       fixed k d h (inl e) = omega (arith, h .places-few)
       fixed k d h (inr e) = omega (arith, watermark-le N k)
 
 pub entries-initial : (N : ℕ) → Entries N initial []
 unfolding initial
-entries-initial N = record { all = fresh-each (OfSession 0); rows-written = λ x y. absurd (List·Memᴰ·not-nil y); registrations-few = omega arith; places-few = omega arith }
+entries-initial N = record { all = fresh-each (OfSession 0); rows-written = λ x y. absurd (List·Memᴰ·not-nil y); places-few = omega arith }

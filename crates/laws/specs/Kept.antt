@@ -11,7 +11,7 @@ use lib.ListN.{length, length-append, length-set, set as set-at}
 use lib.Dec.{eqb}
 use borrow.Author.Tests.{eqb-true}
 use Rattle.rules.specs.Model.{Recorded, with-record, note-add, note-flush, note-final, do-flush, do-final, Reg, Model, watermark, greatest, ready, place-one, keep, queue, push, off, rest, with-set, with-add, with-flush, cascade, settle-all, do-set, do-add, initial}
-use Rattle.rules.specs.Calls.{chosen, Call, set, add, flush, final, apply-call, answer, step, run}
+use Rattle.rules.specs.Calls.{unless-refused, Call, set, add, flush, final, apply-call, answer, step, run}
 use Rattle.laws.specs.ModelBase.{In, bool-cases}
 use Rattle.laws.specs.ModelInv.{Inv, place-one-inv, record-inv}
 use Rattle.laws.specs.CascadeInv.{off-inv, push-from, push-length, off-rest, place-pending}
@@ -21,7 +21,6 @@ use Rattle.laws.specs.CallInv.{with-set-inv, add-inv, flush-inv, initial
 pub record Notes (N : ℕ) (k : Model) (d : Recorded) : Type 0 where
   pub many : length (d .written) ≡ length (k .adds)
   pub each : (x : ℕ) → In x (d .written) → In x (k .recorded .written) ⊎ (x ≡ length (k .guide .order))
-  pub registrations-is : (d .registrations ≡ k .recorded .registrations) ⊎ (d .registrations ≡ length (k .adds))
   pub places-is : (d .places ≡ k .recorded .places) ⊎ (d .places ≡ watermark N k)
 
 -- each part of each call keeps Q
@@ -67,21 +66,21 @@ module _ (P N W : ℕ) where
 abbrev pub Noted : Model → Type 0
 Noted k = length (k .recorded .written) ≡ length (k .adds)
 
--- placing changes neither the accepted adds nor the record
+-- placing changes neither the accepted adds nor the record, and closes nothing
 abbrev SameLists : Model → Model → Type 0
-SameLists j k = (j .adds ≡ k .adds) × (j .recorded ≡ k .recorded)
+SameLists j k = (j .adds ≡ k .adds) × (j .recorded ≡ k .recorded) × (j .closed ≡ k .closed)
 
 cascade-same : (P N c f : ℕ) (st : List ℕ) (k : Model) → SameLists (cascade P N c f st k) k
 unfolding cascade rest keep place-one
-cascade-same P N c zero st k = (refl, refl)
-cascade-same P N c (suc f) [] k = (refl, refl)
+cascade-same P N c zero st k = (refl, refl, refl)
+cascade-same P N c (suc f) [] k = (refl, refl, refl)
 cascade-same P N c (suc f) (r ∷ st) k = cascade-same P N c f (push (off N (place-one P c r k)) st) (rest N (place-one P c r k))
 
 settle-same : (P N c : ℕ) (st : List ℕ) (k : Model) → SameLists (settle-all P N c st k) k
 unfolding settle-all
 settle-same P N c st k = cascade-same P N c _ st k
 
--- set, and add beside its own registration, leave adds and record alone
+-- set, and add beside its own registration, leave adds, record and closed alone
 pub set-same : (P N x : ℕ) (k : Model) → SameLists (do-set P N x k) k
 unfolding do-set rest keep with-set
 set-same P N x k = settle-same P N (length (k .adds)) (off N (with-set x k)) (rest N (with-set x k))
@@ -92,7 +91,7 @@ add-same P N a k = go (bool-cases (ready (watermark N k) (a .ins)))
   where
     go : (ready (watermark N k) (a .ins) ≡ true) ⊎ (ready (watermark N k) (a .ins) ≡ false) → SameLists (do-add P N a k) (with-add a k)
     go (inl e) = rw (e, do-add) (settle-same P N (length (k .adds)) (length (k .adds) ∷ []) (with-add a k))
-    go (inr e) = rw (e, do-add) (refl, refl)
+    go (inr e) = rw (e, do-add) (refl, refl, refl)
 
 in-set : (l : List ℕ) (i v x : ℕ) → In x (set-at l i v) → In x l ⊎ (x ≡ v)
 in-set [] i v x h = absurd (List·Memᴰ·not-nil h)
@@ -112,21 +111,21 @@ in-set (y ∷ l) (suc i) v x h = go (List·Memᴰ·cases-cons h) (λ z. in-set l
     go (inr e) f = lift (f e)
 
 add-notes : (N : ℕ) (k : Model) → suc (length (k .recorded .written)) ≡ length (k .adds)
-    → Notes N k (record { written = k .recorded .written ++ (length (k .guide .order) ∷ []); registrations = k .recorded .registrations; places = k .recorded .places })
+    → Notes N k (record { written = k .recorded .written ++ (length (k .guide .order) ∷ []); places = k .recorded .places })
 add-notes N k h =
-    record { many = simp length-append (omega arith); each = λ x y. go x (List·Memᴰ·append-cases (k .recorded .written) y); registrations-is = inl refl; places-is = inl refl }
+    record { many = simp length-append (omega arith); each = λ x y. go x (List·Memᴰ·append-cases (k .recorded .written) y); places-is = inl refl }
   where
     go : (x : ℕ) → In x (k .recorded .written) ⊎ In x (length (k .guide .order) ∷ []) → In x (k .recorded .written) ⊎ (x ≡ length (k .guide .order))
     go x (inl y) = inl y
     go x (inr y) = inr (List·Memᴰ·eq-of-singleton y)
 
 flush-notes : (N : ℕ) (k : Model) → Noted k
-    → Notes N k (record { written = set-at (k .recorded .written) (length (k .recorded .written) - 1) (length (k .guide .order)); registrations = k .recorded .registrations; places = k .recorded .places })
+    → Notes N k (record { written = set-at (k .recorded .written) (length (k .recorded .written) - 1) (length (k .guide .order)); places = k .recorded .places })
 flush-notes N k h =
-    record { many = length-set (k .recorded .written) _ _ ∙ h; each = λ x y. in-set (k .recorded .written) _ _ x y; registrations-is = inl refl; places-is = inl refl }
+    record { many = length-set (k .recorded .written) _ _ ∙ h; each = λ x y. in-set (k .recorded .written) _ _ x y; places-is = inl refl }
 
-final-notes : (N : ℕ) (k : Model) → Noted k → Notes N k (record { written = k .recorded .written; registrations = length (k .adds); places = watermark N k })
-final-notes N k h = record { many = h; each = λ x y. inl y; registrations-is = inr refl; places-is = inr refl }
+final-notes : (N : ℕ) (k : Model) → Noted k → Notes N k (record { written = k .recorded .written; places = watermark N k })
+final-notes N k h = record { many = h; each = λ x y. inl y; places-is = inr refl }
 
 module _ (P N : ℕ) (k : Model) (n : Noted k) where
   added-row : (a : Reg) → suc (length ((do-add P N a k) .recorded .written)) ≡ length ((do-add P N a k) .adds)
@@ -142,12 +141,12 @@ module _ (P N : ℕ) (k : Model) (n : Noted k) where
   call-noted final = length-set (k .recorded .written) _ _ ∙ n
 
   pub step-noted : (W : ℕ) (c : Call) → Noted (step P N W c k)
-  unfolding step chosen
+  unfolding step unless-refused
   step-noted W c = go (bool-cases (eqb (answer N W c k) 0))
     where
       go : (eqb (answer N W c k) 0 ≡ true) ⊎ (eqb (answer N W c k) 0 ≡ false) → Noted (step P N W c k)
-      go (inl e) = rw (e, chosen) (call-noted c)
-      go (inr e) = rw (e, chosen) n
+      go (inl e) = rw (e, unless-refused) (call-noted c)
+      go (inr e) = rw (e, unless-refused) n
 
 module _ (P N W : ℕ) (hP : 1 ≤ P) (Q : Model → List ℕ → Type 0) (κ : Kept P N W Q) where
   cascade-kept : (c f : ℕ) (st : List ℕ) (k : Model) → length st + length (k .pending) ≤ f → c ≤ length (k .adds) → Inv P N k st → Q k st → Q (cascade P N c f st k) []
@@ -198,12 +197,12 @@ module _ (P N W : ℕ) (hP : 1 ≤ P) (Q : Model → List ℕ → Type 0) (κ : 
 
   -- a call keeps Q, refused or not
   pub step-kept : (c : Call) (k : Model) → Inv P N k [] → Noted k → Q k [] → Q (step P N W c k) []
-  unfolding step chosen
+  unfolding step unless-refused
   step-kept c k v n q = go (bool-cases (eqb (answer N W c k) 0))
     where
       go : (eqb (answer N W c k) 0 ≡ true) ⊎ (eqb (answer N W c k) 0 ≡ false) → Q (step P N W c k) []
-      go (inl e) = rw (e, chosen) (call-kept c k v n (eqb-true (answer N W c k) 0 e) q)
-      go (inr e) = rw (e, chosen) q
+      go (inl e) = rw (e, unless-refused) (call-kept c k v n (eqb-true (answer N W c k) 0 e) q)
+      go (inr e) = rw (e, unless-refused) q
 
   -- so does a list of calls
   pub run-kept : (cs : List Call) (k : Model) → Inv P N k [] → Noted k → Q k [] → Q (run P N W cs k) []

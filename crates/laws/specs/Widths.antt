@@ -11,7 +11,7 @@ use native.Mathlib.Omega.{arith}
 use lib.ListN.{length, getD}
 use lib.Dec.{eqb}
 use Rattle.rules.specs.Guide.{Loc, Item, Entry, place, tally}
-use Rattle.rules.specs.Model.{Model, marked, loc-of, reg-of, watermark, initial}
+use Rattle.rules.specs.Model.{Model, marked, loc-of, reg-of, watermark, initial, registrations as registered}
 use Rattle.rules.specs.Calls.{Call, run}
 use Rattle.laws.specs.History.{len}
 use Rattle.laws.specs.ModelBase.{In, bool-cases, entry-at, loc-of-none}
@@ -50,7 +50,7 @@ pub record Widths (P N : ℕ) (k : Model) : Type 0 where
   pub tally-counts : (p : ℕ) → In32 (getD (tally P (k .guide .order)) p 0)
   pub registrations : In32 (length (k .adds))
   pub mark : In32 (watermark N k)
-  pub fixed : In32 (k .recorded .registrations) × In32 (k .recorded .places)
+  pub fixed : In32 (registered k) × In32 (k .recorded .places)
   pub flushes : In16 (k .flushes)
   pub lists : (r : ℕ) → In16 (length ((reg-of k r) .ins)) × In16 (length ((reg-of k r) .outs))
 
@@ -78,6 +78,10 @@ module _ (P N W : ℕ) (hP : 1 ≤ P) (tP : P ≤ 64999) (hN : N ≤ 16777216) (
       go (inl e) = omega (arith, s .inv .located-ok x e .0, s .inv .core .capped ((loc-of (k .located) x) .span))
       go (inr e) = omega (arith, loc-of-none (k .located) x e .1)
 
+  low-registered : (b : Bool) → In32 (elim b [ true ↦ length (k .adds) | false ↦ 0 ])
+  low-registered true = omega (arith, f .many)
+  low-registered false = omega arith
+
   item-fits : (e : Item) → e .added < length (k .adds) → OfSession (length (k .adds)) e → Item32 e
   item-fits e h o = (omega (arith, f .many, o .0), omega (arith, f .many), omega (arith, f .many, o .1))
 
@@ -98,7 +102,7 @@ module _ (P N W : ℕ) (hP : 1 ≤ P) (tP : P ≤ 64999) (hN : N ≤ 16777216) (
         tally-counts = λ p. omega (arith, tally-each P (k .guide .order) (λ j h. f .parallelisms j h .1) p, having-le p (k .guide .order), f .room, f .many);
         registrations = omega (arith, f .many);
         mark = omega (arith, f .mark-low);
-        fixed = (omega (arith, s .entries .registrations-few, f .many), omega (arith, s .entries .places-few));
+        fixed = (low-registered (k .closed), omega (arith, s .entries .places-few));
         flushes = omega (arith, s .limits .few);
         lists = λ r. (omega (arith, s .inside .lists r .ins-few), omega (arith, s .inside .lists r .outs-few));
       }

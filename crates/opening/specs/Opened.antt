@@ -10,7 +10,7 @@ use lib.ListN.{length, getD, take, drop, replicate, length-take, length-replicat
 use lib.Seq.{getD-take, getD-drop, ext-getD}
 use borrow.Author.Tests.{ltb-false}
 use Rattle.rules.specs.Guide.{fresh}
-use Rattle.rules.specs.Checks.{pooled, Check, verdict, Sizes, check-open, check-range, too-short}
+use Rattle.rules.specs.Checks.{pooled, Check, verdict, any, Sizes, check-open, check-range, too-short}
 use Rattle.rules.specs.Model.{Model, initial, watermark, run-from, tracked, member, marked}
 use Rattle.laws.specs.Accepted.{verdict-head, or-false}
 use Rattle.tracking.specs.Places.{places-open}
@@ -82,7 +82,7 @@ pub record Enough (P N : ℕ) (σ : Storage) : Type 0 where
   pub waiting : 4 * N ≤ length (σ .waiting)
 
 pub enough-of : (P N : ℕ) (σ : Storage) → 0 ≡ verdict (check-open P N (sizes σ)) → Enough P N σ
-unfolding check-open check-range too-short
+unfolding check-open check-range too-short any
 enough-of P N σ e =
     let a = verdict-head _ _ (sym e) (omega arith) in
     let b = verdict-head _ _ (a .1) (omega arith) in
@@ -95,6 +95,7 @@ enough-of P N σ e =
     let h = or-false _ _ (g .1) in
     let i = or-false _ _ (h .1) in
     let j = or-false _ _ (i .1) in
+    let k = or-false _ _ (j .1) in
     record {
       one = ltb-false P 1 (p .0);
       few = omega (arith, ltb-false 64999 P (p .1));
@@ -102,7 +103,7 @@ enough-of P N σ e =
       small = ltb-false 16777216 N (v .1);
       spans = omega (arith, ltb-false (length (σ .spans) / 4) (32 * (P + 1)) (d .0));
       order = omega (arith, ltb-false (length (σ .order) / 4) N (f .0));
-      tally = omega (arith, ltb-false (length (σ .tally)) (P + 1) (j .1));
+      tally = omega (arith, ltb-false (length (σ .tally)) (P + 1) (k .0));
       rows = omega (arith, ltb-false (length (σ .rows) / 5) N (g .0));
       marks = ltb-false (length (σ .marks)) N (h .0);
       locations = ltb-false (length (σ .locations)) N (i .0);

@@ -1,11 +1,11 @@
 -- The checks of opening, one law for each way out of the code. Assumes nothing.
 use mathlib.Core.Path.{_≡_, refl, sym, ap, _∙_}
 use mathlib.Core.List.{List, [], _∷_, _++_}
-use mathlib.Core.Bool.{Bool, true, false, _||_}
+use mathlib.Core.Bool.{Bool, true, false, _||_, or-false}
 use Prim.Native.Nat.{ℕ, _+_, _*_, _≤_, _<_}
 use lib.Dec.{ltb}
 use borrow.Author.Tests.{lt-ltb, le-ltb}
-use Rattle.rules.specs.Checks.{Check, verdict, Sizes, too-short, check-range, check-open}
+use Rattle.rules.specs.Checks.{Check, verdict, any, Sizes, too-short, check-range, check-open}
 
 module _ (P N : ℕ) (s : Sizes) where
   pub low-p : P < 1 → 1 ≡ verdict (check-open P N s)
@@ -38,5 +38,5 @@ module _ (P N : ℕ) (s : Sizes) where
 
   pub is-short : (a b c d e f g : Bool) → ltb (s .spans) (32 * (P + 1)) ≡ a → ltb (s .order) N ≡ b → ltb (s .rows) N ≡ c → ltb (s .marks) N ≡ d → ltb (s .locations) N ≡ e → ltb (s .waiting) (4 * N) ≡ f → ltb (s .tally) (P + 1) ≡ g
       → (a || (b || (c || (d || (e || (f || g)))))) ≡ too-short P N s
-  unfolding too-short
-  is-short a b c d e f g x1 x2 x3 x4 x5 x6 x7 = rw (x1, x2, x3, x4, x5, x6, x7)
+  unfolding too-short any
+  is-short a b c d e f g x1 x2 x3 x4 x5 x6 x7 = rw (x1, x2, x3, x4, x5, x6, x7, or-false g)

@@ -9,7 +9,7 @@ use native.Mathlib.Decide.{decLt}
 use lib.ListN.{length, getD}
 use lib.Dec.{ltb}
 use borrow.Author.Tests.{lt-ltb, le-ltb, ne-eqb}
-use Rattle.rules.specs.Calls.{chosen}
+use Rattle.rules.specs.Calls.{unless-refused}
 use Rattle.rules.specs.Checks.{verdict}
 use Rattle.order_entries.specs.Flat.{Readable}
 use Rattle.order_entries.specs.Copied.{wide-entry, check-new}
@@ -55,13 +55,13 @@ pub record Ready (room : ℕ) (f : List ℕ) (from to : ℕ) : Type 0 where
   pub readable : (k : ℕ) → from ≤ k → k < to → Readable f k
 
 -- the state after an accepted and after a refused call
-pub chosen-done : {A : Type 0} (n : ℕ) (x y : A) → n ≡ 0 → chosen n x y ≡ y
-unfolding chosen
-chosen-done n x y e = rw (e, chosen)
+pub accepted-is : {A : Type 0} (n : ℕ) (x y : A) → n ≡ 0 → unless-refused n x y ≡ y
+unfolding unless-refused
+accepted-is n x y e = rw (e, unless-refused)
 
-pub chosen-same : {A : Type 0} (n : ℕ) (x y : A) → (n ≡ 0 → ⊥) → chosen n x y ≡ x
-unfolding chosen
-chosen-same n x y e = rw (ne-eqb n 0 e, chosen)
+pub refused-is : {A : Type 0} (n : ℕ) (x y : A) → (n ≡ 0 → ⊥) → unless-refused n x y ≡ x
+unfolding unless-refused
+refused-is n x y e = rw (ne-eqb n 0 e, unless-refused)
 
 module _ (room : ℕ) (f : List ℕ) (from to : ℕ) where
   pub past : to < from → 2 ≡ check-new room f from to

@@ -9,10 +9,10 @@ use native.Mathlib.Decide.{ℕ-discrete}
 use lib.ListN.{length, take, drop, set, getD, length-append, length-drop}
 use lib.Seq.{drop-cons, length-take-le, set-at}
 use Rattle.order_entries.specs.declared.OrderInfo.{OrderInfo}
-use Rattle.rules.specs.Calls.{chosen}
+use Rattle.rules.specs.Calls.{unless-refused}
 use Rattle.order_entries.specs.Flat.{Readable, entry-of}
 use Rattle.order_entries.specs.Copied.{entries, copied, check-new}
-use Rattle.order_entries.specs.Checked.{Ready, ready, chosen-done, chosen-same}
+use Rattle.order_entries.specs.Checked.{Ready, ready, accepted-is, refused-is}
 
 entries-length : (f : List ℕ) (k n : ℕ) → length (entries f k n) ≡ n
 unfolding entries
@@ -69,10 +69,10 @@ pub record Copying (o : List OrderInfo) (f : List ℕ) (from to n stop : ℕ) : 
   pub low : from ≤ stop
   pub each : (k : ℕ) → from ≤ k → k < stop → (k < length o) × Readable f k
   pub long : (k : ℕ) → from ≤ k → k ≤ stop → length (copied o f from k) ≡ length o
-  pub last : copied o f from stop ≡ chosen n o (copied o f from to)
+  pub last : copied o f from stop ≡ unless-refused n o (copied o f from to)
 
-pub copying : (o : List OrderInfo) (f : List ℕ) (from to n stop : ℕ) → n ≡ check-new (length o) f from to → stop ≡ chosen n from to → Copying o f from to n stop
-copying o f from to n stop e s = elim (ℕ-discrete n 0) [ yes z ↦ all (ready (length o) f from to (sym e ∙ z)) z (s ∙ chosen-done n from to z) | no z ↦ nothing z (s ∙ chosen-same n from to z) ]
+pub copying : (o : List OrderInfo) (f : List ℕ) (from to n stop : ℕ) → n ≡ check-new (length o) f from to → stop ≡ unless-refused n from to → Copying o f from to n stop
+copying o f from to n stop e s = elim (ℕ-discrete n 0) [ yes z ↦ all (ready (length o) f from to (sym e ∙ z)) z (s ∙ accepted-is n from to z) | no z ↦ nothing z (s ∙ refused-is n from to z) ]
   where
     all : Ready (length o) f from to → n ≡ 0 → stop ≡ to → Copying o f from to n stop
     all r z q =
@@ -80,7 +80,7 @@ copying o f from to n stop e s = elim (ℕ-discrete n 0) [ yes z ↦ all (ready 
           low = omega (arith, r .order, q);
           each = λ k l h. (omega (arith, r .within, q), r .readable k l (omega (arith, h, q)));
           long = λ k l h. copied-length o f from k l (omega (arith, r .within, h, q));
-          last = ap (copied o f from) q ∙ sym (chosen-done n o (copied o f from to) z);
+          last = ap (copied o f from) q ∙ sym (accepted-is n o (copied o f from to) z);
         }
 
     nothing : (n ≡ 0 → ⊥) → stop ≡ from → Copying o f from to n stop
@@ -89,5 +89,5 @@ copying o f from to n stop e s = elim (ℕ-discrete n 0) [ yes z ↦ all (ready 
           low = omega (arith, q);
           each = λ k l h. absurd (omega (arith, l, h, q));
           long = λ k l h. let j : k ≡ from = omega (arith, l, h, q) in ap (λ m. length (copied o f from m)) j ∙ ap length (copied-none o f from);
-          last = ap (copied o f from) q ∙ copied-none o f from ∙ sym (chosen-same n o (copied o f from to) z);
+          last = ap (copied o f from) q ∙ copied-none o f from ∙ sym (refused-is n o (copied o f from to) z);
         }

@@ -8,14 +8,14 @@ use native.Mathlib.Omega.{arith}
 use lib.ListN.{length, take, drop}
 use lib.Seq.{take-at}
 use Rattle.rules.specs.Guide.{Entry}
-use Rattle.rules.specs.Calls.{chosen}
+use Rattle.rules.specs.Calls.{unless-refused}
 use Rattle.entries.specs.Entries.{row, entry-of as stored-entry, item-of}
 use Rattle.entries.specs.Stored.{row-add}
 use Rattle.buffer.specs.View.{order-of}
 use Rattle.order_entries.specs.declared.OrderInfo.{OrderInfo}
 use Rattle.order_entries.specs.Flat.{entry-of}
 use Rattle.order_entries.specs.Copied.{entries, copied, check-new}
-use Rattle.order_entries.specs.Checked.{ready, chosen-done}
+use Rattle.order_entries.specs.Checked.{ready, accepted-is}
 use Rattle.order_entries.specs.Loop.{before, copied-length}
 
 -- the order's entry that a struct stands for
@@ -57,9 +57,9 @@ mirrors-more o flat flat′ n m k e h room =
         ∙ sym (map-append stored-entry (row flat′ 0 n) (row flat′ n (m - n))) ∙ ap (map stored-entry) (sym (ap (λ j. row flat′ 0 j) (sym d) ∙ row-add flat′ 0 n (m - n) ∙ ap (λ j. row flat′ 0 n ++ row flat′ j (m - n)) z))
 
 -- what `order_append_new` promises of its answer r and of the structs o′, read so
-pub mirrors-after : (o o′ : List OrderInfo) (flat flat′ : List ℕ) (n m r : ℕ) → Mirrors o flat n → order-of flat′ n ≡ order-of flat n → r ≡ check-new (length o) flat′ n m → o′ ≡ chosen r o (copied o flat′ n m) → r ≡ 0
+pub mirrors-after : (o o′ : List OrderInfo) (flat flat′ : List ℕ) (n m r : ℕ) → Mirrors o flat n → order-of flat′ n ≡ order-of flat n → r ≡ check-new (length o) flat′ n m → o′ ≡ unless-refused r o (copied o flat′ n m) → r ≡ 0
     → Mirrors o′ flat′ m
 mirrors-after o o′ flat flat′ n m r k e a s z =
     let f = ready (length o) flat′ n m (sym a ∙ z) in
-    let p : o′ ≡ copied o flat′ n m = s ∙ chosen-done r o (copied o flat′ n m) z in
+    let p : o′ ≡ copied o flat′ n m = s ∙ accepted-is r o (copied o flat′ n m) z in
     subst (λ (l : List OrderInfo). Mirrors l flat′ m) (sym p) (mirrors-more o flat flat′ n m k e (f .order) (f .within))

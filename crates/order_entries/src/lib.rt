@@ -3,7 +3,7 @@
 ghost use mathlib.Core.Path.{_≡_};
 ghost use Prim.Native.Nat.{_<_, _≤_, _-_, _*_};
 ghost use lib.ListN.{length, set};
-ghost use Rattle.rules.specs.Calls.{chosen};
+ghost use Rattle.rules.specs.Calls.{unless-refused};
 ghost use Rattle.order_entries.specs.Flat.{Readable, entry-of};
 ghost use Rattle.order_entries.specs.Copied.{copied, wide-entry, check-new};
 
@@ -74,7 +74,7 @@ fn check_new(room: usize, flat: &[u32], from: usize, to: usize) -> u64
 
 // Where the copying stops: at `to`, or at once where it is refused.
 fn stop_at(n: u64, from: usize, to: usize) -> usize
-    ensures { λ r. ⌜ r ≡ chosen n from to ⌝ }
+    ensures { λ r. ⌜ r ≡ unless-refused n from to ⌝ }
 {
     if n == 0 {
         return to;
@@ -92,7 +92,7 @@ pub extern "C" fn order_append_new(
     from: usize,
     to: usize,
 ) -> u64
-    ensures { λ r. ⌜ (r ≡ check-new (length (now (order .entry))) (now (flat .entry)) from to) × (now (order .exit) ≡ chosen r (now (order .entry)) (copied (now (order .entry)) (now (flat .entry)) from to)) ⌝ }
+    ensures { λ r. ⌜ (r ≡ check-new (length (now (order .entry))) (now (flat .entry)) from to) × (now (order .exit) ≡ unless-refused r (now (order .entry)) (copied (now (order .entry)) (now (flat .entry)) from to)) ⌝ }
 {
     let n = check_new(order.len(), flat, from, to);
     let end = stop_at(n, from, to);

@@ -7,8 +7,8 @@ use Prim.Native.Nat.{ℕ, suc, _+_, _-_, _*_}
 use lib.ListN.{length, getD}
 use lib.Dec.{leb, ltb, eqb}
 use Rattle.rules.specs.Guide.{Loc, Item, Guide, fresh, flush as flush-guide, Placed, place}
-use Rattle.rules.specs.Checks.{Check, verdict, check-range}
-use Rattle.rules.specs.Calls.{chosen}
+use Rattle.rules.specs.Checks.{Check, verdict, any, short, spans-needed, tally-needed, check-range}
+use Rattle.rules.specs.Calls.{unless-refused}
 
 -- the guide, and how many pushes were accepted
 pub record Alone : Type 0 where
@@ -21,7 +21,7 @@ alone = record { guide = fresh; pushes = 0 }
 -- opening: 1, then 2 for spans and order in entries and the tally in counts
 unfoldable pub check-alone : ℕ → ℕ → ℕ → ℕ → ℕ → List Check
 check-alone P N spans order tally =
-    check-range P N ++ (record { fails = ltb spans (32 * (P + 1)) || (ltb order N || ltb tally (P + 1)); number = 2 } ∷ [])
+    check-range P N ++ (record { fails = any short ((spans, spans-needed P) ∷ (order, N) ∷ (tally, tally-needed P) ∷ []); number = 2 } ∷ [])
 
 -- an entry with this location is held
 unfoldable pub holds : Guide → Loc → Bool
@@ -66,7 +66,7 @@ unfoldable pub location : ℕ → Option Loc → Item → Alone → Loc
 location P after e a = (place P after e (a .guide)) .loc
 
 unfoldable pub serve-step : ℕ → ℕ → Request → Alone → Alone
-serve-step P N r a = chosen (reply N r a) a (serve P r a)
+serve-step P N r a = unless-refused (reply N r a) a (serve P r a)
 
 unfoldable pub serve-all : ℕ → ℕ → List Request → Alone → Alone
 serve-all P N [] a = a

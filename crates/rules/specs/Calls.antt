@@ -29,12 +29,12 @@ apply-call P N (add ins outs) k = note-add (do-add P N (record { ins = ins; outs
 apply-call P N flush k = do-flush P k
 apply-call P N final k = do-final P N k
 
--- the state after a call: unchanged where it is refused
-unfoldable pub chosen : {A : Type 0} → ℕ → A → A → A
-chosen n before done = elim (eqb n 0) [ true ↦ done | false ↦ before ]
+-- the state after a call with number n: the one before where it is refused
+unfoldable pub unless-refused : {A : Type 0} → ℕ → A → A → A
+unless-refused n before after = elim (eqb n 0) [ true ↦ after | false ↦ before ]
 
 unfoldable pub step : ℕ → ℕ → ℕ → Call → Model → Model
-step P N W c k = chosen (answer N W c k) k (apply-call P N c k)
+step P N W c k = unless-refused (answer N W c k) k (apply-call P N c k)
 
 unfoldable pub run : ℕ → ℕ → ℕ → List Call → Model → Model
 run P N W [] k = k

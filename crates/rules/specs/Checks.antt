@@ -16,7 +16,7 @@ unfoldable pub verdict : List Check → ℕ
 verdict [] = 0
 verdict (c ∷ cs) = elim (c .fails) [ true ↦ c .number | false ↦ verdict cs ]
 
-unfoldable pub any : (ℕ → Bool) → List ℕ → Bool
+unfoldable pub any : {A : Type 0} → (A → Bool) → List A → Bool
 any t [] = false
 any t (x ∷ xs) = t x || any t xs
 
@@ -60,10 +60,35 @@ pub record Sizes : Type 0 where
   pub waiting : ℕ
   pub tally : ℕ
 
+-- "Lent storage: spans 32·(P+1) entries, order V, rows V, places V, waiting 4V numbers, tally P+1 counts"
+abbrev pub spans-needed : ℕ → ℕ
+spans-needed P = 32 * (P + 1)
+
+abbrev pub waiting-needed : ℕ → ℕ
+waiting-needed N = 4 * N
+
+abbrev pub tally-needed : ℕ → ℕ
+tally-needed P = P + 1
+
+-- of a lent length and the one that is needed: it is too short
+abbrev pub short : ℕ × ℕ → Bool
+short l = ltb (l .0) (l .1)
+
+-- the lent lengths, each with the one that is needed
+abbrev pub lengths : ℕ → ℕ → Sizes → List (ℕ × ℕ)
+lengths P N s =
+    (s .spans, spans-needed P)
+    ∷ (s .order, N)
+    ∷ (s .rows, N)
+    ∷ (s .marks, N)
+    ∷ (s .locations, N)
+    ∷ (s .waiting, waiting-needed N)
+    ∷ (s .tally, tally-needed P)
+    ∷ []
+
 -- 2: a lent length too short
 unfoldable pub too-short : ℕ → ℕ → Sizes → Bool
-too-short P N s =
-    ltb (s .spans) (32 * (P + 1)) || (ltb (s .order) N || (ltb (s .rows) N || (ltb (s .marks) N || (ltb (s .locations) N || (ltb (s .waiting) (4 * N) || ltb (s .tally) (P + 1))))))
+too-short P N s = any short (lengths P N s)
 
 -- opening: 1, 2
 unfoldable pub check-open : ℕ → ℕ → Sizes → List Check

@@ -10,7 +10,7 @@ use lib.Ieee.{binary32, round, size, span, climb, units, odd, toBits}
 use Rattle.rules.specs.Guide.{parallelism, parallelism-by, last-parallelism, annotate, released, fresh, release, flush as flush-guide, seek, found, begin, choose, put, settle, apply, place}
 use Rattle.rules.specs.Model.{initial, member, marked, tracked, run-from, watermark, greatest, ready, loc-of, later, top, after, spotted, reg-of, place-one, due, left, queue, keep, push, off, rest, with-set, with-add, cascade, settle-all, do-set, do-add, with-record, note-add, note-flush, note-final, with-flush, do-flush, do-final}
 use Rattle.rules.specs.Checks.{verdict, any, repeats, written-by, taken, pooled, check-range, too-short, check-open, check-closed, check-places, check-set, check-add, check-flush, check-final}
-use Rattle.rules.specs.Calls.{Call, set, add, flush, final, checks, answer, apply-call, chosen, step}
+use Rattle.rules.specs.Calls.{Call, set, add, flush, final, checks, answer, apply-call, unless-refused, step}
 use Rattle.rules.specs.Alone.{check-alone}
 use Rattle.rules.specs.Summary.{Figures, sum, average, median-from, median, counts, thousands, figures}
 use Rattle.rules.specs.Job.{key-parallelism, key-places, key-set, key-in, key-out, flush-text, final-text, Line, parallelism-line, places-line, set-line, in-line, out-line, flush-line, final-line, malformed, Outcome, finished, rejected, job-pool, lines-from, lines, ragged, digits-from, leading-zero, in-64-bits, number, fields-from, both, numbers, list, after-key, with-number, with-list, whole, key-or, line-of, on-line, closing, run-lines, job-sizes, run-places, run-job, outcome}
@@ -289,7 +289,7 @@ jobs-want =
     ∷ []
 
 pub jobs-turn : jobs-got ≡ jobs-want
-unfolding jobs-got jobs-want digits decimal parallelism parallelism-by last-parallelism annotate released fresh release flush-guide seek found begin choose put settle apply place initial member marked tracked run-from watermark greatest ready loc-of later top after spotted reg-of place-one due left queue keep push off rest with-set with-add cascade settle-all do-set do-add with-record note-add note-flush note-final with-flush do-flush do-final verdict any repeats written-by taken pooled check-range too-short check-open check-closed check-places check-set check-add check-flush check-final checks answer apply-call chosen step lines-from lines ragged digits-from leading-zero in-64-bits number fields-from both numbers list after-key with-number with-list whole key-or line-of on-line closing run-lines job-sizes run-places run-job outcome
+unfolding jobs-got jobs-want digits decimal parallelism parallelism-by last-parallelism annotate released fresh release flush-guide seek found begin choose put settle apply place initial member marked tracked run-from watermark greatest ready loc-of later top after spotted reg-of place-one due left queue keep push off rest with-set with-add cascade settle-all do-set do-add with-record note-add note-flush note-final with-flush do-flush do-final verdict any repeats written-by taken pooled check-range too-short check-open check-closed check-places check-set check-add check-flush check-final checks answer apply-call unless-refused step lines-from lines ragged digits-from leading-zero in-64-bits number fields-from both numbers list after-key with-number with-list whole key-or line-of on-line closing run-lines job-sizes run-places run-job outcome
 jobs-turn = refl
 
 -- ---- the answer

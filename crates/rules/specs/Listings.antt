@@ -5,7 +5,7 @@ use Prim.Native.Nat.{ℕ}
 use Rattle.rules.specs.Guide.{parallelism, parallelism-by, last-parallelism, annotate, released, fresh, release, flush as flush-guide, seek, found, begin, choose, put, settle, apply, place, tallied, tally}
 use Rattle.rules.specs.Model.{initial, member, marked, tracked, run-from, watermark, greatest, ready, loc-of, later, top, after, spotted, reg-of, place-one, due, left, queue, keep, push, off, rest, with-set, with-add, cascade, settle-all, do-set, do-add, with-record, note-add, note-flush, note-final, with-flush, do-flush, do-final}
 use Rattle.rules.specs.Checks.{verdict, any, repeats, written-by, taken, pooled, check-range, too-short, check-open, check-closed, check-places, check-set, check-add, check-flush, check-final}
-use Rattle.rules.specs.Calls.{checks, answer, apply-call, chosen, step}
+use Rattle.rules.specs.Calls.{checks, answer, apply-call, unless-refused, step}
 use Rattle.rules.specs.Summary.{sum, median-from, median}
 use Rattle.rules.specs.Job.{lines-from, lines, ragged, digits-from, leading-zero, in-64-bits, number, fields-from, both, numbers, list, after-key, with-number, with-list, whole, key-or, line-of, on-line, closing, run-lines, job-sizes, run-places, run-job, outcome}
 use Rattle.rules.specs.Listing.{digits, decimal, field, line, floor, entry-line, entry-lines, listing, rejection, fit, told, reply, printed, program}
@@ -69,7 +69,7 @@ malformed-at-1 =
     ++ ((108 ∷ 105 ∷ 110 ∷ 101 ∷ 61 ∷ 49 ∷ 10 ∷ []))
 
 pub j1 : program job-1 ≡ listing-1
-unfolding parallelism parallelism-by last-parallelism annotate released fresh release flush-guide seek found begin choose put settle apply place tallied tally initial member marked tracked run-from watermark greatest ready loc-of later top after spotted reg-of place-one due left queue keep push off rest with-set with-add cascade settle-all do-set do-add with-record note-add note-flush note-final with-flush do-flush do-final verdict any repeats written-by taken pooled check-range too-short check-open check-closed check-places check-set check-add check-flush check-final checks answer apply-call chosen step sum median-from median lines-from lines ragged digits-from leading-zero in-64-bits number fields-from both numbers list after-key with-number with-list whole key-or line-of on-line closing run-lines job-sizes run-places run-job outcome digits decimal field line floor entry-line entry-lines listing rejection fit told reply printed program
+unfolding parallelism parallelism-by last-parallelism annotate released fresh release flush-guide seek found begin choose put settle apply place tallied tally initial member marked tracked run-from watermark greatest ready loc-of later top after spotted reg-of place-one due left queue keep push off rest with-set with-add cascade settle-all do-set do-add with-record note-add note-flush note-final with-flush do-flush do-final verdict any repeats written-by taken pooled check-range too-short check-open check-closed check-places check-set check-add check-flush check-final checks answer apply-call unless-refused step sum median-from median lines-from lines ragged digits-from leading-zero in-64-bits number fields-from both numbers list after-key with-number with-list whole key-or line-of on-line closing run-lines job-sizes run-places run-job outcome digits decimal field line floor entry-line entry-lines listing rejection fit told reply printed program
 j1 = refl
 
 -- the empty job

@@ -24,10 +24,9 @@ pub record Pending : Type 0 where
   pub under : ℕ
   pub reg : ℕ
 
--- what the record has beside what the order says: `written` of each accepted registration's row, and the counts that final fixes
+-- what the record has beside what the order says: `written` of each accepted registration's row, and the places that final fixes
 pub record Recorded : Type 0 where
   pub written : List ℕ
-  pub registrations : ℕ
   pub places : ℕ
 
 -- the accepted adds, the set places, the locations of what is placed, who waits (by place, then registration), the window with its
@@ -45,7 +44,7 @@ pub record Model : Type 0 where
 -- a fresh session's
 unfoldable pub initial : Model
 initial =
-    record { adds = []; sets = []; located = []; pending = []; guide = fresh; flushes = 0; closed = false; recorded = record { written = []; registrations = 0; places = 0 } }
+    record { adds = []; sets = []; located = []; pending = []; guide = fresh; flushes = 0; closed = false; recorded = record { written = []; places = 0 } }
 
 unfoldable pub member : ℕ → List ℕ → Bool
 member x [] = false
@@ -206,24 +205,20 @@ with-record d k =
 -- at the end of add the row's written becomes the order's length, also for one that waits
 unfoldable pub note-add : Model → Model
 note-add k =
-    with-record (record {
-      written = k .recorded .written ++ (length (k .guide .order) ∷ []);
-      registrations = k .recorded .registrations;
-      places = k .recorded .places;
-    }) k
+    with-record (record { written = k .recorded .written ++ (length (k .guide .order) ∷ []); places = k .recorded .places }) k
 
 -- flush and final store it in the row of the latest registration, if any
 unfoldable pub note-flush : Model → Model
 note-flush k =
-    with-record (record {
-      written = set-at (k .recorded .written) (length (k .recorded .written) - 1) (length (k .guide .order));
-      registrations = k .recorded .registrations;
-      places = k .recorded .places;
-    }) k
+    with-record (record { written = set-at (k .recorded .written) (length (k .recorded .written) - 1) (length (k .guide .order)); places = k .recorded .places }) k
 
--- final fixes registrations and places
+-- final fixes places: the high mark plus 1, or 0
 unfoldable pub note-final : ℕ → Model → Model
-note-final N k = with-record (record { written = k .recorded .written; registrations = length (k .adds); places = watermark N k }) k
+note-final N k = with-record (record { written = k .recorded .written; places = watermark N k }) k
+
+-- and registrations, by closing: no call adds one afterwards. Before it they are 0
+abbrev pub registrations : Model → ℕ
+registrations k = elim (k .closed) [ true ↦ length (k .adds) | false ↦ 0 ]
 
 -- all 32 spans are released; the count of plain flushes is f, and c says whether it is closed
 unfoldable pub with-flush : ℕ → ℕ → Bool → Model → Model

@@ -7,9 +7,9 @@ use mathlib.Core.Option.{Option, some, none}
 use Prim.Native.Nat.{ℕ, _^_}
 use lib.ListN.{length, replicate}
 use Rattle.rules.specs.Guide.{Loc, Item, Entry, parallelism, parallelism-by, last-parallelism, annotate, released, fresh, release, flush as flush-guide, seek, found, begin, choose, put, settle, apply, place, tallied, tally}
-use Rattle.rules.specs.Model.{Model, initial, member, marked, tracked, run-from, watermark, greatest, ready, loc-of, later, top, after, spotted, reg-of, place-one, due, left, queue, keep, push, off, rest, with-set, with-add, cascade, settle-all, do-set, do-add, with-record, note-add, note-flush, note-final, with-flush, do-flush, do-final}
+use Rattle.rules.specs.Model.{Model, initial, member, marked, tracked, run-from, watermark, greatest, ready, loc-of, later, top, after, spotted, reg-of, place-one, due, left, queue, keep, push, off, rest, with-set, with-add, cascade, settle-all, do-set, do-add, with-record, note-add, note-flush, note-final, with-flush, do-flush, do-final, registrations}
 use Rattle.rules.specs.Checks.{verdict, any, repeats, written-by, taken, pooled, check-range, too-short, check-open, check-closed, check-places, check-set, check-add, check-flush, check-final}
-use Rattle.rules.specs.Calls.{Call, set, add, flush, final, checks, answer, apply-call, chosen, step, run, answers}
+use Rattle.rules.specs.Calls.{Call, set, add, flush, final, checks, answer, apply-call, unless-refused, step, run, answers}
 use Rattle.rules.specs.Alone.{Alone, alone, check-alone, holds, stray, worn, check-push, check-flush-alone, push as push-request, flush as flush-request, requests, reply, serve, serve-step, serve-all, replies}
 
 -- of each entry of the order: added, accepted and parallelism
@@ -56,7 +56,7 @@ third = add [] (one 0) ∷ add (one 0) (one 1) ∷ add (one 0) (one 2) ∷ []
 pub record-got : List (List (List ℕ))
 record-got =
     order-of 2 6 J1
-    ∷ ((run 2 6 100 J1 initial) .recorded .written ∷ tally 2 ((run 2 6 100 J1 initial) .guide .order) ∷ ((run 2 6 100 J1 initial) .recorded .registrations ∷ (run 2 6 100 J1 initial) .recorded .places ∷ []) ∷ [])
+    ∷ ((run 2 6 100 J1 initial) .recorded .written ∷ tally 2 ((run 2 6 100 J1 initial) .guide .order) ∷ (registrations (run 2 6 100 J1 initial) ∷ (run 2 6 100 J1 initial) .recorded .places ∷ []) ∷ [])
     ∷ (((run 2 6 100 third initial) .guide .first ∷ map length ((run 2 6 100 third initial) .guide .spans)) ∷ [])
     ∷ []
 
@@ -90,6 +90,9 @@ calls-got =
     ∷ answers 2 3 9 (add (one 0) [] ∷ final ∷ set 0 ∷ final ∷ []) initial
     -- 11 with 65,535 plain flushes done; final still runs
     ∷ (answer 3 9 flush (flushed 65534) ∷ answer 3 9 flush (flushed 65535) ∷ answer 3 9 final (flushed 65535) ∷ [])
+    -- an accepted plain flush counts, and the 65,535th is the last that is accepted; final counts none
+    ∷ answers 2 3 9 (flush ∷ flush ∷ final ∷ []) (flushed 65534)
+    ∷ ((run 2 3 9 (flush ∷ []) initial) .flushes ∷ (run 2 3 9 (flush ∷ flush ∷ []) (flushed 65534)) .flushes ∷ (run 2 3 9 (flush ∷ final ∷ []) initial) .flushes ∷ [])
     ∷ []
 
 pub calls-want : List (List ℕ)
@@ -102,6 +105,8 @@ calls-want =
     ∷ (10 ∷ 0 ∷ 0 ∷ 10 ∷ 0 ∷ [])
     ∷ (0 ∷ 12 ∷ 0 ∷ 0 ∷ [])
     ∷ (0 ∷ 11 ∷ 0 ∷ [])
+    ∷ (0 ∷ 11 ∷ 0 ∷ [])
+    ∷ (1 ∷ 65535 ∷ 1 ∷ [])
     ∷ []
 
 opens : ℕ → ℕ → ℕ → ℕ → ℕ → ℕ
@@ -138,5 +143,5 @@ other-want =
 
 -- of each the two are the same
 pub sessions : (registrar-got ≡ registrar-want) × (record-got ≡ record-want) × (calls-got ≡ calls-want) × (other-got ≡ other-want)
-unfolding registrar-got registrar-want record-got record-want calls-got calls-want other-got other-want entry order-of placed waiting one J1 before third flushed opens item far at parallelism parallelism-by last-parallelism annotate released fresh release flush-guide seek found begin choose put settle apply place tallied tally initial member marked tracked run-from watermark greatest ready loc-of later top after spotted reg-of place-one due left queue keep push off rest with-set with-add cascade settle-all do-set do-add with-record note-add note-flush note-final with-flush do-flush do-final verdict any repeats written-by taken pooled check-range too-short check-open check-closed check-places check-set check-add check-flush check-final checks answer apply-call chosen step run answers alone check-alone holds stray worn check-push check-flush-alone requests reply serve serve-step serve-all replies
+unfolding registrar-got registrar-want record-got record-want calls-got calls-want other-got other-want entry order-of placed waiting one J1 before third flushed opens item far at parallelism parallelism-by last-parallelism annotate released fresh release flush-guide seek found begin choose put settle apply place tallied tally initial member marked tracked run-from watermark greatest ready loc-of later top after spotted reg-of place-one due left queue keep push off rest with-set with-add cascade settle-all do-set do-add with-record note-add note-flush note-final with-flush do-flush do-final verdict any repeats written-by taken pooled check-range too-short check-open check-closed check-places check-set check-add check-flush check-final checks answer apply-call unless-refused step run answers alone check-alone holds stray worn check-push check-flush-alone requests reply serve serve-step serve-all replies
 sessions = (refl, refl, refl, refl)

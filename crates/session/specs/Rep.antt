@@ -5,7 +5,7 @@ use mathlib.Core.List.{List, [], _∷_}
 use Prim.Native.Nat.{ℕ, _+_, _*_, _≤_, _<_}
 use lib.ListN.{length, getD, take}
 use Rattle.rules.specs.Guide.{tally}
-use Rattle.rules.specs.Model.{Model, Pending, watermark}
+use Rattle.rules.specs.Model.{Model, Pending, watermark, registrations}
 use Rattle.rules.specs.Checks.{taken, pooled}
 use Rattle.buffer.specs.declared.Guide.{Guide}
 use Rattle.buffer.specs.View.{view}
@@ -49,7 +49,7 @@ pub record Counted (k : Model) (s : Session) : Type 0 where
   pub used-is : s .used ≡ pooled (k .adds)
   pub flushes-is : s .flushes ≡ k .flushes
   pub closed-is : s .closed ≡ k .closed
-  pub registrations-is : s .registrations ≡ k .recorded .registrations
+  pub registrations-is : s .registrations ≡ registrations k
   pub places-is : s .places ≡ k .recorded .places
 
 -- all but who waits: what a single placing changes or reads

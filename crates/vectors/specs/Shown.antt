@@ -8,7 +8,7 @@ use lib.ListN.{length}
 use lib.Dec.{eqb}
 use lib.Ieee.{binary32, toBits}
 use Rattle.rules.specs.Guide.{Loc, Item, Entry, Guide, tally}
-use Rattle.rules.specs.Model.{Model, initial, watermark, loc-of}
+use Rattle.rules.specs.Model.{Model, initial, watermark, loc-of, registrations}
 use Rattle.rules.specs.Calls.{Call, answer, step, run}
 use Rattle.rules.specs.Alone.{Alone, alone, Request, push, flush, reply, location, serve-step, serve-all}
 use Rattle.rules.specs.Summary.{Figures}
@@ -82,7 +82,7 @@ figured f =
 
 -- the counts that final fixed and what it gives, once closed
 unfoldable pub closing : ℕ → Model → List (List ℕ)
-closing P k = elim (k .closed) [ true ↦ (k .recorded .registrations ∷ k .recorded .places ∷ []) ∷ figured (summary P k) | false ↦ [] ]
+closing P k = elim (k .closed) [ true ↦ (registrations k ∷ k .recorded .places ∷ []) ∷ figured (summary P k) | false ↦ [] ]
 
 -- order, rows, places, waiting, tally, held, and what final left
 unfoldable pub after-calls : ℕ → ℕ → List Call → List (List (List ℕ))

@@ -52,7 +52,7 @@ use denote.Triple.Call.{calls-at}
 use denote.Triple.Clauses.{ensured, lasts}
 use denote.Triple.Table.{entered, cited}
 use denote.Triple.Walked.{says, Stays, stay-none, stay-slice, stay-none-slice, walkOf, goes-none, goes-slice, goes-none-slice, Walks, ends-at, walked, walk-meets}
-use Rattle.rules.specs.Calls.{chosen}
+use Rattle.rules.specs.Calls.{unless-refused}
 use Rattle.order_entries.specs.declared.OrderInfo.{OrderInfo}
 use Rattle.order_entries.specs.Flat.{entry-of, Readable}
 use Rattle.order_entries.specs.Copied.{copied, check-new}
@@ -185,8 +185,8 @@ module _ {M : Type 1} (𝓤 : URA M) (H : Heap 𝓤) (A : Atoms 𝓤) (W : Given
       nothing ! $ owned ! usize (Is usize) (uint-makes 𝓤 H A W w64) hi _ (refl, hi-fits) $ fjoin ! $ owned ! usize (Is usize) (uint-makes 𝓤 H A W w64) lo _ (refl, lo-fits) $ fjoin ! $
       owned ! u64 (Is u64) (uint-makes 𝓤 H A W w64) n _ (refl, fits) $ fjoin ! $ nothing ! $ join ! $ frame ! $ done !
 
-  said-stop : (n m : ℕ) → ent 𝓤 (ensured 𝓤 H A stop-at.ended (stop-at.clauses 𝓤 H A mem run) tt (n, (lo, (hi, tt))) tt m) (fact 𝓤 (m ≡ chosen n lo hi))
-  said-stop n m = exE 𝓤 _ (λ ws. snd∗ 𝓤 (sem 𝓤 H A (lasts stop-at.ended tt (n, (lo, (hi, tt))) ws)) (fact 𝓤 (m ≡ chosen n lo hi)))
+  said-stop : (n m : ℕ) → ent 𝓤 (ensured 𝓤 H A stop-at.ended (stop-at.clauses 𝓤 H A mem run) tt (n, (lo, (hi, tt))) tt m) (fact 𝓤 (m ≡ unless-refused n lo hi))
+  said-stop n m = exE 𝓤 _ (λ ws. snd∗ 𝓤 (sem 𝓤 H A (lasts stop-at.ended tt (n, (lo, (hi, tt))) ws)) (fact 𝓤 (m ≡ unless-refused n lo hi)))
 
   -- the call of `entry_at`: what it is passed, what it asks, and what is known of its result
   abbrev to-entry : ℕ → EntryAt 𝓤 H A mem run .Ghost
@@ -379,7 +379,7 @@ module _ {M : Type 1} (𝓤 : URA M) (H : Heap 𝓤) (A : Atoms 𝓤) (W : Given
       use0 W (raw (StopAt 𝓤 H A mem run .pre (to-stop n))) (goes-stop n (n-is .1)) $
       calls-at ! (fmOf 𝓤 H (W .laws) 𝓣) (StopAt 𝓤 H A mem run) (known .stop-at) (to-stop n) (and-then ! (load ! (from ! (stop !)) (look ! 22 refl)) (and-then ! (load ! (from ! (stop !)) (look ! 26 refl)) (and-then ! (load ! (from ! (stop !)) (look ! 24 refl)) (no-more !)))) (λ w′.
       use1 W (later (some (λ (m : ℕ). (‵ ftrue ⊛ ‵ (usize .own m (w′ ∷ []))) ⊛ raw (ensured 𝓤 H A stop-at.ended (stop-at.clauses 𝓤 H A mem run) tt (n, (lo, (hi, tt))) tt m)))) (id⊢ 𝓤 _) $ await ! tt $ pick ! (λ m.
-      split ! $ move ! (1 ∷ []) $ use1 W (raw (fact 𝓤 (m ≡ chosen n lo hi))) (said-stop n m) $ heard ! (m ≡ chosen n lo hi) (λ end. split ! $ drop ! $
+      split ! $ move ! (1 ∷ []) $ use1 W (raw (fact 𝓤 (m ≡ unless-refused n lo hi))) (said-stop n m) $ heard ! (m ≡ unless-refused n lo hi) (λ end. split ! $ drop ! $
       peeks ! usize (Is usize) (shows 𝓤 H A usize) m (w′ ∷ []) (λ m-is. drop ! $
       land ! (from ! (stop !)) (init ! 19 refl (uint-lawful 𝓤 H A W w64 .typed m (w′ ∷ []) m-is .0)) $ rewrite ! 19 (λ (z : Val). ‵ (fat fullShare word l₆ 0 z)) (ap only (uint-tells w64 m (w′ ∷ []) m-is)) refl $
       assigns ! (of-opd ! (load ! (from ! (stop !)) (look ! 25 refl))) (from ! (stop !)) (init ! 17 refl (tt, record { fits = lo-fits })) $

@@ -1,14 +1,14 @@
 -- `order_entries::stop_at` meets its contract: the test's two cases. Assumes nothing.
 use mathlib.Core.Path.{sym}
-use Rattle.order_entries.specs.Checked.{chosen-done, chosen-same}
+use Rattle.order_entries.specs.Checked.{accepted-is, refused-is}
 use Rattle.order_entries.proofs.stop_at.Statement.{statement}
 use Rattle.order_entries.proofs.stop_at.Tie as tie
 
 returns : tie.Need-returns
-returns c = let a = c .before .args in sym (chosen-done (a .n) (a .from) (a .to) (c .if1 .taken))
+returns c = let a = c .before .args in sym (accepted-is (a .n) (a .from) (a .to) (c .if1 .taken))
 
 returns-2 : tie.Need-returns-2
-returns-2 c = let a = c .before .args in sym (chosen-same (a .n) (a .from) (a .to) (c .if1 .left))
+returns-2 c = let a = c .before .args in sym (refused-is (a .n) (a .from) (a .to) (c .if1 .left))
 
 pub stop-at-spec : {M : Type 1} → statement M
 stop-at-spec = tie.close (tie.spec returns returns-2)
