@@ -2,18 +2,17 @@
 -- fresh session. That it holds of every list is `demand-3` in DemandProof; that the code's answers, order, tally, mark, window lengths
 -- and waiting registrations are the model's is promised by the calls themselves (crates sorter and replay).
 use mathlib.Core.Path.{_≡_}
-use mathlib.Core.List.{List, _++_, List·Memᴰ}
+use mathlib.Core.List.{List, [], _∷_, _++_, map, List·Memᴰ}
 use mathlib.Core.Logic.{_⊎_, _≢_, _↔_}
 use mathlib.Core.Bool.{true, false}
-use Prim.Native.Nat.{ℕ, _+_, _≤_, _<_}
+use Prim.Native.Nat.{ℕ, suc, _+_, _≤_, _<_}
 use lib.ListN.{length, getD}
+use lib.Dec.{eqb}
 use Rattle.rules.specs.Guide.{Item, Entry, held, tally}
 use Rattle.rules.specs.Summary.{sum}
 use Rattle.rules.specs.Model.{Model, Pending, watermark, greatest, ready, reg-of, initial}
-use Rattle.rules.specs.Calls.{Call, answer, step, run}
+use Rattle.rules.specs.Calls.{Call, final, answer, step, run}
 use Rattle.laws.specs.ModelBase.{In}
-use Rattle.laws.specs.Balance.{wsum, hsum, qsum}
-use Rattle.laws.specs.Once.{one-of}
 use Rattle.laws.specs.Delaying.{IsPending, Sorted}
 use Rattle.laws.specs.Order.{nth, written}
 use Rattle.laws.specs.Tally.{having}
@@ -29,15 +28,25 @@ writes k j i = In i ((reg-of k ((nth k j) .item .added)) .outs)
 abbrev pub Covered : Model → ℕ → ℕ → Type 0
 Covered k j a = (j ≤ a) × (a < j + (nth k j) .parallelism) × (a < written k)
 
--- how often a registration stands in the order, is held in the window, waits
+-- how often r stands in a list
+unfoldable pub count : ℕ → List ℕ → ℕ
+count r [] = 0
+count r (x ∷ xs) = elim (eqb r x) [ true ↦ suc (count r xs) | false ↦ count r xs ]
+
+-- how often registration r stands in the order, is held in the window, waits
 abbrev pub times : ℕ → List Entry → ℕ
-times r order = wsum (one-of r) order
+times r order = count r (map (λ e. e .item .added) order)
 
 abbrev pub held-times : ℕ → List (List Item) → ℕ
-held-times r spans = hsum (one-of r) spans
+held-times r [] = 0
+held-times r (span ∷ spans) = count r (map (λ e. e .added) span) + held-times r spans
 
 abbrev pub pending-times : ℕ → List Pending → ℕ
-pending-times r ws = qsum (one-of r) ws
+pending-times r ws = count r (map (λ w. w .reg) ws)
+
+-- a final among the calls is accepted, k being the model before them
+abbrev pub FinalAccepted : ℕ → ℕ → ℕ → List Call → Model → Type 0
+FinalAccepted P N W calls k = (before : List Call) × (later : List Call) × (before ++ (final ∷ later) ≡ calls) × (answer N W final (run P N W before k) ≡ 0)
 
 -- of the model k after the calls
 pub record Demand (P N W : ℕ) (calls : List Call) (k : Model) : Type 0 where
@@ -72,6 +81,8 @@ pub record Demand (P N W : ℕ) (calls : List Call) (k : Model) : Type 0 where
   pub stays : (before later : List Call) → before ++ later ≡ calls → (more : List Entry) × (k .guide .order ≡ (run P N W before initial) .guide .order ++ more)
   -- a refused call changes nothing
   pub unchanged : (c : Call) → answer N W c k ≢ 0 → step P N W c k ≡ k
+  -- the session is closed exactly when a final was accepted, wherever it stands among the calls
+  pub closes : FinalAccepted P N W calls initial ↔ (k .closed ≡ true)
   -- after an accepted final nothing waits, nothing is held, and each accepted registration stands in the order exactly once
   pub none-pending : k .closed ≡ true → length (k .pending) ≡ 0
   pub none-held : k .closed ≡ true → held (k .guide .spans) ≡ 0

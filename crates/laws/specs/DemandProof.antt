@@ -2,7 +2,7 @@
 -- was placed behind its writer's location, so that the parallelism rules keep it a writer's parallelism away; the balance of weights
 -- says that each registration has one location.
 use mathlib.Core.Path.{_≡_, refl, sym, _∙_}
-use mathlib.Core.List.{List, [], _∷_}
+use mathlib.Core.List.{List, [], _∷_, map}
 use mathlib.Core.Logic.{_⊎_, inl, inr, _≢_, _↔_}
 use mathlib.Core.Bool.{true, false, false≢true}
 use Prim.Native.Nat.{ℕ, suc, _+_, _≤_, _<_}
@@ -10,22 +10,51 @@ use native.Mathlib.Omega.{arith}
 use lib.ListN.{length}
 use lib.Dec.{eqb}
 use borrow.Author.Tests.{eqb-true}
-use Rattle.rules.specs.Guide.{Loc, Item, held}
+use Rattle.rules.specs.Guide.{Loc, Item, Entry, held}
 use Rattle.rules.specs.Model.{Pending, Model, watermark, ready, reg-of, initial}
 use Rattle.rules.specs.Calls.{Call, answer, step, unless-refused, run}
 use Rattle.laws.specs.History.{len, start, start-suc, start-mono}
 use Rattle.laws.specs.Together.{Behind, frontier, distance}
 use Rattle.laws.specs.ModelBase.{In, bool-cases, entry-at}
 use Rattle.laws.specs.ModelInv.{Inv, hist, Writes}
-use Rattle.laws.specs.Balance.{hsum, qsum, lsum, below, Balance, core-sum}
+use Rattle.laws.specs.Balance.{esum, hsum, wsum, qsum, lsum, below, Balance, core-sum}
 use Rattle.laws.specs.Once.{one-place, wsum-one, qsum-one, hsum-one, below-all, below-one, one-of}
 use Rattle.laws.specs.Delaying.{IsPending}
-use Rattle.laws.specs.Closed.{stays}
+use Rattle.laws.specs.Closed.{stays, final-closes, closed-by}
 use Rattle.laws.specs.Order.{nth, written, wd, At, order-here, order-at, bounds}
 use Rattle.laws.specs.Entries.{OfSession, order-entry}
 use Rattle.laws.specs.Tally.{tally-sum, tally-each}
 use Rattle.laws.specs.Sound.{Sound, sound}
-use Rattle.laws.specs.Demand.{reads, writes, Covered, times, held-times, pending-times, Demand}
+use Rattle.laws.specs.Demand.{reads, writes, Covered, count, times, held-times, pending-times, FinalAccepted, Demand}
+
+-- counting a registration is summing its weight
+count-cons : (r x : ℕ) (l : List ℕ) → count r (x ∷ l) ≡ one-of r x + count r l
+unfolding count one-of
+count-cons r x l = go (bool-cases (eqb r x))
+  where
+    go : (eqb r x ≡ true) ⊎ (eqb r x ≡ false) → count r (x ∷ l) ≡ one-of r x + count r l
+    go (inl e) = rw (e, count, one-of) (omega arith)
+    go (inr e) = rw (e, count, one-of) (omega arith)
+
+times-sum : (r : ℕ) (l : List Entry) → times r l ≡ wsum (one-of r) l
+unfolding count wsum
+times-sum r [] = refl
+times-sum r (e ∷ l) = omega (arith, count-cons r (e .item .added) (map (λ x. x .item .added) l), times-sum r l)
+
+span-sum : (r : ℕ) (l : List Item) → count r (map (λ x. x .added) l) ≡ esum (one-of r) l
+unfolding count esum
+span-sum r [] = refl
+span-sum r (e ∷ l) = omega (arith, count-cons r (e .added) (map (λ x. x .added) l), span-sum r l)
+
+held-sum : (r : ℕ) (H : List (List Item)) → held-times r H ≡ hsum (one-of r) H
+unfolding hsum
+held-sum r [] = refl
+held-sum r (l ∷ H) = omega (arith, span-sum r l, held-sum r H)
+
+pending-sum : (r : ℕ) (l : List Pending) → pending-times r l ≡ qsum (one-of r) l
+unfolding count qsum
+pending-sum r [] = refl
+pending-sum r (w ∷ l) = omega (arith, count-cons r (w .reg) (map (λ x. x .reg) l), pending-sum r l)
 
 behind-before : (H : List (List Item)) (s q t r : ℕ) → q < len H s → r < len H t → Behind s q t r → start H s + q < start H t + r
 behind-before H s q t r h i (inl b) = omega (arith, start-suc H s, start-mono H (suc s) t (omega arith))
@@ -112,11 +141,11 @@ module _ (P N W : ℕ) (hP : 1 ≤ P) (k : Model) (o : Sound P N W k []) where
   -- the balance of one registration's weight
   in-one-place : (r : ℕ) → r < length (k .adds) → times r (k .guide .order) + held-times r (k .guide .spans) + pending-times r (k .pending) ≡ 1
   unfolding Balance lsum
-  in-one-place r h = omega (arith, o .balance (one-of r), below-one r (length (k .adds)) h)
+  in-one-place r h = omega (arith, times-sum r (k .guide .order), held-sum r (k .guide .spans), pending-sum r (k .pending), o .balance (one-of r), below-one r (length (k .adds)) h)
 
-  count : length (k .adds) ≡ written k + held (k .guide .spans) + length (k .pending)
+  sum-up : length (k .adds) ≡ written k + held (k .guide .spans) + length (k .pending)
   unfolding Balance lsum
-  count = omega (arith, o .balance (λ x. 1), wsum-one (k .guide .order), hsum-one (k .guide .spans), qsum-one (k .pending), below-all (length (k .adds)))
+  sum-up = omega (arith, o .balance (λ x. 1), wsum-one (k .guide .order), hsum-one (k .guide .spans), qsum-one (k .pending), below-all (length (k .adds)))
 
   exactly : (r : ℕ) → r < length (k .adds) → IsPending k r ↔ (ready (watermark N k) ((reg-of k r) .ins) ≡ false)
   exactly r h = (there, back (o .delaying .others r h))
@@ -130,7 +159,7 @@ module _ (P N W : ℕ) (hP : 1 ≤ P) (k : Model) (o : Sound P N W k []) where
 
   exactly-once : k .closed ≡ true → (r : ℕ) → r < length (k .adds) → times r (k .guide .order) ≡ 1
   unfolding Balance lsum qsum
-  exactly-once c r h = let e = o .done c in omega (arith, o .balance (one-of r), below-one r (length (k .adds)) h, e .2 (one-of r), no-weight (k .pending) (e .1))
+  exactly-once c r h = let e = o .done c in omega (arith, times-sum r (k .guide .order), o .balance (one-of r), below-one r (length (k .adds)) h, e .2 (one-of r), no-weight (k .pending) (e .1))
     where
       no-weight : (l : List Pending) → length l ≡ 0 → qsum (one-of r) l ≡ 0
       no-weight [] e = refl
@@ -156,7 +185,7 @@ demand-3 P N W hP calls =
       known = of-add P N W hP k o;
       value-is-added = one-number P N W hP k o;
       somewhere = in-one-place P N W hP k o;
-      counted = count P N W hP k o;
+      counted = sum-up P N W hP k o;
       pending = exactly P N W hP k o;
       pending-known = λ w h. o .inv .pending-ok w h .0;
       pending-under = λ w h. o .inv .pending-ok w h .1;
@@ -165,6 +194,7 @@ demand-3 P N W hP calls =
       tally-sum = tally-sum P (k .guide .order) (λ j h. bounds P hP (k .guide) (o .inv .past) (o .inv .core) j h .1);
       stays = λ before later e. rw e at (stays P N W hP before later);
       unchanged = refused P N W hP k o;
+      closes = (closes, closed-by P N W calls);
       none-pending = λ c. o .done c .1;
       none-held = λ c. omega (arith, o .done c .2 (λ x. 1), hsum-one (k .guide .spans));
       once = exactly-once P N W hP k o;
@@ -175,3 +205,6 @@ demand-3 P N W hP calls =
 
     o : Sound P N W k []
     o = sound P N W hP calls
+
+    closes : FinalAccepted P N W calls initial → k .closed ≡ true
+    closes x = rw (x .2) at (final-closes P N W hP (x .0) (x .1) (x .3))
