@@ -65,7 +65,7 @@ not-ready n (x ∷ l) h = ltb-false _ _ h
 abbrev pub Before : Pending → Pending → Type 0
 Before w v = (w .under < v .under) ⊎ ((w .under ≡ v .under) × (w .reg < v .reg))
 
-before-le : (w v : Pending) → Before w v → w .under ≤ v .under
+pub before-le : (w v : Pending) → Before w v → w .under ≤ v .under
 before-le w v (inl h) = omega arith
 before-le w v (inr h) = omega arith
 
@@ -74,7 +74,7 @@ abbrev pub Sorted : List Pending → Type 0
 Sorted [] = Unit {0}
 Sorted (w ∷ ws) = ((v : Pending) → List·Memᴰ v ws → Before w v) × Sorted ws
 
-left-sorted : (m : ℕ) (ws : List Pending) → Sorted ws → Sorted (left m ws)
+pub left-sorted : (m : ℕ) (ws : List Pending) → Sorted ws → Sorted (left m ws)
 unfolding left
 left-sorted m [] s = tt
 left-sorted m (w ∷ ws) s = go (bool-cases (ltb (w .under) m)) (left-sorted m ws (s .1))
@@ -83,7 +83,7 @@ left-sorted m (w ∷ ws) s = go (bool-cases (ltb (w .under) m)) (left-sorted m w
     go (inl e) r = rw (e, left) r
     go (inr e) r = rw (e, left) s
 
-left-above : (m : ℕ) (ws : List Pending) → Sorted ws → (w : Pending) → List·Memᴰ w (left m ws) → m ≤ w .under
+pub left-above : (m : ℕ) (ws : List Pending) → Sorted ws → (w : Pending) → List·Memᴰ w (left m ws) → m ≤ w .under
 unfolding left
 left-above m [] s w h = absurd (List·Memᴰ·not-nil h)
 left-above m (v ∷ ws) s w h = go (bool-cases (ltb (v .under) m)) (λ y. left-above m ws (s .1) w y)
@@ -106,7 +106,7 @@ left-or-due m (v ∷ ws) w h = go (bool-cases (ltb (v .under) m)) (List·Memᴰ�
     go (inl e) (inr y) r = rw (e, left) (r y)
     go (inr e) y r = inl (rw (e, left) h)
 
-queue-sorted : (x : Pending) (ws : List Pending) → ((v : Pending) → List·Memᴰ v ws → v .reg < x .reg) → Sorted ws → Sorted (queue x ws)
+pub queue-sorted : (x : Pending) (ws : List Pending) → ((v : Pending) → List·Memᴰ v ws → v .reg < x .reg) → Sorted ws → Sorted (queue x ws)
 unfolding queue
 queue-sorted x [] n s = ((λ v h. absurd (List·Memᴰ·not-nil h)), tt)
 queue-sorted x (w ∷ ws) n s = go (bool-cases (ltb (x .under) (w .under))) (queue-sorted x ws (λ v h. n v (List·Memᴰ·tail h)) (s .1))

@@ -2,26 +2,18 @@
 -- the functions promise. Place p's head link stands at p, registration r's link at v + r; a link is 0 for none, else the registration
 -- plus 1. Definitions only. Assumes nothing.
 use mathlib.Core.Path.{_≡_}
-use mathlib.Core.Logic.{_⊎_}
 use mathlib.Core.List.{List, [], _∷_, _++_, List·Memᴰ}
 use mathlib.Core.Bool.{true, false, cond}
 use Prim.Native.Nat.{ℕ, suc, _+_, _*_, _≤_, _<_}
 use lib.ListN.{length, getD, set, take, drop}
 use lib.Dec.{eqb}
 use Rattle.rules.specs.Model.{Pending, due, left, queue, push}
+use Rattle.laws.specs.Delaying.{Sorted}
 
 -- the registrations under place p, newest first
 unfoldable pub newest : ℕ → List Pending → List ℕ
 newest p [] = []
 newest p (x ∷ ps) = elim (eqb (x .under) p) [ true ↦ newest p ps ++ (x .reg ∷ []) | false ↦ newest p ps ]
-
--- sorted by place, then by registration
-abbrev pub Before : Pending → Pending → Type 0
-Before x y = (x .under < y .under) ⊎ ((x .under ≡ y .under) × (x .reg < y .reg))
-
-abbrev pub Sorted : List Pending → Type 0
-Sorted [] = Unit {0}
-Sorted (x ∷ ps) = ((y : Pending) → List·Memᴰ y ps → Before x y) × Sorted ps
 
 -- how often r stands in a list, and how often it waits
 unfoldable pub occurs : ℕ → List ℕ → ℕ

@@ -13,8 +13,9 @@ use lib.ListN.{length, getD, set, take, length-set}
 use lib.Seq.{getD-set-same, getD-set-other, getD-take, drop-set-lt}
 use borrow.Author.Tests.{eq-eqb, ne-eqb}
 use Rattle.rules.specs.Model.{Pending, due, left, queue, push}
+use Rattle.laws.specs.Delaying.{left-sorted, left-above, queue-sorted}
 use Rattle.registrar.specs.Delayed.{newest, occurs, pends, Chain, Linked, Delayed, Later, Joins, Stacks, LinksOnly, relinked, top-of, spliced, head-of, last-of, Chained, Oldest, Splices, Advancing, AdvancesSet, AdvancesPlaced}
-use Rattle.registrar.specs.Queue.{From, lt-or-le, eq-or-ne, push-append, push-onto, push-twice, due-none, left-all, due-split, left-split, left-in, left-sorted, left-from, newest-left, newest-due, down, down-due, occurs-push, pends-split, newest-pends, newest-apart, queue-in, queue-pends, queue-sorted, queue-newest, queue-others, pends-none}
+use Rattle.registrar.specs.Queue.{From, lt-or-le, eq-or-ne, push-append, push-onto, push-twice, due-none, left-all, due-split, left-split, left-in, newest-left, newest-due, down, down-due, occurs-push, pends-split, newest-pends, newest-apart, queue-in, queue-pends, queue-newest, queue-others, pends-none}
 use Rattle.registrar.specs.Chains.{In, in-occurs, chain-same, linked-same, chain-frame, linked-frame, chain-below, chain-bound, links-set, links-refl, links-trans, chain-turn, head-turn, length-turn, links-turn, linked-turn, splice-linked, chain-splice, head-splice, length-splice, links-splice, last-in}
 use Rattle.registrar.specs.Loops.{ChainsAt}
 
@@ -180,7 +181,7 @@ module _ (w : List ℕ) (v lo : ℕ) (ps : List Pending) (top : ℕ) (st : List 
 
   -- what is left above m stays within
   kept-within : (m : ℕ) → (x : Pending) → List·Memᴰ x (left m ps) → (m ≤ x .under) × (x .under < v)
-  kept-within m x h = (left-from m ps (d .sorted) x h, d .within x (left-in m ps x h) .1)
+  kept-within m x h = (left-above m ps (d .sorted) x h, d .within x (left-in m ps x h) .1)
 
   -- the lowest place's chain is put on the stack as it is
   pub place-splice : lo < v → Delayed (spliced w v top (newest lo ps)) v (suc lo) (left (suc lo) ps) (head-of top (newest lo ps)) (push (due (suc lo) ps) st)
@@ -257,7 +258,7 @@ module _ (w : List ℕ) (v lo hi : ℕ) (ps : List Pending) (d : Delayed w v lo 
             (chain-turn chains-down w v v (getD w q 0) 0 (newest q ps) (λ r x y. apartly q r a x y) (d .chains q (omega arith) b));
         stack = subst (λ (s : List ℕ). Linked (relinked w v 0 chains-down) v (top-of 0 chains-down) s) stack-is (linked-turn chains-down w v 0 [] (omega (arith, d .long)) down-below (λ r. single r) refl);
         sorted = left-sorted hi ps (d .sorted);
-        within = λ x h. (left-from hi ps (d .sorted) x h, d .within x (left-in hi ps x h) .1);
+        within = λ x h. (left-above hi ps (d .sorted) x h, d .within x (left-in hi ps x h) .1);
         apart = λ r. omega (arith, d .apart r, pends-split r hi ps);
       }
     where

@@ -10,11 +10,8 @@ use lib.Dec.{eqb, ltb}
 use borrow.Author.Tests.{ltb-true, ltb-false, eqb-true, eqb-false, eq-eqb, ne-eqb, lt-ltb, le-ltb}
 use Rattle.rules.specs.Model.{Pending, due, left, queue, push}
 use Rattle.laws.specs.ModelBase.{bool-cases}
-use Rattle.registrar.specs.Delayed.{newest, Before, Sorted, occurs, pends}
-
-before-le : (x y : Pending) → Before x y → x .under ≤ y .under
-before-le x y (inl h) = omega arith
-before-le x y (inr h) = omega arith
+use Rattle.laws.specs.Delaying.{Sorted, before-le, left-sorted, left-above}
+use Rattle.registrar.specs.Delayed.{newest, occurs, pends}
 
 -- every place of ps is at least m
 abbrev pub From : ℕ → List Pending → Type 0
@@ -113,24 +110,6 @@ left-in m (x ∷ ps) y h = go (lt-or-le (x .under) m) (left-in m ps y)
     go (inl k) i = List·Memᴰ·tail (i (rw (left-more m x ps k) at h))
     go (inr k) i = rw (left-stop m x ps k) at h
 
-pub left-sorted : (m : ℕ) (ps : List Pending) → Sorted ps → Sorted (left m ps)
-unfolding left
-left-sorted m [] s = tt
-left-sorted m (x ∷ ps) s = go (lt-or-le (x .under) m) (left-sorted m ps (s .1))
-  where
-    go : (x .under < m) ⊎ (m ≤ x .under) → Sorted (left m ps) → Sorted (left m (x ∷ ps))
-    go (inl k) i = rw (left-more m x ps k) i
-    go (inr k) i = rw (left-stop m x ps k) s
-
-pub left-from : (m : ℕ) (ps : List Pending) → Sorted ps → From m (left m ps)
-unfolding left
-left-from m [] s = λ y h. absurd (List·Memᴰ·not-nil h)
-left-from m (x ∷ ps) s = go (lt-or-le (x .under) m) (left-from m ps (s .1))
-  where
-    go : (x .under < m) ⊎ (m ≤ x .under) → From m (left m ps) → From m (left m (x ∷ ps))
-    go (inl k) i = rw (left-more m x ps k) i
-    go (inr k) i = rw (left-stop m x ps k) (sorted-from m x ps s k)
-
 -- one step of `newest`
 pub newest-same : (p : ℕ) (x : Pending) (ps : List Pending) → x .under ≡ p → newest p (x ∷ ps) ≡ newest p ps ++ (x .reg ∷ [])
 unfolding newest
@@ -187,7 +166,7 @@ down-due lo zero ps s f = let e : lo + 0 ≡ lo = omega arith in rw (e, due-none
 down-due lo (suc n) ps s f =
     let e : lo + suc n ≡ suc (lo + n) = omega arith in
     let m : ℕ = lo + n in
-    let a : newest m ps ≡ push (due (suc m) (left m ps)) [] = sym (newest-left m m ps (omega arith)) ∙ newest-due m (left m ps) (left-sorted m ps s) (left-from m ps s) in
+    let a : newest m ps ≡ push (due (suc m) (left m ps)) [] = sym (newest-left m m ps (omega arith)) ∙ newest-due m (left m ps) (left-sorted m ps s) (left-above m ps s) in
     let b : push (due (suc m) ps) [] ≡ push (due (suc m) (left m ps)) [] ++ push (due m ps) [] =
     ap (λ (l : List ℕ). push l []) (due-split m (suc m) ps (omega arith)) ∙ push-append (due m ps) (due (suc m) (left m ps)) [] ∙ push-onto (due (suc m) (left m ps)) (push (due m ps) []) in
     rw e (ap (λ (l : List ℕ). l ++ down (λ q. newest q ps) lo n) a ∙ ap (λ (l : List ℕ). push (due (suc m) (left m ps)) [] ++ l) (down-due lo n ps s f) ∙ sym b)
@@ -268,26 +247,6 @@ queue-pends r x (y ∷ ps) = go (lt-or-le (x .under) (y .under)) (queue-pends r 
     go : (x .under < y .under) ⊎ (y .under ≤ x .under) → pends r (queue x ps) ≡ cond {A = ℕ} (eqb r (x .reg)) 1 0 + pends r ps → pends r (queue x (y ∷ ps)) ≡ cond {A = ℕ} (eqb r (x .reg)) 1 0 + pends r (y ∷ ps)
     go (inl k) i = rw (queue-first x y ps k, pends)
     go (inr k) i = rw (queue-later x y ps k, pends) (omega arith)
-
-pub queue-sorted : (x : Pending) (ps : List Pending) → ((y : Pending) → List·Memᴰ y ps → y .reg < x .reg) → Sorted ps → Sorted (queue x ps)
-unfolding queue
-queue-sorted x [] l s = ((λ y h. absurd (List·Memᴰ·not-nil h)), tt)
-queue-sorted x (y ∷ ps) l s = go (lt-or-le (x .under) (y .under)) (queue-sorted x ps (λ z h. l z (List·Memᴰ·tail h)) (s .1))
-  where
-    first : x .under < y .under → (z : Pending) → List·Memᴰ z (y ∷ ps) → Before x z
-    first k z h = inl (omega (arith, sorted-from (y .under) y ps s (omega arith) z h))
-
-    then : y .under ≤ x .under → (z : Pending) → (z ≡ x) ⊎ List·Memᴰ z ps → Before y z
-    then k z (inl e) = rw e (at (lt-or-le (y .under) (x .under)))
-      where
-        at : (y .under < x .under) ⊎ (x .under ≤ y .under) → Before y x
-        at (inl j) = inl j
-        at (inr j) = inr (omega arith, l y (List·Memᴰ·head refl))
-    then k z (inr h) = s .0 z h
-
-    go : (x .under < y .under) ⊎ (y .under ≤ x .under) → Sorted (queue x ps) → Sorted (queue x (y ∷ ps))
-    go (inl k) i = rw (queue-first x y ps k) (first k, s)
-    go (inr k) i = rw (queue-later x y ps k) ((λ z h. then k z (queue-in x ps z h)), i)
 
 pub queue-newest : (x : Pending) (ps : List Pending) → Sorted ps → newest (x .under) (queue x ps) ≡ x .reg ∷ newest (x .under) ps
 unfolding queue newest

@@ -7,8 +7,9 @@ use Prim.Native.Nat.{ℕ, zero, suc, _+_, _-_, _≤_, _<_}
 use native.Mathlib.Omega.{arith}
 use lib.ListN.{getD}
 use Rattle.rules.specs.Model.{Pending, left}
-use Rattle.registrar.specs.Delayed.{newest, Sorted, Delayed}
-use Rattle.registrar.specs.Queue.{From, from-tail, eq-or-ne, left-in, left-sorted, left-from, newest-left, newest-none, newest-same, left-more, left-stop, sorted-from}
+use Rattle.laws.specs.Delaying.{Sorted, left-sorted, left-above}
+use Rattle.registrar.specs.Delayed.{newest, Delayed}
+use Rattle.registrar.specs.Queue.{From, from-tail, eq-or-ne, left-in, newest-left, newest-none, newest-same, left-more, left-stop, sorted-from}
 use Rattle.registrar.specs.Chains.{chain-unique, linked-unique}
 
 -- a chain of place p, newest first, put in front of others
@@ -50,7 +51,7 @@ read-back zero p [] s f b = refl
 read-back zero p (x ∷ ps) s f b = absurd (omega (arith, f x (List·Memᴰ·head refl), b x (List·Memᴰ·head refl)))
 read-back (suc n) p ps s f b =
     let r : left (suc p) ps ≡ reading n (suc p) (λ q. newest q (left (suc p) ps)) =
-    read-back n (suc p) (left (suc p) ps) (left-sorted (suc p) ps s) (left-from (suc p) ps s) (λ x h. omega (arith, b x (left-in (suc p) ps x h))) in
+    read-back n (suc p) (left (suc p) ps) (left-sorted (suc p) ps s) (left-above (suc p) ps s) (λ x h. omega (arith, b x (left-in (suc p) ps x h))) in
     let c : reading n (suc p) (λ q. newest q (left (suc p) ps)) ≡ reading n (suc p) (λ q. newest q ps) =
     reading-same n (suc p) (λ q. newest q (left (suc p) ps)) (λ q. newest q ps) (λ q a z. newest-left (suc p) q ps a) in
     one-place p ps s f ∙ ap (onto p (newest p ps)) (r ∙ c)
