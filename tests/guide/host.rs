@@ -3,7 +3,7 @@
 //! not yet appended and all that lies beyond the needed lengths are as they were.
 //!
 //!   guide runs       runs on standard input, printed again with the answers beside them
-//!   guide refusals   openings that must be refused with 1 or 2 and change nothing
+//!   guide refusals   calls that must be refused with 15, 1 or 2 and change nothing, each beside one that is not
 
 use std::fmt::{Display, Write as _};
 use std::io::{BufWriter, Read, Write};
@@ -12,8 +12,8 @@ use std::process::exit;
 extern "C" {
     #[allow(clippy::too_many_arguments)]
     fn guide_replay(
-        p: u32,
-        v: u32,
+        p: u64,
+        v: u64,
         requests: *const u32,
         requests_length: usize,
         spans: *mut u32,
@@ -51,7 +51,7 @@ impl Storage {
         }
     }
 
-    fn replay(&mut self, p: u32, v: u32, requests: &[u32]) -> u32 {
+    fn replay(&mut self, p: u64, v: u64, requests: &[u32]) -> u32 {
         let Self { spans, order, tally, answers } = self;
         unsafe {
             guide_replay(
@@ -92,48 +92,97 @@ fn fail(message: &str) -> ! {
     exit(2)
 }
 
-// ---- Refused openings
+// ---- Refused calls
 
-fn refusals() {
-    let needed = |p: u32, v: u32| (128 * (p as usize + 1), 4 * v as usize, p as usize + 1);
-    let (s, o, t) = needed(7, 9);
-    let (top_s, _, top_t) = needed(64_999, 9);
-    let (_, top_o, _) = needed(7, 16_777_216);
-    let cases = [
-        (0, 9, s, o, t, 1),
-        (65_000, 9, top_s + 128, o, top_t + 1, 1),
-        (u32::MAX, 9, s, o, t, 1),
-        (7, 0, s, o, t, 1),
-        (7, 16_777_217, s, top_o + 4, t, 1),
-        (0, 0, 0, 0, 0, 1),
-        (7, 9, s - 1, o, t, 2),
-        (7, 9, s, o - 1, t, 2),
-        (7, 9, s, o, t - 1, 2),
-        (7, 9, 0, 0, 0, 2),
-        (64_999, 9, top_s - 1, o, top_t, 2),
-        (7, 16_777_216, s, top_o - 1, t, 2),
-        (7, 9, s, o, t, 0),
-        (64_999, 9, top_s, o, top_t, 0),
-        (7, 16_777_216, s, top_o, t, 0),
-        (1, 1, 256, 4, 2, 0),
-    ];
-    for (p, v, spans, order, tally, want) in cases {
-        let mut storage = Storage::new(spans, order, tally, ANSWER);
-        let got = storage.replay(p, v, &[1, 0, 0, 1, 2, 3]);
+/// A push with no `after`, and a flush.
+const PUSH: [u32; REQUEST] = [1, 0, 0, 1, 2, 3];
+const FLUSH: [u32; REQUEST] = [0; REQUEST];
+
+struct Case {
+    p: u64,
+    v: u64,
+    spans: usize,
+    order: usize,
+    tally: usize,
+    answers: usize,
+    requests: Vec<u32>,
+}
+
+impl Case {
+    /// Storage of exactly the needed lengths for one push.
+    fn exact(p: u64, v: u64) -> Self {
+        let (width, places) = (p as usize + 1, v as usize);
+        Self { p, v, spans: 128 * width, order: 4 * places, tally: width, answers: ANSWER, requests: PUSH.to_vec() }
+    }
+
+    fn must_give(&self, want: u32) {
+        let mut storage = Storage::new(self.spans, self.order, self.tally, self.answers);
+        let got = storage.replay(self.p, self.v, &self.requests);
         if got != want || (want != 0) != storage.untouched() {
+            let Self { p, v, spans, order, tally, answers, .. } = self;
             fail(&format!(
-                "opening with P {p}, V {v}, lengths {spans} {order} {tally}: {got}, not {want}, or the storage is not as it should be"
+                "P {p}, V {v}, lengths {spans} {order} {tally} {answers}, requests {:?}: {got}, not {want}, or the storage is not as it should be",
+                self.requests
             ));
         }
     }
-    println!("guide: {} openings, refused or not, no difference", cases.len());
+}
+
+fn refusals() {
+    let small = || Case::exact(7, 9);
+    let with = |requests: &[&[u32]], answers| Case { requests: requests.concat(), answers, ..small() };
+    let beside = |p, v| Case { p, v, ..small() };
+    let wide = 1u64 << 32;
+    let kind = |kind: u32| [kind, 0, 0, 1, 2, 3];
+    let cases = [
+        // 15: no multiple of six; a kind above 2, also in the last request
+        (with(&[&PUSH[..5]], ANSWER), 15),
+        (with(&[&PUSH, &[0]], 2 * ANSWER), 15),
+        (with(&[&kind(3)], ANSWER), 15),
+        (with(&[&PUSH, &FLUSH, &kind(u32::MAX)], 3 * ANSWER), 15),
+        (with(&[&kind(2)], ANSWER), 0),
+        // 1: P, then V, out of range, 64 bits wide
+        (beside(0, 9), 1),
+        (beside(65_000, 9), 1),
+        (beside(wide + 1, 9), 1),
+        (beside(u64::MAX, 9), 1),
+        (beside(7, 0), 1),
+        (beside(7, wide + 1), 1),
+        (beside(7, u64::MAX), 1),
+        (Case::exact(65_000, 9), 1),
+        (Case::exact(7, 16_777_217), 1),
+        (Case::exact(0, 0), 1),
+        // 2: a slice one number short
+        (Case { spans: small().spans - 1, ..small() }, 2),
+        (Case { order: small().order - 1, ..small() }, 2),
+        (Case { tally: small().tally - 1, ..small() }, 2),
+        (Case { spans: 0, order: 0, tally: 0, ..small() }, 2),
+        (Case { spans: Case::exact(64_999, 9).spans - 1, ..Case::exact(64_999, 9) }, 2),
+        (Case { order: Case::exact(7, 16_777_216).order - 1, ..Case::exact(7, 16_777_216) }, 2),
+        (with(&[&PUSH], ANSWER - 1), 2),
+        (with(&[&PUSH, &FLUSH, &PUSH], 3 * ANSWER - 1), 2),
+        (with(&[&PUSH], 0), 2),
+        // the order: 15 before 1, 1 before 2
+        (Case { p: 0, requests: kind(3).to_vec(), ..small() }, 15),
+        (Case { p: 0, answers: 0, ..small() }, 1),
+        // accepted
+        (small(), 0),
+        (with(&[&PUSH, &FLUSH, &PUSH], 3 * ANSWER), 0),
+        (Case::exact(64_999, 9), 0),
+        (Case::exact(7, 16_777_216), 0),
+        (Case::exact(1, 1), 0),
+    ];
+    for (case, want) in &cases {
+        case.must_give(*want);
+    }
+    println!("guide: {} calls, refused or not, no difference", cases.len());
 }
 
 // ---- Runs
 
 struct Run {
-    p: u32,
-    v: u32,
+    p: u64,
+    v: u64,
     traced: bool,
     lines: Vec<String>,
     requests: Vec<u32>,
@@ -160,7 +209,7 @@ fn runs() {
             (Some(open), _) if line.is_empty() || line.starts_with('#') => open.lines.push(line.to_owned()),
             (None, _) if line.is_empty() || line.starts_with('#') => put(&mut out, &format!("{line}\n")),
             (None, ["guide", p, v]) => {
-                let (Some(p), Some(v)) = (number(p), number(v)) else { wrong() };
+                let (Ok(p), Ok(v)) = (p.parse(), v.parse()) else { wrong() };
                 run = Some(Run { p, v, traced: false, lines: Vec::new(), requests: Vec::new() });
                 put(&mut out, &format!("{line}\n"));
             }

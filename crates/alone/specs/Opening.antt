@@ -17,19 +17,24 @@ use Rattle.laws.specs.Alone.{alone-initial}
 use Rattle.rules.specs.Guide.{fresh}
 use Rattle.buffer.specs.View.{view}
 use Rattle.guide.specs.Fresh.{first-guide, fresh-stands, fresh-view}
+use Rattle.placing.specs.Frame.{Frame}
 use Rattle.zeros.specs.Zeros.{Cleared}
 use Rattle.alone.specs.declared.Alone.{Alone}
 use Rattle.alone.specs.Held.{model, Held}
 use Rattle.alone.specs.Pushing.{carried}
 
--- n is the number, x the state, t and t′ the tally before and after; spans and order are only measured, in entries of four numbers
+-- a guide just opened
+abbrev pub first-alone : ℕ → ℕ → Alone
+first-alone p v = record { guide = first-guide p v; pushes = 0 }
+
+-- n is the number, x the state, which is of no use where it is refused, t and t′ the tally before and after; spans and order are only measured, in entries of four numbers
 pub record Opens (p v n : ℕ) (x : Alone) (s o t t′ : List ℕ) : Type 0 where
   pub number-is : n ≡ verdict (check-alone p v (length s / 4) (length o / 4) (length t))
   pub held : n ≡ 0 → Held x s o t′
   pub is : n ≡ 0 → model x s o ≡ alone
-  pub p-is : x .guide .p ≡ p
-  pub v-is : x .guide .v ≡ v
-  pub written-is : x .guide .written ≡ 0
+  pub p-is : n ≡ 0 → x .guide .p ≡ p
+  pub v-is : n ≡ 0 → x .guide .v ≡ v
+  pub written-is : n ≡ 0 → x .guide .written ≡ 0
   pub rejected : n ≢ 0 → t′ ≡ t
   pub tally-length : length t′ ≡ length t
   pub tally-beyond : (j : ℕ) → p < j → getD t′ j 0 ≡ getD t j 0
@@ -67,9 +72,6 @@ passed p v s o t z =
 quarter : (k l : ℕ) → k ≤ l / 4 → 4 * k ≤ l
 quarter k l h = omega (arith, div-mul-le-self l 4)
 
-pub cleared-as : {p q : ℕ} {t t′ : List ℕ} → q ≡ p → Cleared 0 (q + 1) t t′ → Cleared 0 (p + 1) t t′
-cleared-as e c = rw e at c
-
 cleared-front : (p : ℕ) (t t′ : List ℕ) → p < length t → Cleared 0 (p + 1) t t′ → take (p + 1) t′ ≡ replicate (p + 1) 0
 cleared-front p t t′ h c =
     ext-getD 0 (take (p + 1) t′) (replicate (p + 1) 0) (simp (length-take, length-replicate) (omega (arith, c .long)))
@@ -80,49 +82,52 @@ cleared-beyond p t t′ c j h =
     let e : j ≡ (p + 1) + (j - (p + 1)) = omega arith in
     ap (λ k. getD t′ k 0) e ∙ sym (getD-drop (p + 1) t′ (j - (p + 1)) 0) ∙ ap (λ l. getD l (j - (p + 1)) 0) (c .beyond) ∙ getD-drop (p + 1) t (j - (p + 1)) 0 ∙ ap (λ k. getD t k 0) (sym e)
 
-model-fresh : (x : Alone) (p v : ℕ) (s o : List ℕ) → x .guide ≡ first-guide p v → x .pushes ≡ 0 → model x s o ≡ alone
+-- an opening leaves alone all but the tally's first P + 1 counts
+pub open-frame : (p v m n : ℕ) (x : Alone) (s o t t′ : List ℕ) → Opens p v m x s o t t′ → Frame p n n s o t s o t′
+open-frame p v m n x s o t t′ a =
+    record {
+      spans-length = refl;
+      order-length = refl;
+      tally-length = a .tally-length;
+      spans-beyond = λ j h. refl;
+      grows = omega arith;
+      order-kept = λ j h. refl;
+      order-beyond = λ j h. refl;
+      tally-beyond = a .tally-beyond;
+    }
+
+model-fresh : (p v : ℕ) (s o : List ℕ) → model (first-alone p v) s o ≡ alone
 unfolding model alone
-model-fresh x p v s o e f = let g : view (x .guide) s o ≡ fresh = ap (λ z. view z s o) e ∙ fresh-view p v s o in cc
+model-fresh p v s o = let g = fresh-view p v s o in cc
 
-module _ (p v n : ℕ) (x : Alone) (s o t : List ℕ) (eg : x .guide ≡ first-guide p v) (ep : x .pushes ≡ 0) (en : n ≡ verdict (check-alone p v (length s / 4) (length o / 4) (length t))) where
-  same-p : x .guide .p ≡ p
-  unfolding first-guide
-  same-p = ap (λ g. g .p) eg
-
-  same-v : x .guide .v ≡ v
-  unfolding first-guide
-  same-v = ap (λ g. g .v) eg
-
-  none-written : x .guide .written ≡ 0
-  unfolding first-guide
-  none-written = ap (λ g. g .written) eg
-
+module _ (p v n : ℕ) (x : Alone) (s o t : List ℕ) (en : n ≡ verdict (check-alone p v (length s / 4) (length o / 4) (length t))) where
   pub open-refused : n ≢ 0 → Opens p v n x s o t t
   open-refused z =
       record {
         number-is = en;
         held = λ k. absurd (z k);
         is = λ k. absurd (z k);
-        p-is = same-p;
-        v-is = same-v;
-        written-is = none-written;
+        p-is = λ k. absurd (z k);
+        v-is = λ k. absurd (z k);
+        written-is = λ k. absurd (z k);
         rejected = λ k. refl;
         tally-length = refl;
         tally-beyond = λ j k. refl;
       }
 
-  pub open-served : (t′ : List ℕ) → n ≡ 0 → Cleared 0 (p + 1) t t′ → Opens p v 0 x s o t t′
-  open-served t′ z c =
+  pub open-served : (t′ : List ℕ) → n ≡ 0 → x ≡ first-alone p v → Cleared 0 (p + 1) t t′ → Opens p v 0 x s o t t′
+  unfolding first-guide
+  open-served t′ z e c =
       let q = passed p v (length s / 4) (length o / 4) (length t) (sym en ∙ z) in
       let st = fresh-stands p v s o t′ (q .one) (q .few) (q .small) (quarter (32 * (p + 1)) (length s) (q .spans)) (quarter v (length o) (q .order)) (omega (arith, q .tally, c .long)) (cleared-front p t t′ (q .tally) c) in
-      let m = model-fresh x p v s o eg ep in
+      let m = model-fresh p v s o in
       record {
         number-is = sym z ∙ en;
-        held = λ k. record { stands = rw eg st; sound = carried same-p same-v m (alone-initial p v (q .one)) };
-        is = λ k. m;
-        p-is = same-p;
-        v-is = same-v;
-        written-is = none-written;
+        held = λ k. rw e (record { stands = st; sound = carried refl refl m (alone-initial p v (q .one)) });
+        is = λ k. rw e m;
+        p-is = λ k. ap (λ y. y .guide .p) e;
+        v-is = λ k. ap (λ y. y .guide .v) e;
+        written-is = λ k. ap (λ y. y .guide .written) e;
         rejected = λ k. absurd (k refl);
         tally-length = c .long;
         tally-beyond = cleared-beyond p t t′ c;

@@ -1,6 +1,6 @@
 -- What a push or a flush of the guide alone promises, accepted or refused. Assumes nothing.
 use mathlib.Core.Path.{_≡_}
-use mathlib.Core.List.{List}
+use mathlib.Core.List.{List, [], _∷_}
 use mathlib.Core.Logic.{_≢_}
 use mathlib.Core.Option.{Option, some, none}
 use Prim.Native.Nat.{ℕ}
@@ -16,6 +16,11 @@ use Rattle.alone.specs.Held.{model, Held, number, given}
 unfoldable pub given-by : ℕ → ℕ → Request → AloneModel → Option Loc
 given-by P N (push after e) a = unless-refused (reply N (push after e) a) none (some (location P after e a))
 given-by P N flush a = none
+
+-- the locations that the requests of a list are given
+unfoldable pub locations-given : ℕ → ℕ → List Request → AloneModel → List (Option Loc)
+locations-given P N [] a = []
+locations-given P N (r ∷ rs) a = given-by P N r a ∷ locations-given P N rs (serve-step P N r a)
 
 -- state and storage are as they were
 pub record Same (x x′ : Alone) (s o t s′ o′ t′ : List ℕ) : Type 0 where

@@ -8,7 +8,7 @@ ghost use Rattle.guide.specs.Ready.{after-of};
 ghost use Rattle.alone.specs.Held.{Held};
 ghost use Rattle.alone.specs.Served.{Served};
 ghost use Rattle.alone.specs.Pushing.{pushing};
-ghost use Rattle.alone.specs.Opening.{Opens};
+ghost use Rattle.alone.specs.Opening.{first-alone, Opens};
 use buffer::Guide;
 use entries::Entry;
 
@@ -37,31 +37,33 @@ pub struct Opened {
     pub alone: Alone,
 }
 
-fn wide(x: u32) -> usize
-    ensures { λ r. ⌜ r ≡ x ⌝ }
-{
-    x as usize
-}
-
-// Opens a guide over storage of four numbers an entry; its counts are set to 0.
-pub fn open(p: u32, v: u32, spans: &[u32], order: &[u32], tally: &mut [u32]) -> Opened
-    ensures { λ r. ⌜ Opens p v (r .number) (r .alone) (now (spans .entry)) (now (order .entry)) (now (tally .entry)) (now (tally .exit)) ⌝ }
+// A guide of parallelism p and v pushes just opened.
+fn fresh(p: u32, v: u32) -> Alone
+    ensures { λ x. ⌜ x ≡ first-alone p v ⌝ }
 {
     let g = guide::fresh(p, v);
-    let x = Alone {
+    Alone {
         guide: g,
         pushes: 0,
-    };
+    }
+}
+
+// Opens a guide over storage of four numbers an entry; its counts are set to 0. Refused, the guide is of no use.
+pub fn open(p: u64, v: u64, spans: &[u32], order: &[u32], tally: &mut [u32]) -> Opened
+    ensures { λ r. ⌜ Opens p v (r .number) (r .alone) (now (spans .entry)) (now (order .entry)) (now (tally .entry)) (now (tally .exit)) ⌝ }
+{
     let n = alone_checks::check_open(p, v, spans.len() / 4, order.len() / 4, tally.len());
-    if n == 0 {
-        zeros::clear32(tally, 0, wide(p) + 1);
+    if n != 0 {
+        let x = fresh(0, 0);
         return Opened {
-            number: 0,
+            number: n,
             alone: x,
         };
     }
+    zeros::clear32(tally, 0, p as usize + 1);
+    let x = fresh(p as u32, v as u32);
     Opened {
-        number: n,
+        number: 0,
         alone: x,
     }
 }

@@ -9,7 +9,7 @@ ghost use Rattle.alone_checks.specs.Numbers.{origin-not, stray-by, push-
 const LAST: u32 = 4294967264;
 
 // Opening: spans and order in entries, the tally in counts.
-pub fn check_open(p: u32, v: u32, spans: usize, order: usize, tally: usize) -> u32
+pub fn check_open(p: u64, v: u64, spans: usize, order: usize, tally: usize) -> u32
     ensures { λ r. ⌜ r ≡ verdict (check-alone p v spans order tally) ⌝ }
 {
     if p < 1 {

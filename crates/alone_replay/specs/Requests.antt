@@ -1,24 +1,20 @@
--- Requests as numbers, six each, and what running a list of them promises: every answer and the guide at the end are those of `rules`.
--- Assumes nothing.
+-- Requests to the guide alone as numbers, six each: kind, span, position, value, added, accepted; and the answers to them as numbers, 37
+-- each. Assumes nothing.
 use mathlib.Core.Path.{_≡_}
 use mathlib.Core.List.{List, [], _∷_, _++_, map}
-use mathlib.Core.Bool.{true, false, not}
+use mathlib.Core.Bool.{Bool, true, false, not, _&&_}
 use mathlib.Core.Logic.{_≢_}
 use mathlib.Core.Option.{Option, some, none}
-use Prim.Native.Nat.{ℕ, zero, suc, _+_, _*_, _/_}
-use lib.ListN.{length, getD, take, drop}
-use lib.Dec.{eqb}
+use Prim.Native.Nat.{ℕ, zero, suc, _+_, _*_, _/_, _%_}
+use lib.ListN.{length, getD}
+use lib.Dec.{eqb, leb}
 use borrow.Author.Tests.{ne-eqb}
 use Rattle.rules.specs.Guide.{Loc, Guide as GuideModel}
-use Rattle.rules.specs.Checks.{verdict}
-use Rattle.rules.specs.Alone.{Alone as AloneModel, alone, Request, flush, reply, serve-step, serve-all, check-alone}
-use Rattle.placing.specs.Frame.{Frame}
-use Rattle.alone.specs.declared.Alone.{Alone}
-use Rattle.alone.specs.Held.{model, Held}
+use Rattle.rules.specs.Alone.{Alone as AloneModel, Request, flush, reply, serve-step}
 use Rattle.alone.specs.Served.{given-by}
 use Rattle.alone.specs.Pushing.{pushing}
 
--- kind 0 is a flush, 1 a push with no `after`, any other a push after a location
+-- kind 0 is a flush, 1 a push with no `after`, 2 a push after a location; what has another kind is refused (`well-formed`)
 unfoldable pub request-of : ℕ → ℕ → ℕ → ℕ → ℕ → ℕ → Request
 request-of kind span pos value added accepted = elim (eqb kind 0) [ true ↦ flush | false ↦ pushing (not (eqb kind 1)) span pos value added accepted ]
 
@@ -29,6 +25,18 @@ request-at q k = request-of (getD q (6 * k) 0) (getD q (6 * k + 1) 0) (getD q (6
 unfoldable pub requests-from : List ℕ → ℕ → ℕ → List Request
 requests-from q k zero = []
 requests-from q k (suc m) = request-at q k ∷ requests-from q (suc k) m
+
+-- the kinds of m requests from the k-th on are at most 2
+unfoldable pub kinds-known : List ℕ → ℕ → ℕ → Bool
+kinds-known q k zero = true
+kinds-known q k (suc m) = leb (getD q (6 * k) 0) 2 && kinds-known q (suc k) m
+
+unfoldable pub well-formed : List ℕ → Bool
+well-formed q = eqb (length q % 6) 0 && kinds-known q 0 (length q / 6)
+
+-- the requests that the numbers are; none where their count is no multiple of six or a kind is above 2
+unfoldable pub decode : List ℕ → Option (List Request)
+decode q = elim (well-formed q) [ true ↦ some (requests-from q 0 (length q / 6)) | false ↦ none ]
 
 -- a location as two numbers, zeros where there is none
 unfoldable pub located : Option Loc → List ℕ
@@ -42,16 +50,6 @@ answer-to n l g = n ∷ (located l ++ (length (g .order) ∷ (g .first ∷ map (
 unfoldable pub answers-to : ℕ → ℕ → List Request → AloneModel → List ℕ
 answers-to P N [] a = []
 answers-to P N (q ∷ qs) a = answer-to (reply N q a) (given-by P N q a) ((serve-step P N q a) .guide) ++ answers-to P N qs (serve-step P N q a)
-
--- n requests were run; m is the number of the opening; w is where the answers go
-pub record Replays (p v m n : ℕ) (q s o t w s′ o′ t′ w′ : List ℕ) : Type 0 where
-  pub number-is : m ≡ verdict (check-alone p v (length s / 4) (length o / 4) (length t))
-  -- accepted: the storage is that of the guide after the requests and untouched elsewhere, and the answers are those of `rules`
-  pub guide-is : m ≡ 0 → (y : Alone) × (Held y s′ o′ t′ × ((model y s′ o′ ≡ serve-all p v (requests-from q 0 n) alone) × Frame p 0 (y .guide .written) s o t s′ o′ t′))
-  pub answers-are : m ≡ 0 → take (37 * n) w′ ≡ answers-to p v (requests-from q 0 n) alone
-  pub beyond : drop (37 * n) w′ ≡ drop (37 * n) w
-  -- refused: nothing changed
-  pub rejected : m ≢ 0 → ((s′ ≡ s) × (o′ ≡ o)) × ((t′ ≡ t) × (w′ ≡ w))
 
 -- which request stands at k
 module _ (q : List ℕ) (k : ℕ) where

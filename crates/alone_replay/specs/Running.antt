@@ -1,22 +1,31 @@
--- The loop over the requests: what is still to be run, and what the answers already say; and the promise of the whole run. Assumes nothing.
+-- The loop over the requests: what is still to be run, and what the answers already say; and the promise of the whole, from opening's promise
+-- and the loop's. Assumes nothing.
 use mathlib.Core.Path.{_≡_, refl, sym, ap, _∙_}
-use mathlib.Core.List.{List, _∷_, _++_, append-assoc, append-nil}
-use mathlib.Core.Logic.{_≢_}
-use Prim.Native.Nat.{ℕ, suc, _+_, _*_, _-_, _/_, _≤_, _<_, min}
+use mathlib.Core.List.{List, [], _∷_, _++_, append-assoc, append-nil}
+use mathlib.Core.Bool.{true, false, _||_}
+use mathlib.Core.Logic.{_≢_, _⊎_, inl, inr}
+use Prim.Native.Nat.{ℕ, suc, _+_, _*_, _-_, _/_, _≤_, _<_}
 use native.Mathlib.Nat.{div-mul-le-self, sub-zero}
 use native.Mathlib.Omega.{arith}
 use lib.ListN.{length, take, drop}
+use lib.Dec.{ltb}
 use lib.Seq.{drop-drop}
-use Rattle.rules.specs.Alone.{Alone as AloneModel, alone, Request, reply, serve-step, serve-all}
+use borrow.Author.Tests.{lt-ltb, le-ltb}
+use Rattle.rules.specs.Checks.{Check, verdict, check-range}
+use Rattle.rules.specs.Alone.{Alone as AloneModel, alone, check-alone, Request, reply, serve-step, serve-all}
+use Rattle.laws.specs.Accepted.{verdict-head}
+use Rattle.laws.specs.ModelBase.{bool-cases}
 use Rattle.alone.specs.declared.Alone.{Alone}
 use Rattle.alone.specs.declared.Reply.{Reply}
-use Rattle.alone.specs.Held.{model, Held}
+use Rattle.alone.specs.Held.{model, Held, written-is, order-is, tally-is}
 use Rattle.alone.specs.Served.{Served, given-by}
 use Rattle.placing.specs.Frame.{Frame, frame-refl, frame-trans}
-use Rattle.alone.specs.Opening.{Opens}
+use Rattle.alone.specs.Opening.{Opens, open-frame}
 use Rattle.alone.specs.Chain.{reframe}
 use Rattle.alone_replay.specs.Put.{Put}
-use Rattle.alone_replay.specs.Requests.{request-at, requests-from, answer-to, answers-to, Replays}
+use Rattle.alone_replay.specs.Requests.{request-at, requests-from, well-formed, answer-to, answers-to}
+use Rattle.alone_replay.specs.Replay.{replay-number, Ran, Replays}
+use Rattle.alone_replay.specs.Forms.{decode-none, decode-some, requests-many}
 use Rattle.alone_replay.specs.Blocks.{block-of, block-answer, block-length}
 
 -- from the model a, over the storage s₀, o₀, t₀ and w, with n₀ entries in the order; k of n requests are run, and y, s, o, t and w′ stand now
@@ -70,60 +79,127 @@ run-turn p v n₀ a s₀ o₀ t₀ q w n k y z s o t s′ o′ t′ w′ w″ r 
     }
 
 -- all are run
-pub record Ran (p v n₀ : ℕ) (a : AloneModel) (s₀ o₀ t₀ q w : List ℕ) (n : ℕ) (s o t w′ : List ℕ) : Type 0 where
-  pub guide-is : (y : Alone) × (Held y s o t × ((model y s o ≡ serve-all p v (requests-from q 0 n) a) × Frame p n₀ (y .guide .written) s₀ o₀ t₀ s o t))
+pub record Runs (p v n₀ : ℕ) (a : AloneModel) (s₀ o₀ t₀ q w : List ℕ) (n : ℕ) (s o t w′ : List ℕ) : Type 0 where
+  pub guide : Alone
+  pub held : Held guide s o t
+  pub p-is : guide .guide .p ≡ p
+  pub v-is : guide .guide .v ≡ v
+  pub is : model guide s o ≡ serve-all p v (requests-from q 0 n) a
   pub answers-are : take (37 * n) w′ ≡ answers-to p v (requests-from q 0 n) a
+  pub long : length w′ ≡ length w
   pub beyond : drop (37 * n) w′ ≡ drop (37 * n) w
+  pub frame : Frame p n₀ (guide .guide .written) s₀ o₀ t₀ s o t
 
-pub run-ends : (p v n₀ : ℕ) (a : AloneModel) (s₀ o₀ t₀ q w : List ℕ) (n k : ℕ) (y : Alone) (s o t w′ : List ℕ) → k ≡ n → Running p v n₀ a s₀ o₀ t₀ q w n k y s o t w′ → Ran p v n₀ a s₀ o₀ t₀ q w n s o t w′
+pub run-ends : (p v n₀ : ℕ) (a : AloneModel) (s₀ o₀ t₀ q w : List ℕ) (n k : ℕ) (y : Alone) (s o t w′ : List ℕ) → k ≡ n → Running p v n₀ a s₀ o₀ t₀ q w n k y s o t w′ → Runs p v n₀ a s₀ o₀ t₀ q w n s o t w′
 unfolding requests-from serve-all answers-to
 run-ends p v n₀ a s₀ o₀ t₀ q w n k y s o t w′ e c =
     let z : n - k ≡ 0 = omega arith in
     record {
-      guide-is = (y, (c .held, (sym (c .rest ∙ ap (λ x. serve-all p v (requests-from q k x) (model y s o)) z), c .frame)));
+      guide = y;
+      held = c .held;
+      p-is = c .p-is;
+      v-is = c .v-is;
+      is = sym (c .rest ∙ ap (λ x. serve-all p v (requests-from q k x) (model y s o)) z);
       answers-are = sym (c .answers ∙ ap (λ x. take (37 * k) w′ ++ answers-to p v (requests-from q k x) (model y s o)) z ∙ append-nil (take (37 * k) w′) ∙ ap (λ x. take (37 * x) w′) e);
+      long = c .long;
       beyond = rw e at (c .beyond);
+      frame = c .frame;
     }
 
-as-opened : {p v n₀ m₀ P N : ℕ} {a b : AloneModel} {s₀ o₀ t₀ q w : List ℕ} {n : ℕ} {s o t w′ : List ℕ} → Ran P N n₀ a s₀ o₀ t₀ q w n s o t w′ → P ≡ p → N ≡ v → a ≡ b → n₀ ≡ m₀ → Ran p v m₀ b s₀ o₀ t₀ q w n s o t w′
+as-opened : {p v n₀ m₀ P N : ℕ} {a b : AloneModel} {s₀ o₀ t₀ q w : List ℕ} {n : ℕ} {s o t w′ : List ℕ} → Runs P N n₀ a s₀ o₀ t₀ q w n s o t w′ → P ≡ p → N ≡ v → a ≡ b → n₀ ≡ m₀ → Runs p v m₀ b s₀ o₀ t₀ q w n s o t w′
 as-opened r e f g h = rw (e, f, g, h) at r
 
--- an opening leaves the tally beyond P + 1 counts alone
-open-frame : (p v m n : ℕ) (x : Alone) (s o t t′ : List ℕ) → Opens p v m x s o t t′ → Frame p n n s o t s o t′
-open-frame p v m n x s o t t′ a =
+frame-to : {p n m m′ : ℕ} {s o t s′ o′ t′ : List ℕ} → m ≡ m′ → Frame p n m s o t s′ o′ t′ → Frame p n m′ s o t s′ o′ t′
+frame-to e f = rw e at f
+
+-- the run of a fresh guide, from the storage before it was opened
+ran : {P N n : ℕ} {x : Alone} {rs : List Request} {q s o t t₀ w s′ o′ t′ w′ : List ℕ} → Opens P N 0 x s o t₀ t → requests-from q 0 n ≡ rs → n ≡ length rs
+    → Runs P N 0 alone s o t q w n s′ o′ t′ w′ → Ran P N rs s o t₀ w s′ o′ t′ w′
+ran {P} {N} {n} {x} {rs} {s = s} {o = o} {t = t} {t₀ = t₀} {w = w} {s′ = s′} {o′ = o′} {w′ = w′} a e f r =
+    let y = r .guide in
+    let is = r .is ∙ ap (λ l. serve-all P N l alone) e in
     record {
-      spans-length = refl;
-      order-length = refl;
-      tally-length = a .tally-length;
-      spans-beyond = λ j h. refl;
-      grows = omega arith;
-      order-kept = λ j h. refl;
-      order-beyond = λ j h. refl;
-      tally-beyond = a .tally-beyond;
+      guide = y;
+      held = r .held;
+      p-is = r .p-is;
+      v-is = r .v-is;
+      is = is;
+      order-is = order-is y s′ o′ is;
+      tally-is = tally-is y s′ o′ is (r .held) (r .p-is);
+      answers-are = ap (λ k. take (37 * k) w′) (sym f) ∙ r .answers-are ∙ ap (λ l. answers-to P N l alone) e;
+      long = r .long;
+      beyond = rw f at (r .beyond);
+      frame = frame-to (written-is y s′ o′ is) (frame-trans (open-frame P N 0 0 x s o t₀ t a) (r .frame));
     }
 
--- the whole run
-pub replay-refused : (p v m n : ℕ) (x : Alone) (q s o t t′ w : List ℕ) → Opens p v m x s o t t′ → m ≢ 0 → Replays p v m n q s o t w s o t′ w
-replay-refused p v m n x q s o t t′ w a z =
-    record { number-is = a .number-is; guide-is = λ e. absurd (z e); answers-are = λ e. absurd (z e); beyond = refl; rejected = λ e. ((refl, refl), (a .rejected z, refl)) }
+-- the number of a replay
+verdict-first : (cs ds : List Check) → verdict cs ≢ 0 → verdict (cs ++ ds) ≡ verdict cs
+unfolding verdict
+verdict-first [] ds h = absurd (h refl)
+verdict-first (c ∷ cs) ds h = go (bool-cases (c .fails)) (λ z. verdict-first cs ds z)
+  where
+    go : (c .fails ≡ true) ⊎ (c .fails ≡ false) → (verdict cs ≢ 0 → verdict (cs ++ ds) ≡ verdict cs) → verdict (c ∷ (cs ++ ds)) ≡ verdict (c ∷ cs)
+    go (inl e) f = rw (e, verdict)
+    go (inr e) f = rw (e, verdict) (f (λ z. h (rw (e, verdict) z)))
 
--- so many requests are there, and so many answers fit
-pub rooms : (n q w : ℕ) → n ≡ min (q / 6) (w / 37) → (6 * n ≤ q) × (37 * n ≤ w)
-rooms n q w e =
-    let a = div-mul-le-self q 6 in
-    let b = div-mul-le-self w 37 in
-    (omega arith, omega arith)
+module _ (P N : ℕ) (q s o t w : List ℕ) where
+  abbrev pub opening-number : ℕ
+  opening-number = verdict (check-alone P N (length s / 4) (length o / 4) (length t))
 
-pub replay-ran : (p v m n : ℕ) (x : Alone) (q s o t t₀ w s′ o′ t′ w′ : List ℕ) → Opens p v m x s o t₀ t → m ≡ 0
-    → x .guide .written ≡ 0 → Ran (x .guide .p) (x .guide .v) (x .guide .written) (model x s o) s o t q w n s′ o′ t′ w′ → Replays p v 0 n q s o t₀ w s′ o′ t′ w′
-replay-ran p v m n x q s o t t₀ w s′ o′ t′ w′ a z e r =
-    let c = as-opened r (a .p-is) (a .v-is) (a .is z) e in
-    let g = c .guide-is in
-    let f = frame-trans (open-frame p v m 0 x s o t₀ t a) (g .1 .1 .1) in
-    record {
-      number-is = sym z ∙ a .number-is;
-      guide-is = λ k. (g .0, (g .1 .0, (g .1 .1 .0, f)));
-      answers-are = λ e. c .answers-are;
-      beyond = c .beyond;
-      rejected = λ e. absurd (e refl);
-    }
+  passed-checks : opening-number ≡ 0
+      → ((ltb P 1 || ltb 64999 P) ≡ false) × ((ltb N 1 || ltb 16777216 N) ≡ false) × ((ltb (length s / 4) (32 * (P + 1)) || (ltb (length o / 4) N || ltb (length t) (P + 1))) ≡ false)
+  unfolding check-alone check-range
+  passed-checks z =
+      let x = verdict-head _ _ z (omega arith) in
+      let y = verdict-head _ _ (x .1) (omega arith) in
+      let v = verdict-head _ _ (y .1) (omega arith) in
+      (x .0, y .0, v .0)
+
+  opening-passed : (c : Check) → opening-number ≡ 0 → verdict (check-alone P N (length s / 4) (length o / 4) (length t) ++ (c ∷ [])) ≡ verdict (c ∷ [])
+  unfolding check-alone check-range verdict
+  opening-passed c z = let x = passed-checks z in rw (x .0, x .1, x .2)
+
+  pub replay-malformed : false ≡ well-formed q → Replays P N q 15 s o t w s o t w
+  unfolding replay-number
+  replay-malformed e = record { number-is = rw (decode-none q e); refused = λ z. (refl, refl, refl, refl); ran = λ z. absurd (omega arith) }
+
+  module _ (e : true ≡ well-formed q) where
+    pub replay-refused : (n : ℕ) → n ≡ opening-number → n ≢ 0 → Replays P N q n s o t w s o t w
+    unfolding replay-number
+    replay-refused n d h =
+        record {
+          number-is = rw (decode-some q e) (d ∙ sym (verdict-first (check-alone P N (length s / 4) (length o / 4) (length t)) _ (λ z. h (d ∙ z))));
+          refused = λ z. (refl, refl, refl, refl);
+          ran = λ z. absurd (h z);
+        }
+
+    module _ (z : opening-number ≡ 0) where
+      abbrev rs : List Request
+      rs = requests-from q 0 (length q / 6)
+
+      pub replay-no-room : length w / 37 < length q / 6 → Replays P N q 2 s o t w s o t w
+      unfolding replay-number verdict
+      replay-no-room h =
+          let k : ltb (length w) (37 * length rs) ≡ true = lt-ltb (length w) (37 * length rs) (omega (arith, requests-many q 0 (length q / 6))) in
+          record {
+            number-is = rw (decode-some q e) (sym (opening-passed _ z ∙ rw k));
+            refused = λ y. (refl, refl, refl, refl);
+            ran = λ y. absurd (omega arith);
+          }
+
+      pub may-run : length q / 6 ≤ length w / 37 → (6 * (length q / 6) ≤ length q) × (37 * (length q / 6) ≤ length w)
+      may-run h = (omega (arith, div-mul-le-self (length q) 6), omega (arith, div-mul-le-self (length w) 37))
+
+      pub replay-ran : {m : ℕ} {x : Alone} {t₁ s′ o′ t′ w′ : List ℕ} → length q / 6 ≤ length w / 37 → Opens P N m x s o t t₁
+          → Runs (x .guide .p) (x .guide .v) (x .guide .written) (model x s o) s o t₁ q w (length q / 6) s′ o′ t′ w′ → Replays P N q 0 s o t w s′ o′ t′ w′
+      unfolding replay-number verdict
+      replay-ran {m} {x} {t₁} h a r =
+          let n : m ≡ 0 = a .number-is ∙ z in
+          let many = requests-many q 0 (length q / 6) in
+          let k : ltb (length w) (37 * length rs) ≡ false = le-ltb (length w) (37 * length rs) (omega (arith, many, may-run h .1)) in
+          let b : Opens P N 0 x s o t t₁ = rw n at a in
+          record {
+            number-is = rw (decode-some q e) (sym (opening-passed _ z ∙ rw k));
+            refused = λ y. absurd (y refl);
+            ran = λ y. (rs, decode-some q e, ran b refl (sym many) (as-opened r (b .p-is refl) (b .v-is refl) (b .is refl) (b .written-is refl)));
+          }

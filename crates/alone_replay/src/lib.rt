@@ -1,21 +1,22 @@
 // A list of requests to the guide alone, as numbers, run on a freshly opened guide; and the exported call that does it.
 ghost use mathlib.Core.Path.{_≡_};
 ghost use mathlib.Core.List.{List, _∷_, []};
-ghost use Prim.Native.Nat.{ℕ, _+_, _*_, _/_, _≤_, _<_, min};
+ghost use Prim.Native.Nat.{ℕ, _+_, _*_, _≤_, _<_};
 ghost use lib.ListN.{length};
 ghost use Rattle.alone.specs.Held.{Held, model};
 ghost use Rattle.alone.specs.Served.{Served};
-ghost use Rattle.alone_replay.specs.Requests.{request-at, Replays};
+ghost use Rattle.alone_replay.specs.Requests.{request-at, well-formed};
+ghost use Rattle.alone_replay.specs.Replay.{Replays};
 ghost use Rattle.alone_replay.specs.Put.{Put};
 ghost use Rattle.alone_replay.specs.Blocks.{Head, block-of};
-ghost use Rattle.alone_replay.specs.Running.{Ran};
+ghost use Rattle.alone_replay.specs.Running.{Runs};
 use alone::Alone;
 use alone::Answer;
 use alone::Reply;
 use buffer::Guide;
 
-// Serves the request of six numbers at index k: kind, span, position, value, added, accepted. Kind 0 is a flush, 1 a push with no
-// `after`, any other a push after (span, position).
+// Serves the k-th request, six numbers: kind, span, position, value, added, accepted. Kind 0 is a flush, 1 a push with no `after`, 2 a push
+// after (span, position).
 fn serve(
     x: Alone,
     spans: &mut [u32],
@@ -151,7 +152,7 @@ fn run(
 )
     requires { ⌜ Held x (now spans) (now order) (now tally) ⌝ }
     requires { ⌜ (6 * n ≤ length (now requests)) × ((37 * n ≤ length (now answers)) × (37 * n < 18446744073709551616)) ⌝ }
-    ensures { λ _. ⌜ Ran (x .guide .p) (x .guide .v) (x .guide .written) (model x (now (spans .entry)) (now (order .entry))) (now (spans .entry)) (now (order .entry)) (now (tally .entry)) (now (requests .entry)) (now (answers .entry)) n (now (spans .exit)) (now (order .exit)) (now (tally .exit)) (now (answers .exit)) ⌝ }
+    ensures { λ _. ⌜ Runs (x .guide .p) (x .guide .v) (x .guide .written) (model x (now (spans .entry)) (now (order .entry))) (now (spans .entry)) (now (order .entry)) (now (tally .entry)) (now (requests .entry)) (now (answers .entry)) n (now (spans .exit)) (now (order .exit)) (now (tally .exit)) (now (answers .exit)) ⌝ }
 {
     let mut y = x;
     for k in 0..n {
@@ -162,38 +163,49 @@ fn run(
     }
 }
 
-// The lesser of two counts; 37 numbers for each of it fit 64 bits.
-fn lesser(a: usize, b: usize) -> usize
-    requires { ⌜ 37 * b < 18446744073709551616 ⌝ }
-    ensures { λ r. ⌜ (r ≡ min a b) × (37 * r < 18446744073709551616) ⌝ }
+// Whether the numbers are requests: a multiple of six, and no kind above 2.
+fn well_formed(requests: &[u32]) -> bool
+    ensures { λ r. ⌜ r ≡ well-formed (now (requests .entry)) ⌝ }
 {
-    if a < b {
-        return a;
+    if requests.len() % 6 != 0 {
+        return false;
     }
-    b
+    let n = requests.len() / 6;
+    for k in 0..n {
+        if 2 < requests[6 * k] {
+            return false;
+        }
+    }
+    true
 }
 
-// Opens a guide and runs as many of the requests as there is room for answers. Returns the number of a refused opening, or 0; the numbers
-// of refused requests stand in their answers.
+// Opens a guide and runs the requests on it. Returns 0, and the numbers of refused requests stand in their answers; or the number of a
+// refusal, and then nothing was written: 15 for numbers that are no requests; 1, 2 of opening; 2 for too little room for the answers.
 #[no_mangle]
 pub extern "C" fn guide_replay(
-    p: u32,
-    v: u32,
+    p: u64,
+    v: u64,
     requests: &[u32],
     spans: &mut [u32],
     order: &mut [u32],
     tally: &mut [u32],
     answers: &mut [u32],
 ) -> u32
-    ensures { λ r. ⌜ Replays p v r (min (length (now (requests .entry)) / 6) (length (now (answers .entry)) / 37)) (now (requests .entry)) (now (spans .entry)) (now (order .entry)) (now (tally .entry)) (now (answers .entry)) (now (spans .exit)) (now (order .exit)) (now (tally .exit)) (now (answers .exit)) ⌝ }
+    ensures { λ r. ⌜ Replays p v (now (requests .entry)) r (now (spans .entry)) (now (order .entry)) (now (tally .entry)) (now (answers .entry)) (now (spans .exit)) (now (order .exit)) (now (tally .exit)) (now (answers .exit)) ⌝ }
 {
-    let n = lesser(requests.len() / 6, answers.len() / 37);
-    let a = alone::open(p, v, spans, order, tally);
-    let number = a.number;
-    if number == 0 {
-        let x = a.alone;
-        run(x, spans, order, tally, answers, requests, n);
-        return 0;
+    if !well_formed(requests) {
+        return 15;
     }
-    number
+    let number = alone_checks::check_open(p, v, spans.len() / 4, order.len() / 4, tally.len());
+    if number != 0 {
+        return number;
+    }
+    let n = requests.len() / 6;
+    if answers.len() / 37 < n {
+        return 2;
+    }
+    let a = alone::open(p, v, spans, order, tally);
+    let x = a.alone;
+    run(x, spans, order, tally, answers, requests, n);
+    0
 }

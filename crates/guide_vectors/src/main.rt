@@ -97,8 +97,8 @@ fn run_list(p: u32, v: u32, requests: &[u32], n: usize)
     let mut tally = [7u32; 65];
     let mut answers = [0u32; 4736];
     let number = alone_replay::guide_replay(
-        p,
-        v,
+        p as u64,
+        v as u64,
         requests,
         &mut spans,
         &mut order,

@@ -1,24 +1,53 @@
--- `alone_replay::guide_replay` meets its contract: an opening, and the run of all requests. Assumes nothing.
-use Rattle.alone_replay.specs.Running.{replay-refused, replay-ran, rooms}
-use Prim.Native.Nat.{_-_}
-use lib.ListN.{length}
+-- `alone_replay::guide_replay` meets its contract: malformed, refused by opening, no room for the answers, or all requests run. Assumes nothing.
+use Rattle.alone_replay.specs.Running.{replay-malformed, replay-refused, replay-no-room, may-run, replay-ran}
+use mathlib.Core.Path.{sym, _∙_}
+use native.Mathlib.Omega.{arith}
 use denote.Ref.{now}
+use borrow.Author.Tests.{not-true, not-false}
 use borrow.Author.Needs.{needs}
 use Rattle.alone_replay.proofs.guide_replay.Statement.{statement}
 use Rattle.alone_replay.proofs.guide_replay.Tie as tie
 
-lesser-requires : tie.Need-lesser-requires
-lesser-requires c κs = search needs
+well-formed-requires : tie.Need-well-formed-requires
+well-formed-requires c κs = search needs
+
+returns : tie.Need-returns
+returns c = let f = c .before in
+    let a = f .before .before .before .before .before .before .args in
+    replay-malformed (a .p) (a .v) (now (a .requests)) (now (a .spans)) (now (a .order)) (now (a .tally)) (now (a .answers)) (sym (not-true _ (c .if1 .taken)) ∙ f .well-formed .ensures)
+
+check-open-requires : tie.Need-check-open-requires
+check-open-requires c κs = search needs
+
+returns-2 : tie.Need-returns-2
+returns-2 c = let k = c .before in
+    let f = k .before .before in
+    let a = f .before .before .before .before .before .before .args in
+    let e = sym (not-false _ (k .before .if1 .left)) ∙ f .well-formed .ensures in
+    replay-refused (a .p) (a .v) (now (a .requests)) (now (a .spans)) (now (a .order)) (now (a .tally)) (now (a .answers)) e (k .check-open .result) (k .check-open .ensures) (c .if2 .taken)
+
+returns-3 : tie.Need-returns-3
+returns-3 c = let k = c .before .before in
+    let f = k .before .before in
+    let a = f .before .before .before .before .before .before .args in
+    let e = sym (not-false _ (k .before .if1 .left)) ∙ f .well-formed .ensures in
+    let z = sym (k .check-open .ensures) ∙ c .before .if2 .left in
+    replay-no-room (a .p) (a .v) (now (a .requests)) (now (a .spans)) (now (a .order)) (now (a .tally)) (now (a .answers)) e z (c .if3 .taken)
 
 open-requires : tie.Need-open-requires
 open-requires c κs = search needs
 
 run-requires : tie.Need-run-requires
-run-requires c κs = let a = c .before .before .before .before .before .before .before .before .before .before .before .before .before .before .before .before .before .before .args in
-    let o = c .before .before .before .before .before .before .before .before .«open» in
-    let n = c .before .before .before .before .before .before .before .before .before .before .before .before .lesser in
-    let r = rooms (n .result) (length (now (a .requests))) (length (now (a .answers))) (n .ensures .0) in
-    (o .ensures .held (c .before .before .before .before .before .if1 .taken), (r .0, (r .1, n .ensures .1)))
+run-requires c κs = let o = c .before .before .before .before .before .before .before in
+    let room = o .before .before .before .before in
+    let k = room .before .before in
+    let f = k .before .before in
+    let s = f .before .before .before .before .before .before in
+    let a = s .args in
+    let e = sym (not-false _ (k .before .if1 .left)) ∙ f .well-formed .ensures in
+    let z = sym (k .check-open .ensures) ∙ room .before .if2 .left in
+    let r = may-run (a .p) (a .v) (now (a .requests)) (now (a .spans)) (now (a .order)) (now (a .tally)) (now (a .answers)) e z (room .if3 .left) in
+    (o .«open» .ensures .held (o .«open» .ensures .number-is ∙ z), (r .0, (r .1, omega (arith, r .1, s .good .1 .1 .1 .1 .1 .1 .0))))
 
 same-length : tie.Need-same-length
 same-length c = search needs
@@ -32,41 +61,31 @@ same-length-3 c = search needs
 same-length-4 : tie.Need-same-length-4
 same-length-4 c = search needs
 
-returns : tie.Need-returns
-returns c = let a = c .before .before .before .before .before .before .before .before .before .before .before .before .before .before .before .before .before .before .before .before .before .before .before .before .before .before .before .args in
-    let o = c .before .before .before .before .before .before .before .before .before .before .before .before .before .before .before .before .before .«open» in
-    let n = c .before .before .before .before .before .before .before .before .before .before .before .before .before .before .before .before .before .before .before .before .before .lesser in
-    let r = c .before .before .before .before .before .before .before .before .run in
-    rw (← n .ensures .0) (replay-ran (a .p) (a .v) (o .result .number) (n .result) (o .result .alone) (now (a .requests)) (now (a .spans)) (now (a .order)) (o .last .1 .1 .1 .1 .0) (now (a .tally)) (now (a .answers)) (r .last .1 .0) (r .last .1 .1 .0) (r .last .1 .1 .1 .0) (r .last .1 .1 .1 .1 .0) (o .ensures) (c .before .before .before .before .before .before .before .before .before .before .before .before .before .before .if1 .taken) (o .ensures .written-is) (r .ensures))
-
-same-length-5 : tie.Need-same-length-5
-same-length-5 c = search needs
-
-same-length-6 : tie.Need-same-length-6
-same-length-6 c = search needs
-
-same-length-7 : tie.Need-same-length-7
-same-length-7 c = search needs
-
-returns-2 : tie.Need-returns-2
-returns-2 c = let a = c .before .before .before .before .before .before .before .before .before .before .before .before .before .args in
-    let o = c .before .before .before .«open» in
-    let n = c .before .before .before .before .before .before .before .lesser in
-    rw (← n .ensures .0) (replay-refused (a .p) (a .v) (o .result .number) (n .result) (o .result .alone) (now (a .requests)) (now (a .spans)) (now (a .order)) (now (a .tally)) (o .last .1 .1 .1 .1 .0) (now (a .answers)) (o .ensures) (c .if1 .left))
+returns-4 : tie.Need-returns-4
+returns-4 c = let ran = c .before .before .before .before .before .before .before .before in
+    let o = ran .before .before .before .before .before .before .before .before in
+    let room = o .before .before .before .before in
+    let k = room .before .before in
+    let f = k .before .before in
+    let a = f .before .before .before .before .before .before .args in
+    let e = sym (not-false _ (k .before .if1 .left)) ∙ f .well-formed .ensures in
+    let z = sym (k .check-open .ensures) ∙ room .before .if2 .left in
+    replay-ran (a .p) (a .v) (now (a .requests)) (now (a .spans)) (now (a .order)) (now (a .tally)) (now (a .answers)) e z
+    {m = o .«open» .result .number} {x = o .«open» .result .alone} {t₁ = o .«open» .last .1 .1 .1 .1 .0} (room .if3 .left) (o .«open» .ensures) (ran .run .ensures)
 
 pub guide-replay-spec : {M : Type 1} → statement M
 guide-replay-spec =
     tie.close
     (tie.spec
-    lesser-requires
+    well-formed-requires
+    returns
+    check-open-requires
+    returns-2
+    returns-3
     open-requires
     run-requires
     same-length
     same-length-2
     same-length-3
     same-length-4
-    returns
-    same-length-5
-    same-length-6
-    same-length-7
-    returns-2)
+    returns-4)
