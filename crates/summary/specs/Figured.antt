@@ -1,8 +1,12 @@
 -- How the struct that the code returns stands for document 01's summary, and what is asked of a tally. Definitions only; the laws
 -- are in Loops. Assumes nothing.
+use mathlib.Core.Path.{_≡_}
 use mathlib.Core.List.{List}
+use mathlib.Core.Bool.{not}
 use Prim.Native.Nat.{ℕ, _+_, _≤_, _<_}
 use lib.ListN.{length, take}
+use lib.Dec.{T}
+use lib.Ieee.{isNan}
 use Rattle.rules.specs.Summary.{Figures, sum}
 use Rattle.summary.specs.declared.Summary.{Summary}
 
@@ -20,3 +24,9 @@ pub record Tallied (t : List ℕ) (P : ℕ) : Type 0 where
 pub record Small (t : List ℕ) : Type 0 where
   pub few : length t ≤ 65000
   pub total : sum t ≤ 16777216
+
+-- a summary that can be written as numbers: the average has bits, and the arrays have their lengths
+pub record Writable (s : Summary) : Type 0 where
+  pub number : T (not (isNan (s .average)))
+  pub low : length (s .low) ≡ 128
+  pub thousands : length (s .thousands) ≡ 65

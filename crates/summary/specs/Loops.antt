@@ -69,7 +69,7 @@ median-ends all i so-far t h = rw (drop-all t i h)
 
 -- the low counts
 
-counts-length : (n at : ℕ) (t : List ℕ) → length (counts n at t) ≡ n
+pub counts-length : (n at : ℕ) (t : List ℕ) → length (counts n at t) ≡ n
 unfolding counts
 counts-length zero at t = refl
 counts-length (suc n) at t = ap suc (counts-length n (suc at) t)
@@ -129,7 +129,7 @@ thousand k t = sum (take 1000 (drop (1000 * k) t))
 abbrev pub Thousands : List ℕ → ℕ → List ℕ → Type 0
 Thousands t i sums = (length sums ≡ 65) × ((k : ℕ) → getD sums k 0 ≡ thousand k (take i t))
 
-thousands-length : (n at : ℕ) (t : List ℕ) → length (thousands n at t) ≡ n
+pub thousands-length : (n at : ℕ) (t : List ℕ) → length (thousands n at t) ≡ n
 unfolding thousands
 thousands-length zero at t = refl
 thousands-length (suc n) at t = ap suc (thousands-length n (suc at) t)
