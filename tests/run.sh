@@ -1,13 +1,14 @@
 #!/bin/bash
 # Runs every test folder's own run.sh, two at a time, and shows what each said when it has ended. The
-# reference model's comes first and alone: it builds what others use. On failure the status is not 0.
+# reference model's comes first and alone: it builds what others use. One that fails stops no other; at
+# the end those that failed are named, and the status is not 0.
 set -euo pipefail
 cd "$(dirname "$0")/.."
 
 logs=target/tests
 mkdir -p $logs
 
-# Runs the scripts given, one after the other, each with a log of its own, and stops at one that fails.
+# Runs the scripts given, one after the other, each with a log of its own.
 in_turn() {
   local script name
   for script in "$@"; do
@@ -15,8 +16,7 @@ in_turn() {
     if "$script" >"$logs/$name.log" 2>&1; then
       echo ok >"$logs/$name.end"
     else
-      echo failed >"$logs/$name.end"
-      return 1
+      echo "failed with status $?" >"$logs/$name.end"
     fi
   done
 }
@@ -30,13 +30,17 @@ for script in tests/*/run.sh; do
 done
 
 rm -f $logs/*
-in_turn $first && { in_turn $long & in_turn "${others[@]}" || true; wait; } || true
+in_turn $first
+in_turn $long &
+in_turn "${others[@]}"
+wait
 
 failed=
 for script in $first "${others[@]}" $long; do
   name=$(basename "$(dirname "$script")")
-  echo "-- $script"
+  end=$(cat $logs/$name.end 2>/dev/null) || end="not run"
+  echo "-- $script: $end"
   [ ! -f $logs/$name.log ] || cat $logs/$name.log
-  [ "$(cat $logs/$name.end 2>/dev/null)" = ok ] || failed+=" $script"
+  [ "$end" = ok ] || failed+=" $script"
 done
 [ -z "$failed" ] || { echo "tests/run.sh: failed or not run:$failed" >&2; exit 1; }

@@ -58,8 +58,9 @@ in_parts() {
 in_parts refused "$reference runs" guide-refused $((runs / 4))
 echo "guide against the reference model, refused calls among them: $lists lists, $pushes pushes, no difference"
 
-if [ ! -d "${ORACLE_SOURCE:-../shared/docs/src}" ]; then
-  echo "guide: no Rust source at ${ORACLE_SOURCE:-../shared/docs/src}: NOT compared with the Rust"
+at_hand=$(oracle/at_hand.sh)
+if [ $at_hand = no ]; then
+  echo "guide: NOT compared with the Rust"
   exit 0
 fi
 oracle/build.sh

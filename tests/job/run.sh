@@ -45,11 +45,12 @@ python3 tests/reference/check.py host $work/host
 python3 tests/reference/check.py host $work/random.cases $work/host
 
 # The same random jobs' listings, made from the oracle's dump.
-if [ -d "${ORACLE_SOURCE:-../shared/docs/src}" ]; then
+at_hand=$(oracle/at_hand.sh)
+if [ $at_hand = yes ]; then
   oracle/build.sh
   python3 tests/reference/listings.py $work/random.cases target/oracle/oracle
 else
-  echo "job: no Rust source at ${ORACLE_SOURCE:-../shared/docs/src}: NOT compared with the Rust"
+  echo "job: NOT compared with the Rust"
 fi
 
 # From Rust, on a thread with 2 MB of stack, beside the model.

@@ -24,8 +24,9 @@ python3 tests/reference/check.py runs $reference runs
 python3 tests/reference/check.py jobs $reference job
 python3 tests/reference/check.py host $reference host
 
-if [ ! -d "${ORACLE_SOURCE:-../shared/docs/src}" ]; then
-  echo "model: no Rust source at ${ORACLE_SOURCE:-../shared/docs/src}: NOT compared with the Rust"
+at_hand=$(oracle/at_hand.sh)
+if [ $at_hand = no ]; then
+  echo "model: NOT compared with the Rust"
   exit 0
 fi
 oracle/build.sh
@@ -37,10 +38,11 @@ compare() {
   $reference "$@" >$work/$name.runs
   target/oracle/oracle <$work/$name.runs >$work/$name.oracle || fail "$name: the oracle failed"
   $reference runs <$work/$name.runs >$work/$name.model || fail "$name: the model failed"
-  cmp $work/$name.oracle $work/$name.model || fail "$name: oracle and model differ (files in $work)"
+  diff $work/$name.oracle $work/$name.model >$work/$name.difference ||
+    { head -n 20 $work/$name.difference; fail "$name: oracle and model differ (files in $work)"; }
   count=$(grep -cx end $work/$name.model)
   [ "$count" -gt 0 ] || fail "$name: no runs"
-  rm $work/$name.{runs,oracle,model}
+  rm $work/$name.{runs,oracle,model,difference}
   echo "model against the Rust: $name: $count lists, no difference"
 }
 

@@ -33,12 +33,13 @@ newest=$(ls -t tests/reference/*.rs $reference 2>/dev/null | head -n 1) || true
 rustc --edition 2021 -O -C link-arg="$library" -C link-arg="$path" -o $work/session tests/session/main.rs
 wait $! || fail "the reference model is not built"
 
-if [ -d "${ORACLE_SOURCE:-../shared/docs/src}" ]; then
+at_hand=$(oracle/at_hand.sh)
+if [ $at_hand = yes ]; then
   oracle/build.sh
   answer() { target/oracle/oracle; }
   by="the Rust"
 else
-  echo "session: no Rust source at ${ORACLE_SOURCE:-../shared/docs/src}: NOT compared with the Rust"
+  echo "session: NOT compared with the Rust"
   answer() { $reference runs; }
   by="the model"
 fi
