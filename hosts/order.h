@@ -1,11 +1,14 @@
-/* The exported call of crate `host`: a job's bytes in, its listing's bytes out.
-   `rt staticlib host` proves it and writes target/staticlib/libhost.a; hosts/order_example.c shows a
-   call. What the call promises is rules/specs/Listing.antt: `reply`, `result` and `bytes-after`. */
+/* Host code, not proved: the declaration of the proved call of crate `host`.
+   A job's bytes in, its listing's bytes out. `rt staticlib host` proves it and writes
+   target/staticlib/libhost.a; hosts/order_example.c shows a call, docs/JOB.md describes jobs and
+   listings. What the call promises is rules/specs/Listing.antt: `reply`, `result` and `bytes-after`. */
 #ifndef ORDER_H
 #define ORDER_H
 
 #include <stddef.h>
 #include <stdint.h>
+
+#include "refusals.h"
 
 #ifdef __cplusplus
 extern "C" {
@@ -21,7 +24,7 @@ extern "C" {
 
    Returns 64 times the listing's length, the listing then standing at the start of `listing` and what
    lies behind it untouched; or, for a refused job, 64 times the line plus the number of the refusal
-   (1 to 17), all of `listing` untouched.
+   (an order_code), all of `listing` untouched.
 
    The call works on the stack and needs less than 450 KB of it. */
 uint64_t order_job(const uint8_t *job, size_t job_count, uint8_t *listing, size_t listing_count);

@@ -1,11 +1,15 @@
-/* The exported call of crate `replay`: a whole list of calls on a freshly opened session.
+/* Host code, not proved: the declaration of the proved call of crate `replay`.
+   A whole list of calls on a freshly opened session.
    `rt staticlib replay` proves it and writes target/staticlib/libreplay.a; hosts/replay_example.c
-   shows a call. docs/REPLAY.md describes the encoding of the calls. */
+   shows a call, hosts/replay_storage.h lays the storage out in one block of memory. docs/REPLAY.md
+   describes the encoding of the calls. */
 #ifndef REPLAY_H
 #define REPLAY_H
 
 #include <stddef.h>
 #include <stdint.h>
+
+#include "refusals.h"
 
 #ifdef __cplusplus
 extern "C" {

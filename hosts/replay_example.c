@@ -1,7 +1,10 @@
-/* One call of replay_calls: the job J1 of document 01, its order printed.
+/* Host code, not proved: one call of replay_calls, the job J1 of document 01, its order printed.
 
        rt staticlib replay
-       gcc -Ihosts hosts/replay_example.c target/staticlib/libreplay.a -o replay_example */
+       gcc -Ihosts hosts/replay_example.c target/staticlib/libreplay.a -o replay_example
+       ./replay_example
+
+   hosts/storage_example.c does the same with less to write. */
 #include <inttypes.h>
 #include <stdio.h>
 
@@ -34,7 +37,7 @@ int main(void) {
         calls, sizeof calls / sizeof *calls, P, V);
 
     if (returned % 64 != 0) {
-        printf("refused=%" PRIu64 "\n", returned);
+        printf("refused=%" PRIu64 ": %s\n", returned, order_code_text(returned));
         return 1;
     }
     for (size_t i = 0; i < sizeof answers / sizeof *answers; i++)

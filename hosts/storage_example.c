@@ -1,0 +1,70 @@
+/* Host code, not proved: the job J1 of document 01 through replay_storage, its order also as structs.
+
+       rt staticlib replay
+       rt staticlib order_entries
+       gcc -Ihosts hosts/storage_example.c target/staticlib/libreplay.a \
+           target/staticlib/liborder_entries.a -o storage_example
+       ./storage_example */
+#include <inttypes.h>
+#include <stdio.h>
+#include <stdlib.h>
+
+#include "order_entries.h"
+#include "replay_storage.h"
+
+#define P 2
+#define V 6
+#define W 16
+
+static const uint64_t calls[] = {
+    1, 0,          /* set 0 */
+    2, 1, 0, 1, 1, /* add, input 0, output 1 */
+    2, 1, 1, 1, 2, /* add, input 1, output 2 */
+    2, 1, 0, 1, 3, /* add, input 0, output 3 */
+    2, 0, 1, 4,    /* add, no input, output 4 */
+    4,             /* final */
+};
+
+static int refused(const char *what, uint64_t code) {
+    fprintf(stderr, "%s: refused with %" PRIu64 ": %s\n", what, code, order_code_text(code));
+    return 1;
+}
+
+static void print_order(const struct replay_storage *storage) {
+    for (size_t i = 0; i < storage->entries; i++) {
+        struct replay_entry entry = replay_entry_at(storage, i);
+        struct replay_row row = replay_row_at(storage, entry.added);
+        printf("order=%zu added=%" PRIu32 " accepted=%" PRIu32 " parallelism=%" PRIu32 " written=%" PRIu32 "\n",
+               i, entry.added, entry.accepted, entry.parallelism, row.written);
+    }
+    for (size_t parallelism = 0; parallelism <= storage->p; parallelism++)
+        printf("tally %zu: %" PRIu32 "\n", parallelism, replay_tally_at(storage, parallelism));
+}
+
+int main(void) {
+    uint64_t answers[6];
+    struct order_info infos[V];
+    void *memory = malloc(replay_storage_bytes(P, V, W));
+    struct replay_storage storage = replay_storage_in(memory, P, V, W);
+
+    uint64_t returned = replay_run(&storage, calls, sizeof calls / sizeof *calls,
+                                   answers, sizeof answers / sizeof *answers);
+    if (returned % 64 != ORDER_ACCEPTED) {
+        free(memory);
+        return refused("the list of calls", returned);
+    }
+    for (size_t i = 0; i < sizeof answers / sizeof *answers; i++)
+        if (answers[i] != ORDER_ACCEPTED)
+            refused("a call", answers[i]);
+    print_order(&storage);
+
+    returned = order_append_new(infos, V, storage.order, REPLAY_ORDER(V), 0, storage.entries);
+    if (returned != ORDER_ACCEPTED) {
+        free(memory);
+        return refused("the order as structs", returned);
+    }
+    printf("the last entry: added %" PRIu32 ", parallelism %u\n",
+           infos[storage.entries - 1].added, (unsigned)infos[storage.entries - 1].parallelism);
+    free(memory);
+    return 0;
+}

@@ -1,0 +1,149 @@
+/* Host code, not proved: what replay_storage.h does with good and with bad arguments. Ends with 0 if
+   all is as it should be, and says what is not. Compiled as C99 and as C++11. */
+#include <stdio.h>
+#include <stdlib.h>
+#include <string.h>
+
+#include "order.h"
+#include "order_entries.h"
+#include "replay_storage.h"
+
+static int wrong;
+
+static void look(int holds, const char *what) {
+    if (!holds) {
+        fprintf(stderr, "tests/hosts/storage.c: not so: %s\n", what);
+        wrong = 1;
+    }
+}
+
+/* J1 of document 01, with a set that is refused (8) and a plain flush. */
+static const uint64_t calls[] = {1, 0, 1, 0, 2, 1, 0, 1, 1, 2, 1, 1, 1, 2, 2, 1, 0, 1, 3, 3, 2, 0, 1, 4, 4};
+enum { CALLS = sizeof calls / sizeof *calls, MADE = 8, P = 2, V = 6, W = 16 };
+static const uint64_t codes[MADE] = {0, ORDER_TAKEN_PLACE, 0, 0, 0, 0, 0, 0};
+
+/* The slices lie in the block, one after the other, none over another. */
+static void look_at_layout(const struct replay_storage *s, const char *block, size_t bytes) {
+    struct { const void *at; size_t bytes, align; } slices[8];
+    const void *at[8] = {s->locations, s->waiting, s->spans, s->order, s->tally, s->rows, s->pool, s->marks};
+    size_t count[8] = {REPLAY_LOCATIONS(V), REPLAY_WAITING(V), REPLAY_SPANS(P), REPLAY_ORDER(V),
+                       REPLAY_TALLY(P), REPLAY_ROWS(V), W, REPLAY_MARKS(V)};
+    size_t size[8] = {8, 8, 4, 4, 4, 4, 4, 2};
+    const char *end = block;
+    for (int i = 0; i < 8; i++) {
+        slices[i].at = at[i];
+        slices[i].bytes = count[i] * size[i];
+        slices[i].align = size[i];
+        look((uintptr_t)slices[i].at % slices[i].align == 0, "a slice is aligned");
+        look((const char *)slices[i].at >= end, "a slice begins where the one before has ended");
+        end = (const char *)slices[i].at + slices[i].bytes;
+    }
+    look(end <= block + bytes, "the slices end within the block");
+}
+
+/* A run in a block at each offset from an aligned address, full of a pattern before, with bytes around
+   that must stay. */
+static void look_at_runs(void) {
+    size_t bytes = replay_storage_bytes(P, V, W);
+    char *memory = (char *)malloc(bytes + 64);
+    if (memory == NULL) {
+        look(0, "there is memory for a small storage");
+        return;
+    }
+    for (size_t offset = 16; offset < 24; offset++) {
+        uint64_t answers[MADE + 1];
+        memset(answers, 0x5a, sizeof answers);
+        memset(memory, 0x5a, bytes + 64);
+        struct replay_storage s = replay_storage_in(memory + offset, P, V, W);
+        look(s.refusal == ORDER_ACCEPTED && s.entries == 0, "a storage is laid out");
+        look_at_layout(&s, memory + offset, bytes);
+        for (int again = 0; again < 2; again++) {
+            look(replay_run(&s, calls, CALLS, answers, MADE) == 64 * 4, "the run returns 64 times 4 entries");
+            look(s.entries == 4, "there are four entries");
+            look(memcmp(answers, codes, sizeof codes) == 0, "each call has its number");
+            look(answers[MADE] == 0x5a5a5a5a5a5a5a5au, "the answer after the last stays");
+        }
+        struct replay_entry first = replay_entry_at(&s, 0), past = replay_entry_at(&s, 4);
+        look(first.value == 0 && first.added == 0 && first.accepted == 0 && first.parallelism == 2, "entry 0");
+        look(past.value == 0 && past.added == 0 && past.accepted == 0 && past.parallelism == 0, "no entry 4");
+        struct replay_row last = replay_row_at(&s, 3), none = replay_row_at(&s, V);
+        look(last.added == 3 && last.accepted == 3 && last.written == 4 && last.order_index == 3 &&
+             last.parallelism == 1, "row 3");
+        look(none.added == 0 && none.parallelism == 0 && none.written == 0, "no row V");
+        uint32_t sum = 0;
+        for (size_t p = 0; p <= P + 3; p++)
+            sum += replay_tally_at(&s, p);
+        look(sum == s.entries, "the tally's sum is the order's length");
+        look(replay_mark_at(&s, 0) == REPLAY_SET && replay_mark_at(&s, 4) == REPLAY_WRITTEN &&
+             replay_mark_at(&s, 5) == REPLAY_UNTRACKED && replay_mark_at(&s, V) == REPLAY_UNTRACKED, "marks");
+        look(replay_location_at(&s, 0).span == 0 && replay_location_at(&s, 1).span == 1 &&
+             replay_location_at(&s, 2).span == 2 && replay_location_at(&s, V).span == 0, "locations");
+        for (size_t i = 0; i < offset; i++)
+            look(memory[i] == 0x5a, "the bytes before the block stay");
+        for (size_t i = offset + bytes; i < bytes + 64; i++)
+            look(memory[i] == 0x5a, "the bytes behind the block stay");
+    }
+    free(memory);
+}
+
+static void look_at_refusals(void) {
+    static char block[100000];
+    uint64_t answers[MADE], most_pool = SIZE_MAX / 8;
+    size_t bytes = replay_storage_bytes(P, V, W);
+    look(bytes > 0 && bytes < sizeof block, "a small storage has some bytes");
+    look(replay_storage_bytes(0, V, W) == 0 && replay_storage_bytes(65000, V, W) == 0, "P out of range has none");
+    look(replay_storage_bytes(P, 0, W) == 0 && replay_storage_bytes(P, 16777217, W) == 0, "V out of range has none");
+    look(replay_storage_bytes(UINT64_MAX, UINT64_MAX, UINT64_MAX) == 0, "the greatest of all have none");
+    look(replay_storage_bytes(P, V, UINT64_MAX) == 0 && replay_storage_bytes(P, V, most_pool) == 0,
+         "a pool that no memory holds has none");
+    look(replay_storage_bytes(64999, 16777216, 0) > 1300000000u, "the greatest session has its bytes");
+    look(replay_storage_bytes(P, V, W + 1) == bytes + 4, "a pool number has four bytes");
+
+    look(replay_storage_in(block, 0, V, W).refusal == ORDER_OUT_OF_RANGE, "P = 0 is refused with 1");
+    look(replay_storage_in(block, P, UINT64_MAX, W).refusal == ORDER_OUT_OF_RANGE, "a huge V is refused with 1");
+    look(replay_storage_in(block, P, V, UINT64_MAX).refusal == ORDER_TOO_SHORT, "a huge W is refused with 2");
+    look(replay_storage_in(NULL, P, V, W).refusal == ORDER_TOO_SHORT, "null memory is refused with 2");
+    look(replay_storage_within(block, bytes - 1, P, V, W).refusal == ORDER_TOO_SHORT, "a byte less is refused");
+    look(replay_storage_within(block, bytes, P, V, W).refusal == ORDER_ACCEPTED, "bytes enough are accepted");
+
+    struct replay_storage none = replay_storage_in(NULL, P, V, W);
+    look(replay_run(&none, calls, CALLS, answers, MADE) == ORDER_TOO_SHORT, "a run without storage is refused");
+    look(replay_run(NULL, calls, CALLS, answers, MADE) == ORDER_TOO_SHORT, "a run on null is refused");
+    look(replay_entry_at(&none, 0).parallelism == 0 && replay_row_at(&none, 0).parallelism == 0 &&
+         replay_tally_at(&none, 0) == 0 && replay_mark_at(&none, 0) == 0 && replay_location_at(&none, 0).span == 0,
+         "without storage all is 0");
+
+    memset(block, 0x5a, sizeof block);
+    struct replay_storage s = replay_storage_in(block, P, V, W);
+    look(replay_run(&s, calls, CALLS, answers, MADE - 1) == ORDER_TOO_SHORT, "an answer less is refused");
+    look(replay_run(&s, calls, CALLS, NULL, MADE) == ORDER_TOO_SHORT, "null answers are refused");
+    look(replay_run(&s, NULL, CALLS, answers, MADE) == ORDER_MALFORMED, "null calls are refused");
+    look(replay_run(&s, calls, CALLS - 2, answers, MADE) == ORDER_MALFORMED, "a call cut short is refused");
+    look(s.entries == 0, "after a refused run there is no entry");
+    for (size_t i = 0; i < sizeof block; i++)
+        look(block[i] == 0x5a, "a refused run writes nothing");
+    look(replay_run(&s, NULL, 0, NULL, 0) == 0 && s.entries == 0, "no calls at all are accepted");
+}
+
+/* The numbers in words, and the other two calls in the same program. */
+static void look_at_others(void) {
+    uint8_t listing[1000];
+    const char *empty = "parallelism=1\nplaces=1\nfinal=1\n";
+    struct order_info info;
+    uint32_t flat[4] = {7, 8, 9, 10};
+    look(order_job((const uint8_t *)empty, strlen(empty), listing, sizeof listing) % 64 == 0, "an empty job");
+    look(order_job((const uint8_t *)empty, strlen(empty), listing, 1) == 64 + ORDER_LONG_LISTING, "17 on line 1");
+    look(sizeof info == 16, "an entry has 16 bytes");
+    look(order_append_new(&info, 1, flat, 4, 0, 1) == 0 && info.value == 7 && info.parallelism == 10, "a struct");
+    look(order_append_new(&info, 1, flat, 4, 0, 2) == ORDER_TOO_SHORT, "two entries of one are refused");
+    look(strcmp(order_code_text(0), "accepted") == 0, "0 is accepted");
+    for (uint64_t n = 1; n <= 17; n++)
+        look(strcmp(order_code_text(n), order_code_text(1000)) != 0, "each number has its words");
+}
+
+int main(void) {
+    look_at_runs();
+    look_at_refusals();
+    look_at_others();
+    return wrong;
+}
