@@ -22,12 +22,14 @@ in_turn() {
 }
 
 first=tests/reference/run.sh
-# The longest goes beside all others.
+# The longest goes beside all others; the hosts' links the archives that others make, and comes last.
 long=tests/session/run.sh
+last=tests/hosts/run.sh
 others=()
 for script in tests/*/run.sh; do
-  [ $script = $first ] || [ $script = $long ] || others+=($script)
+  [ $script = $first ] || [ $script = $long ] || [ $script = $last ] || others+=($script)
 done
+others+=($last)
 
 rm -f $logs/*
 in_turn $first

@@ -1,0 +1,189 @@
+#!/bin/bash
+# Host code, not proved: what stands around the proved calls for hosts in C. One source of the refusals'
+# names; headers, examples and replay_storage with every compiler that is at hand, as C99 and C++11; the
+# commands of docs/JOB.md and docs/HOSTS.md; the command order-job; an installation, and a host that is
+# built with nothing but pkg-config from it.
+set -euo pipefail
+cd "$(dirname "$0")/../.."
+
+fail() { echo "tests/hosts/run.sh: $*" >&2; exit 1; }
+work=$PWD/target/hosts
+rm -rf "$work"
+mkdir -p "$work"
+
+# refuses STATUS WORDS COMMAND..: the command ends with the status and says the words on standard error.
+refuses() {
+  local status=$1 words=$2 ended=0
+  shift 2
+  "$@" </dev/null >"$work/out" 2>"$work/said" || ended=$?
+  [ $ended -eq "$status" ] || { cat "$work/said" >&2; fail "$*: ended with $ended, not $status"; }
+  [ -z "$words" ] || grep -qF -- "$words" "$work/said" || { cat "$work/said" >&2; fail "$*: does not say: $words"; }
+}
+
+# An installation, which makes the archives that are missing. Twice: the second goes over the first.
+prefix=$work/prefix/deep
+slow=$SECONDS
+tools/install "$prefix" >"$work/install.log" || fail "tools/install"
+tools/install "$prefix" >"$work/install.log" || fail "tools/install over an installation"
+[ -z "$(find "$prefix" -name '.order-install*')" ] || fail "tools/install leaves its folder behind"
+echo "hosts: installed twice, $((SECONDS - slow)) s: $(head -n 1 "$work/install.log" | cut -d' ' -f2-5)"
+
+# The refusals: the lists are those of the source, and the comparison finds what it must.
+tools/refusals.py --check
+copy=$work/copy
+mkdir -p "$copy"/{crates/rules,docs,hosts/rust/src,hosts/python,tools}
+fresh() {
+  cp -r crates/rules/specs "$copy/crates/rules/" && cp docs/JOB.md "$copy/docs/" && cp tools/refusals.py "$copy/tools/"
+  cp hosts/refusals.* "$copy/hosts/" && cp hosts/rust/src/refusal.rs "$copy/hosts/rust/src/"
+  cp hosts/python/refusals.py "$copy/hosts/python/"
+}
+for list in hosts/refusals.h hosts/rust/src/refusal.rs hosts/python/refusals.py docs/JOB.md; do
+  fresh && sed -i 's/already set, written or promised/already set or written/' "$copy/$list"
+  refuses 1 "$list is not what" "$copy/tools/refusals.py" --check
+done
+next=$(($(grep -o '^[0-9]*' hosts/refusals.txt | tail -n 1) + 1))
+fresh && echo "$next | one_more | a test adds it | nothing" >>"$copy/hosts/refusals.txt"
+"$copy/tools/refusals.py"
+refuses 1 "has $next, which no definition" "$copy/tools/refusals.py" --check
+echo "x = record { fails = true; number = $next }" >>"$copy/crates/rules/specs/Checks.antt"
+"$copy/tools/refusals.py" --check >/dev/null || fail "one more line of the source is not enough for one more refusal"
+fresh && sed -i '/^8 /d' "$copy/hosts/refusals.txt"
+"$copy/tools/refusals.py"
+refuses 1 "gives 8, of which" "$copy/tools/refusals.py" --check
+fresh && echo "8 | twice | never | nothing" >>"$copy/hosts/refusals.txt"
+refuses 1 "8 does not ascend" "$copy/tools/refusals.py"
+refuses 1 "usage" tools/refusals.py --nothing
+cat >"$work/names.rs" <<END
+#[path = "$PWD/hosts/rust/src/refusal.rs"]
+mod refusal;
+fn main() {
+    for refusal in (0..64).filter_map(refusal::Refusal::from_number) {
+        println!("{} | {} | {} | {}", refusal.number(), refusal.name(), refusal, refusal.advice());
+    }
+}
+END
+rustc --edition 2021 -D warnings -o "$work/names" "$work/names.rs"
+diff <(grep -v '^#' hosts/refusals.txt) <("$work/names") || fail "the refusals in Rust"
+diff <(grep -v '^#' hosts/refusals.txt) <(PYTHONDONTWRITEBYTECODE=1 PYTHONPATH=hosts/python python3 -c '
+from refusals import Refusal
+for r in Refusal: print(f"{int(r)} | {r.name.lower()} | {r} | {r.advice}")') || fail "the refusals in Python"
+echo "hosts: names of refusals: one source, compared; seven wrong copies are found"
+
+# Headers, examples and replay_storage by every compiler, warnings being errors.
+compilers=()
+for compiler in 'gcc -std=c99' 'g++ -std=c++11 -x c++' 'clang -std=c99' 'clang++ -std=c++11 -x c++'; do
+  if command -v ${compiler%% *} >/dev/null; then
+    compilers+=("$compiler")
+  else
+    echo "hosts: no ${compiler%% *}: NOTHING is compiled by it"
+  fi
+done
+archives=$(printf 'target/staticlib/lib%s.a ' $(grep -l 'pub extern "C" fn' crates/*/src/lib.rt | cut -d/ -f2))
+headers=0
+for compiler in "${compilers[@]}"; do
+  strict="$compiler -Wall -Wextra -pedantic -Werror -O2"
+  for header in hosts/*.h; do
+    echo "#include \"$(basename "$header")\"" | sed 's/$/\nint main(void) { return 0; }/' >"$work/header.c"
+    $strict -Ihosts -fsyntax-only "$work/header.c" || fail "$header by $compiler"
+    headers=$((headers + 1))
+  done
+  for program in hosts/order_example.c hosts/replay_example.c hosts/storage_example.c tests/hosts/storage.c; do
+    $strict -Ihosts -c "$program" -o "$work/program.o" || fail "$program by $compiler"
+    ${compiler%% *} "$work/program.o" $archives -o "$work/$(basename "$program" .c)" || fail "$program with the archives"
+  done
+  diff crates/order/stdout <("$work/order_example" <crates/order/stdin) || fail "order_example by $compiler"
+  diff <(grep ^order= crates/order/stdout) <("$work/replay_example") || fail "replay_example by $compiler"
+  diff <(grep ^order= crates/order/stdout) <("$work/storage_example" | grep ^order=) || fail "storage_example by $compiler"
+  "$work/storage" || fail "storage by $compiler"
+done
+gcc -g -fsanitize=address,undefined -fno-sanitize-recover -Ihosts tests/hosts/storage.c $archives -o "$work/storage"
+"$work/storage" || fail "storage with the sanitizers"
+echo "hosts: $headers headers, three examples and replay_storage's test by: ${compilers[*]%% *}; and with sanitizers"
+
+# A host with nothing but pkg-config from the installation, in a folder of its own: shared, static and C++.
+elsewhere=$(mktemp -d)
+trap 'rm -rf "$elsewhere"' EXIT
+outside() (
+  export PKG_CONFIG_PATH=$prefix/lib/pkgconfig
+  cp "$prefix"/share/order/examples/*.c "$elsewhere" && cd "$elsewhere"
+  [ "$(pkg-config --modversion order)" = "$(cat "$prefix/share/order/VERSION")" ]
+  for example in order replay storage; do
+    gcc -std=c99 $(pkg-config --cflags order) ${example}_example.c $(pkg-config --libs order) -o $example-shared
+    gcc -static $(pkg-config --cflags order) ${example}_example.c $(pkg-config --static --libs order) -o $example-static
+    g++ -std=c++11 -x c++ $(pkg-config --cflags order) ${example}_example.c -x none $(pkg-config --libs order) -o $example-c++
+  done
+  export LD_LIBRARY_PATH=$prefix/lib
+  for kind in shared static c++; do
+    ./order-$kind <"$OLDPWD/crates/order/stdin" | cmp - "$OLDPWD/crates/order/stdout"
+    ./replay-$kind | cmp - <(grep ^order= "$OLDPWD/crates/order/stdout")
+    ./storage-$kind | grep ^order= | cmp - <(grep ^order= "$OLDPWD/crates/order/stdout")
+  done
+  ldd ./order-shared | grep -q "$prefix/lib/liborder.so"
+  mv "$prefix" "$prefix-moved" && PKG_CONFIG_PATH=$prefix-moved/lib/pkgconfig \
+    gcc $(PKG_CONFIG_PATH=$prefix-moved/lib/pkgconfig pkg-config --cflags --libs order) -x c storage_example.c \
+    -x none $(PKG_CONFIG_PATH=$prefix-moved/lib/pkgconfig pkg-config --libs order) -o moved
+  mv "$prefix-moved" "$prefix"
+)
+if command -v pkg-config >/dev/null; then
+  outside || fail "a host built from the installation"
+  echo "hosts: three C programs built with pkg-config alone, shared, static and as C++; the prefix may be moved"
+else
+  echo "hosts: no pkg-config: NOTHING is built from the installation"
+fi
+exported=$(nm -D --defined-only "$prefix/lib/liborder.so" | awk '$2 == "T" {print $3}' | sort | paste -sd' ')
+wanted=$(sed -n 's/^pub extern "C" fn \([a-z_]*\).*/\1/p' crates/*/src/lib.rt | sort | paste -sd' ')
+[ "$exported" = "$wanted" ] || fail "liborder.so exports '$exported', not '$wanted'"
+for call in $exported; do
+  [ $call = guide_replay ] && [ ! -f hosts/guide.h ] && echo "hosts: no hosts/guide.h: guide_replay has NO header" && continue
+  grep -qw "$call" hosts/*.h || fail "$call is exported and no header has it"
+done
+! readelf -d "$prefix/lib/liborder.so" | grep -q TEXTREL || fail "liborder.so has text relocations"
+echo "hosts: liborder exports $exported"
+
+# PREFIX that will not do: a sentence, a status, and nothing written.
+listed() { find "$work/bad" -printf '%p %s %l\n' | sort; }
+mkdir -p "$work/bad/lib/order" "$work/bad/taken/bin/order" && echo text >"$work/bad/file" && echo text >"$work/bad/lib/pkgconfig"
+before=$(listed)
+refuses 2 "one PREFIX is needed" tools/install
+refuses 2 "one PREFIX is needed" tools/install ""
+refuses 2 "one PREFIX is needed" tools/install "$work/bad" "$work/bad"
+refuses 2 "unknown option --force" tools/install --force
+refuses 1 "file is there and is no folder" tools/install "$work/bad/file"
+refuses 1 "file is there and is no folder" tools/install "$work/bad/file/below"
+refuses 1 "pkgconfig is there and is no folder" tools/install "$work/bad"
+refuses 1 "bin/order is a folder" tools/install "$work/bad/taken"
+refuses 1 "cannot be made" tools/install /proc/order/prefix
+# a file system that takes no more: files end at 8 KB
+refuses 1 "nothing is installed" bash -c "trap '' XFSZ; ulimit -f 8; tools/install '$work/bad/full/deep'"
+[ "$before" = "$(listed)" ] || fail "a refused installation has changed something"
+tools/install --help | grep -q PREFIX || fail "tools/install --help"
+echo "hosts: ten installations refused in words, nothing written"
+
+# The command around the program, as installed.
+command=$prefix/bin/order-job
+diff crates/order/stdout <("$command" crates/order/stdin) || fail "order-job FILE"
+diff crates/order/stdout <("$command" --words <crates/order/stdin) || fail "order-job on standard input"
+printf '%s\n' parallelism=2 places=3 set=0 set=0 final=1 >"$work/refused.job"
+refuses 1 "4 | set=0" "$command" --words "$work/refused.job"
+refuses 1 "refused with 8 (taken_place) on line 4: a place to be set" "$command" --words "$work/refused.job"
+diff <(printf '%s\n' status=8 line=4) "$work/out" || fail "order-job prints something else for a refused job"
+refuses 1 "" "$command" "$work/refused.job"
+[ ! -s "$work/said" ] || fail "order-job without --words is not silent"
+refuses 1 "there is no such line" "$command" --words /dev/null
+refuses 2 "there is no such file" "$command" "$work/nothing"
+refuses 2 "is a directory" "$command" docs
+refuses 2 "unknown option --nothing" "$command" --nothing
+refuses 2 "one file at most" "$command" a b
+refuses 2 "cannot be printed" bash -c "'$command' crates/order/stdin >/dev/full"
+refuses 2 "cannot be printed" bash -c "'$command' crates/order/stdin >&-"
+refuses 2 "cannot be read" bash -c "'$command' <&-"
+refuses 2 "Broken pipe" bash -c "set -o pipefail; '$command' crates/order/stdin | exec sleep 0"
+refuses 2 "the stack has 300 KB" bash -c "ulimit -s 300; '$command' crates/order/stdin"
+diff crates/order/stdout <(ulimit -Ss 300; "$command" crates/order/stdin) || fail "order-job does not raise the limit of the stack"
+"$command" --help | grep -q "^usage" || fail "order-job --help"
+[ "$("$command" --version)" = "order-job $(cat VERSION)" ] || fail "order-job --version"
+[ "$(hosts/order-job --version)" = "order-job $(cat VERSION)" ] || fail "hosts/order-job --version"
+"$command" crates/order/stdin | "$prefix/bin/order-picture" >/dev/null || fail "order-picture"
+echo "hosts: order-job: listings as the program prints them, refusals and failures in words with their status"
+
+python3 .ci/transcripts.py docs/JOB.md docs/HOSTS.md
