@@ -2,7 +2,9 @@
 //! session needs, and is full of a pattern before a replay, so that every number that must not be
 //! written can be looked at afterwards.
 
-use crate::replay::{self, Call, Needed, Storage};
+use crate::layout::Needed;
+use crate::sys::{self, Slices};
+use crate::Call;
 
 /// Guard numbers before and after each lent slice.
 const GUARD: usize = 8;
@@ -211,7 +213,7 @@ impl Buffers {
 
     /// The call itself, on storage that is prepared.
     pub fn call(&mut self, calls: &[u64], p: u64, v: u64) {
-        let storage = Storage {
+        let slices = Slices {
             spans: self.spans.lend(),
             order: self.order.lend(),
             tally: self.tally.lend(),
@@ -221,7 +223,11 @@ impl Buffers {
             waiting: self.waiting.lend(),
             pool: self.pool.lend(),
         };
-        self.returned = replay::replay(storage, self.answers.lend(), calls, p, v);
+        let returned = sys::replay(slices, self.answers.lend(), calls, p, v);
+        self.returned = match returned % 64 {
+            0 => Ok((returned / 64) as usize),
+            _ => Err(returned),
+        };
     }
 
     /// After an accepted replay: nothing is written beyond the needed lengths, in the order beyond

@@ -5,7 +5,7 @@
 use crate::buffers::{encode, Buffers, Lent, Short};
 use crate::lists::call_model;
 use crate::model;
-use crate::replay::Call;
+use crate::Call;
 use crate::state::State;
 
 /// The bound, in seconds of processor time. Linear work takes hundredths.

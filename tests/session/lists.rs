@@ -4,7 +4,7 @@
 
 use crate::buffers::{encode, Buffers, Lent, Short};
 use crate::model;
-use crate::replay::Call;
+use crate::Call;
 use crate::state::State;
 
 /// Lists up to this length are replayed by all their beginnings.

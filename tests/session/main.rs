@@ -22,12 +22,23 @@ mod generate;
 #[path = "../reference/model.rs"]
 #[allow(dead_code)]
 mod model;
-#[path = "../../hosts/replay.rs"]
-mod replay;
+// The proved call by the Rust host's own declaration, layout and encoding.
+#[path = "../../hosts/rust/src/calls.rs"]
+#[allow(dead_code)]
+mod calls;
+#[path = "../../hosts/rust/src/layout.rs"]
+#[allow(dead_code)]
+mod layout;
+#[path = "../../hosts/rust/src/sys.rs"]
+#[allow(dead_code)]
+mod sys;
 
 use lists::{Counts, Pair};
 use std::io::BufRead;
 use std::process::exit;
+
+/// A call with lists of its own.
+type Call = calls::Call<Vec<u64>>;
 
 fn main() {
     let arguments: Vec<String> = std::env::args().skip(1).collect();

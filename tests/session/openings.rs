@@ -4,7 +4,7 @@
 
 use crate::buffers::{encode, Buffers, Lent, Short};
 use crate::generate::Numbers;
-use crate::replay::Call;
+use crate::Call;
 
 const SHORT: [Short; 8] = [
     Short::Spans,

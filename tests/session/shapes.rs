@@ -4,7 +4,7 @@
 use crate::generate::Numbers;
 use crate::lists::{call_model, List};
 use crate::model::{Lent, Session};
-use crate::replay::Call;
+use crate::Call;
 use crate::text::run_text;
 
 pub fn write(seed: u64, count: u64) {

@@ -8,7 +8,7 @@
 
 use crate::buffers::Buffers;
 use crate::model;
-use crate::replay::Call;
+use crate::Call;
 
 /// The spans of the window.
 const SPANS: usize = 32;

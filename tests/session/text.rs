@@ -1,7 +1,7 @@
 //! Runs in the text of oracle/FORMAT.md, with the answers of another program if there are any.
 
 use crate::lists::{List, Step, Told};
-use crate::replay::Call;
+use crate::Call;
 use crate::state::State;
 use std::fmt::Write;
 

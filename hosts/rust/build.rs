@@ -1,0 +1,102 @@
+//! Host code, not proved: finds the proved archives, or has them built, and links them.
+//!
+//! They are looked for in the folder that ORDER_LIBS names, else in target/staticlib of the repository;
+//! those missing there are built by `rt staticlib` where the toolchain is at hand.
+
+use std::path::{Path, PathBuf};
+use std::process::{exit, Command, Output};
+
+/// Each crate with an exported call. An archive has that one symbol, so that all go into one program.
+const CRATES: [&str; 5] = ["host", "replay", "alone_replay", "order_entries", "summary"];
+
+fn main() {
+    let root = Path::new(&variable("CARGO_MANIFEST_DIR")).join("../..");
+    println!("cargo:rerun-if-env-changed=ORDER_LIBS");
+    let named = std::env::var_os("ORDER_LIBS").filter(|name| !name.is_empty());
+    let folder = match named {
+        Some(named) => PathBuf::from(named),
+        None => built(&root),
+    };
+    let missing = missing(&folder);
+    if !missing.is_empty() {
+        fail(&format!(
+            "no {} in {}: build them by `rt staticlib NAME` for each crate, or name their folder in ORDER_LIBS",
+            missing.join(", "),
+            folder.display()
+        ));
+    }
+    let folder = folder.canonicalize().unwrap_or(folder);
+    println!("cargo:rustc-link-search=native={}", folder.display());
+    for name in CRATES {
+        println!("cargo:rustc-link-lib=static={name}");
+        println!(
+            "cargo:rerun-if-changed={}",
+            archive(&folder, name).display()
+        );
+    }
+    tell_version(&root.join("VERSION"));
+}
+
+fn variable(name: &str) -> String {
+    std::env::var(name).unwrap_or_else(|_| fail(&format!("cargo gives no {name}")))
+}
+
+fn fail(message: &str) -> ! {
+    eprintln!("witness-order: {message}");
+    exit(1)
+}
+
+fn archive(folder: &Path, name: &str) -> PathBuf {
+    folder.join(format!("lib{name}.a"))
+}
+
+/// The names of the archives that are not in the folder.
+fn missing(folder: &Path) -> Vec<String> {
+    let absent = CRATES
+        .iter()
+        .filter(|name| !archive(folder, name).is_file());
+    absent.map(|name| format!("lib{name}.a")).collect()
+}
+
+/// target/staticlib of the repository, with the missing archives built where that can be done.
+fn built(root: &Path) -> PathBuf {
+    let folder = root.join("target/staticlib");
+    for name in CRATES {
+        if archive(&folder, name).is_file() {
+            continue;
+        }
+        match Command::new("rt")
+            .arg("staticlib")
+            .arg(name)
+            .current_dir(root)
+            .output()
+        {
+            Ok(done) if done.status.success() => {}
+            Ok(done) => fail(&format!(
+                "`rt staticlib {name}` failed:\n{}",
+                last_lines(&done)
+            )),
+            // No toolchain: what is missing is said by the caller.
+            Err(_) => break,
+        }
+    }
+    folder
+}
+
+/// The last lines that a command said.
+fn last_lines(done: &Output) -> String {
+    let said = [&done.stdout[..], &done.stderr].concat();
+    let said = String::from_utf8_lossy(&said).into_owned();
+    let lines: Vec<&str> = said.lines().collect();
+    lines[lines.len().saturating_sub(8)..].join("\n")
+}
+
+/// The version is the repository's.
+fn tell_version(path: &Path) {
+    println!("cargo:rerun-if-changed={}", path.display());
+    let version = match std::fs::read_to_string(path) {
+        Ok(text) => text.trim().to_owned(),
+        Err(_) => variable("CARGO_PKG_VERSION"),
+    };
+    println!("cargo:rustc-env=ORDER_VERSION={version}");
+}

@@ -1,0 +1,137 @@
+//! Host code, not proved: how the proved calls lay numbers out in slices. Every length and offset that
+//! this crate uses stands here; docs/REPLAY.md and docs/GUIDE.md describe the same.
+
+/// Spans in the guide's window.
+pub const SPANS: usize = 32;
+/// Numbers of an entry: value, added, accepted, parallelism.
+pub const ENTRY: usize = 4;
+/// Numbers of a row: added, accepted, written, order index, parallelism.
+pub const ROW: usize = 5;
+/// Where `written` stands in a row.
+pub const ROW_WRITTEN: usize = 2;
+/// Numbers of the waiting storage for each place.
+pub const WAITING: usize = 4;
+
+/// Numbers of a request to the guide alone: kind, span, position, value, added, accepted.
+pub const REQUEST: usize = 6;
+/// Numbers of its answer: the refusal, span, position, the order's length, span 0's number, the lengths.
+pub const ANSWER: usize = 5 + SPANS;
+
+/// Counts of a summary, from the parallelism 0 on.
+pub const LOW_COUNTS: usize = 128;
+/// Sums of a thousand counts each.
+pub const THOUSANDS: usize = 65;
+/// Numbers of a summary: the average's bits, the median, the counts, the sums.
+pub const SUMMARY: usize = 2 + LOW_COUNTS + THOUSANDS;
+
+/// The mark of a place that is not tracked.
+pub const UNTRACKED: u16 = 0;
+/// The mark of a place that a registration wrote.
+pub const WRITTEN: u16 = 32_768;
+/// The mark of a place that is set.
+pub const SET: u16 = 49_152;
+
+/// The greatest job and listing of `order_job`, in bytes.
+pub const JOB_BYTES: usize = 65_536;
+
+/// What starts a call in an encoded list.
+pub const TAG_SET: u64 = 1;
+pub const TAG_ADD: u64 = 2;
+pub const TAG_FLUSH: u64 = 3;
+pub const TAG_FINAL: u64 = 4;
+
+/// The numbers that a session of parallelism p over v places needs; the pool may have any length.
+#[derive(Clone, Copy, Debug, PartialEq, Eq)]
+pub struct Needed {
+    pub spans: usize,
+    pub order: usize,
+    pub tally: usize,
+    pub rows: usize,
+    pub marks: usize,
+    pub locations: usize,
+    pub waiting: usize,
+}
+
+impl Needed {
+    /// For p and v in range.
+    pub fn new(p: usize, v: usize) -> Self {
+        Self {
+            spans: ENTRY * SPANS * (p + 1),
+            order: ENTRY * v,
+            tally: p + 1,
+            rows: ROW * v,
+            marks: v,
+            locations: v,
+            waiting: WAITING * v,
+        }
+    }
+
+    /// The bytes of all of them.
+    pub fn bytes(&self) -> u64 {
+        let of_32 = self.spans + self.order + self.tally + self.rows;
+        let of_64 = self.locations + self.waiting;
+        (2 * self.marks + 4 * of_32 + 8 * of_64) as u64
+    }
+}
+
+/// An entry of the order.
+#[derive(Clone, Copy, Debug, PartialEq, Eq)]
+pub struct Entry {
+    pub value: u32,
+    pub added: u32,
+    pub accepted: u32,
+    pub parallelism: u32,
+}
+
+impl Entry {
+    /// From its numbers in the order.
+    pub fn from_numbers(numbers: &[u32]) -> Self {
+        Self {
+            value: numbers[0],
+            added: numbers[1],
+            accepted: numbers[2],
+            parallelism: numbers[3],
+        }
+    }
+}
+
+/// What is recorded of a registration.
+#[derive(Clone, Copy, Debug, PartialEq, Eq)]
+pub struct Row {
+    pub added: u32,
+    pub accepted: u32,
+    /// The order's length when its add ended.
+    pub written: u32,
+    pub order_index: u32,
+    pub parallelism: u32,
+}
+
+impl Row {
+    /// From its numbers among the rows.
+    pub fn from_numbers(numbers: &[u32]) -> Self {
+        Self {
+            added: numbers[0],
+            accepted: numbers[1],
+            written: numbers[ROW_WRITTEN],
+            order_index: numbers[3],
+            parallelism: numbers[4],
+        }
+    }
+}
+
+/// Where an entry lies: a span's number and a position in it.
+#[derive(Clone, Copy, Debug, Default, PartialEq, Eq, PartialOrd, Ord)]
+pub struct Location {
+    pub span: u32,
+    pub position: u32,
+}
+
+impl Location {
+    /// From its number: span · 2^32 + position.
+    pub fn from_number(number: u64) -> Self {
+        Self {
+            span: (number >> 32) as u32,
+            position: number as u32,
+        }
+    }
+}

@@ -1,0 +1,95 @@
+//! Host code, not proved: a safe interface to the proved scheduler of witness computations.
+//!
+//! A circuit's registrations each read some places and write others. The scheduler puts them into an
+//! order in which every entry carries a parallelism p: the p entries from it on may run together.
+//! The calls behind this crate are proved (docs/GUARANTEE.md says what that entitles you to); what
+//! stands here hands slices to them and takes their answers apart.
+//!
+//! | module | call | what it is |
+//! |---|---|---|
+//! | [`replay`] | `replay_calls` | a list of calls ([`calls`]) on a session of any size |
+//! | [`job`] | `order_job` | a job's text, of at most 65,536 bytes, to its listing |
+//! | [`summary`] | `order_summary` | average, median and counts of a tally |
+//! | [`guide`] | `guide_replay` | requests to the guide alone |
+//! | [`entries`] | `order_append_new` | the order as a slice of structs |
+//!
+//! # An order
+//!
+//! ```
+//! use witness_order::{replay, Calls, Storage};
+//!
+//! # fn main() -> Result<(), Box<dyn std::error::Error>> {
+//! // Place 0 is given; four registrations write 1, 2, 3 and 4.
+//! let calls = Calls::new()
+//!     .set(0)
+//!     .add(&[0], &[1])
+//!     .add(&[1], &[2])
+//!     .add(&[0], &[3])
+//!     .add(&[], &[4])
+//!     .finish();
+//!
+//! // Two at a time, six places, a pool for all numbers of the lists.
+//! let mut storage = Storage::new(2, 6, calls.list_numbers())?;
+//! let done = replay(&mut storage, &calls)?;
+//! assert!(done.first_refused().is_none());
+//!
+//! let order: Vec<u32> = done.entries().map(|entry| entry.added).collect();
+//! assert_eq!(order, [0, 2, 1, 3]);
+//! let widths: Vec<u32> = done.entries().map(|entry| entry.parallelism).collect();
+//! assert_eq!(widths, [2, 2, 2, 1]);
+//! assert_eq!(done.summary().median, 2);
+//! # Ok(())
+//! # }
+//! ```
+//!
+//! # A refusal
+//!
+//! A refused call changes nothing, and the calls after it run. Its number is a [`Refusal`], whose
+//! `Display` says it in words:
+//!
+//! ```
+//! use witness_order::{replay, Calls, Refusal, Storage};
+//!
+//! # fn main() -> Result<(), Box<dyn std::error::Error>> {
+//! let calls = Calls::new().set(0).set(0).finish();
+//! let mut storage = Storage::new(2, 6, 0)?;
+//! let done = replay(&mut storage, &calls)?;
+//! assert_eq!(done.numbers(), [0, 8, 0]);
+//! assert_eq!(done.first_refused(), Some((1, Refusal::TakenPlace)));
+//! # Ok(())
+//! # }
+//! ```
+//!
+//! # Linking
+//!
+//! build.rs looks for the archives in the folder that ORDER_LIBS names, else in target/staticlib of
+//! the repository, and has the missing ones built by `rt staticlib` where the toolchain is at hand.
+
+#![warn(missing_debug_implementations)]
+
+pub mod calls;
+pub mod entries;
+pub mod guide;
+pub mod job;
+pub mod layout;
+pub mod refusal;
+pub mod replay;
+pub mod summary;
+mod sys;
+
+pub use calls::{Call, Calls};
+pub use layout::{Entry, Location, Row};
+pub use refusal::Refusal;
+pub use replay::{replay, Replayed, Storage, StorageError};
+pub use summary::Summary;
+
+/// The repository's version.
+pub const VERSION: &str = env!("ORDER_VERSION");
+
+/// A refusal's number as the enum. The proved calls give no other numbers.
+fn refusal(number: u64) -> Refusal {
+    match Refusal::from_number(number) {
+        Some(refusal) => refusal,
+        None => panic!("{number} is no number of a refusal"),
+    }
+}

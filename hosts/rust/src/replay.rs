@@ -1,0 +1,321 @@
+//! Host code, not proved: a list of calls on a session, by the proved `replay_calls`.
+
+use std::fmt;
+
+use crate::calls::{Call, Calls};
+use crate::layout::{Entry, Location, Needed, Row, ENTRY, ROW, ROW_WRITTEN, SET, UNTRACKED};
+use crate::refusal::Refusal;
+use crate::summary::Summary;
+use crate::sys;
+
+/// The storage of a session: parallelism p, v places, and a pool of w numbers for the lists of all
+/// accepted adds. It can be used for one list of calls after another.
+#[derive(Debug)]
+pub struct Storage {
+    p: u64,
+    v: u64,
+    spans: Vec<u32>,
+    order: Vec<u32>,
+    tally: Vec<u32>,
+    rows: Vec<u32>,
+    marks: Vec<u16>,
+    locations: Vec<u64>,
+    waiting: Vec<u64>,
+    pool: Vec<u32>,
+    answers: Vec<u64>,
+}
+
+/// Why there is no storage.
+#[derive(Clone, Copy, Debug, PartialEq, Eq)]
+pub enum StorageError {
+    /// p is not from 1 to 64,999, or v not from 1 to 16,777,216.
+    Refused(Refusal),
+    /// So many bytes are needed, and the system does not give them.
+    Memory(u64),
+}
+
+impl fmt::Display for StorageError {
+    fn fmt(&self, f: &mut fmt::Formatter<'_>) -> fmt::Result {
+        match self {
+            StorageError::Refused(refusal) => refusal.fmt(f),
+            StorageError::Memory(bytes) => {
+                write!(
+                    f,
+                    "{bytes} bytes of memory are needed, and the system does not give them"
+                )
+            }
+        }
+    }
+}
+
+impl std::error::Error for StorageError {}
+
+/// Zeros, or an error where there is not so much memory.
+fn zeros<T: Copy + Default>(count: usize, bytes: u64) -> Result<Vec<T>, StorageError> {
+    let mut numbers = Vec::new();
+    grow(&mut numbers, count, bytes)?;
+    Ok(numbers)
+}
+
+fn grow<T: Copy + Default>(
+    numbers: &mut Vec<T>,
+    count: usize,
+    bytes: u64,
+) -> Result<(), StorageError> {
+    let more = count.saturating_sub(numbers.len());
+    match numbers.try_reserve_exact(more) {
+        Ok(()) => {
+            numbers.resize(count, T::default());
+            Ok(())
+        }
+        Err(_) => Err(StorageError::Memory(bytes)),
+    }
+}
+
+impl Storage {
+    /// Allocates all that a session needs. Nothing is allocated where p or v is out of range.
+    ///
+    /// ```
+    /// use witness_order::{Refusal, Storage, StorageError};
+    /// let error = Storage::new(0, 6, 16).unwrap_err();
+    /// assert_eq!(error, StorageError::Refused(Refusal::OutOfRange));
+    /// assert!(error.to_string().contains("from 1 to 64,999"));
+    /// ```
+    pub fn new(p: u64, v: u64, w: usize) -> Result<Self, StorageError> {
+        let bytes = Self::bytes(p, v, w).map_err(StorageError::Refused)?;
+        let needed = Needed::new(p as usize, v as usize);
+        Ok(Self {
+            p,
+            v,
+            spans: zeros(needed.spans, bytes)?,
+            order: zeros(needed.order, bytes)?,
+            tally: zeros(needed.tally, bytes)?,
+            rows: zeros(needed.rows, bytes)?,
+            marks: zeros(needed.marks, bytes)?,
+            locations: zeros(needed.locations, bytes)?,
+            waiting: zeros(needed.waiting, bytes)?,
+            pool: zeros(w, bytes)?,
+            answers: Vec::new(),
+        })
+    }
+
+    /// The bytes that [`Storage::new`] allocates, or the refusal of p and v.
+    pub fn bytes(p: u64, v: u64, w: usize) -> Result<u64, Refusal> {
+        // The proved call judges the range: on no storage at all it refuses with 1, or else with 2.
+        let empty = sys::Slices {
+            spans: &mut [],
+            order: &mut [],
+            tally: &mut [],
+            rows: &mut [],
+            marks: &mut [],
+            locations: &mut [],
+            waiting: &mut [],
+            pool: &mut [],
+        };
+        match crate::refusal(sys::replay(empty, &mut [], &[], p, v)) {
+            Refusal::TooShort => {
+                let needed = Needed::new(p as usize, v as usize);
+                Ok(needed.bytes().saturating_add((w as u64).saturating_mul(4)))
+            }
+            refusal => Err(refusal),
+        }
+    }
+
+    /// Allocates the numbers of so many calls, which [`replay`] would do otherwise.
+    pub fn reserve_calls(&mut self, count: usize) -> Result<(), StorageError> {
+        grow(&mut self.answers, count, 8 * count as u64)
+    }
+
+    pub fn parallelism(&self) -> u64 {
+        self.p
+    }
+
+    pub fn places(&self) -> u64 {
+        self.v
+    }
+
+    pub fn pool(&self) -> usize {
+        self.pool.len()
+    }
+}
+
+/// Opens a session on the storage, whatever stands there, and makes all calls. Calls that were refused
+/// changed nothing; their numbers are in the result. The list as a whole is not refused: the storage
+/// has the right lengths and [`Calls`] is well formed; the proved call's own answer is passed on.
+pub fn replay<'a>(storage: &'a mut Storage, calls: &'a Calls) -> Result<Replayed<'a>, Refusal> {
+    if storage.answers.len() < calls.len() {
+        storage.answers.resize(calls.len(), 0);
+    }
+    let Storage { p, v, .. } = *storage;
+    let slices = sys::Slices {
+        spans: &mut storage.spans,
+        order: &mut storage.order,
+        tally: &mut storage.tally,
+        rows: &mut storage.rows,
+        marks: &mut storage.marks,
+        locations: &mut storage.locations,
+        waiting: &mut storage.waiting,
+        pool: &mut storage.pool,
+    };
+    let answers = &mut storage.answers[..calls.len()];
+    let returned = sys::replay(slices, answers, calls.numbers(), p, v);
+    match returned % 64 {
+        0 => Ok(Replayed {
+            storage,
+            calls,
+            length: (returned / 64) as usize,
+        }),
+        number => Err(crate::refusal(number)),
+    }
+}
+
+/// What stands in the storage after a list of calls.
+#[derive(Clone, Copy, Debug)]
+pub struct Replayed<'a> {
+    storage: &'a Storage,
+    calls: &'a Calls,
+    length: usize,
+}
+
+/// A place as the session left it.
+#[derive(Clone, Copy, Debug, PartialEq, Eq)]
+pub enum Place {
+    Untracked,
+    Set,
+    /// Written by the registration that is placed there.
+    Written(Location),
+}
+
+impl<'a> Replayed<'a> {
+    /// The number of each call, 0 if it was accepted.
+    pub fn numbers(&self) -> &'a [u64] {
+        &self.storage.answers[..self.calls.len()]
+    }
+
+    /// The first refused call, counted from 0, and why.
+    pub fn first_refused(&self) -> Option<(usize, Refusal)> {
+        let index = self.numbers().iter().position(|number| *number != 0)?;
+        Some((index, crate::refusal(self.numbers()[index])))
+    }
+
+    /// The order's length.
+    pub fn len(&self) -> usize {
+        self.length
+    }
+
+    pub fn is_empty(&self) -> bool {
+        self.length == 0
+    }
+
+    /// The order's entries.
+    pub fn entries(&self) -> impl ExactSizeIterator<Item = Entry> + DoubleEndedIterator + 'a {
+        self.flat_order()
+            .chunks_exact(ENTRY)
+            .map(Entry::from_numbers)
+    }
+
+    /// The order as the proved calls lay it out.
+    pub fn flat_order(&self) -> &'a [u32] {
+        &self.storage.order[..ENTRY * self.length]
+    }
+
+    /// How many adds were accepted.
+    pub fn registrations(&self) -> usize {
+        let adds = self.calls.iter().zip(self.numbers());
+        adds.filter(|(call, number)| matches!(call, Call::Add(..)) && **number == 0)
+            .count()
+    }
+
+    /// A row for each accepted add, in their order. While its entry is not in the order only
+    /// `written` says something; all else is 0.
+    pub fn rows(&self) -> impl ExactSizeIterator<Item = Row> + DoubleEndedIterator + 'a {
+        let rows = &self.storage.rows[..ROW * self.registrations()];
+        rows.chunks_exact(ROW).map(Row::from_numbers)
+    }
+
+    /// The order's length when the add of that registration ended.
+    pub fn written(&self, added: u32) -> u32 {
+        self.storage.rows[ROW * added as usize + ROW_WRITTEN]
+    }
+
+    /// How many entries have the parallelism 0, 1, .. p.
+    pub fn tally(&self) -> &'a [u32] {
+        &self.storage.tally
+    }
+
+    /// The smallest parallelism in the order, 0 if it is empty.
+    pub fn floor(&self) -> u32 {
+        self.entries()
+            .map(|entry| entry.parallelism)
+            .min()
+            .unwrap_or(0)
+    }
+
+    /// How many places from 0 on are tracked, without a gap: the high mark plus 1.
+    pub fn leading_places(&self) -> usize {
+        let marks = &self.storage.marks;
+        marks
+            .iter()
+            .position(|mark| *mark == UNTRACKED)
+            .unwrap_or(marks.len())
+    }
+
+    /// A place below v.
+    pub fn place(&self, place: usize) -> Place {
+        match self.storage.marks[place] {
+            UNTRACKED => Place::Untracked,
+            SET => Place::Set,
+            _ => Place::Written(Location::from_number(self.storage.locations[place])),
+        }
+    }
+
+    /// What the tally comes to, by the proved `order_summary`.
+    pub fn summary(&self) -> Summary {
+        // A session's tally has at most 65,000 counts, and their sum is at most v.
+        Summary::of(self.tally())
+            .unwrap_or_else(|refusal| panic!("the tally of a session: {refusal}"))
+    }
+}
+
+#[cfg(test)]
+mod tests {
+    use super::*;
+
+    /// Storage is as long as the proved call asks, and no longer: one number less is refused.
+    #[test]
+    fn one_number_less_is_too_short() {
+        let calls = Calls::new().set(0).finish();
+        let shorten: [fn(&mut Storage); 7] = [
+            |storage| storage.spans.truncate(storage.spans.len() - 1),
+            |storage| storage.order.truncate(storage.order.len() - 1),
+            |storage| storage.tally.truncate(storage.tally.len() - 1),
+            |storage| storage.rows.truncate(storage.rows.len() - 1),
+            |storage| storage.marks.truncate(storage.marks.len() - 1),
+            |storage| storage.locations.truncate(storage.locations.len() - 1),
+            |storage| storage.waiting.truncate(storage.waiting.len() - 1),
+        ];
+        for (i, shorten) in shorten.iter().enumerate() {
+            let mut storage = Storage::new(3, 5, 0).expect("in range");
+            assert!(replay(&mut storage, &calls).is_ok());
+            shorten(&mut storage);
+            assert_eq!(
+                replay(&mut storage, &calls).err(),
+                Some(Refusal::TooShort),
+                "slice {i}"
+            );
+        }
+    }
+
+    #[test]
+    fn a_malformed_list_is_refused() {
+        let mut storage = Storage::new(3, 5, 0).expect("in range");
+        for numbers in [vec![5], vec![1], vec![2, 1], vec![2, 0, 1], vec![0]] {
+            let calls = Calls {
+                numbers,
+                count: 1,
+                list_numbers: 0,
+            };
+            assert_eq!(replay(&mut storage, &calls).err(), Some(Refusal::Malformed));
+        }
+    }
+}
