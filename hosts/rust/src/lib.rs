@@ -12,6 +12,7 @@
 //! | [`summary`] | `order_summary` | average, median and counts of a tally |
 //! | [`guide`] | `guide_replay` | requests to the guide alone |
 //! | [`entries`] | `order_append_new` | the order as a slice of structs |
+//! | [`large`] | `replay_calls` | job texts of any size, as the program `order-large` reads them |
 //!
 //! # An order
 //!
@@ -71,6 +72,7 @@ pub mod calls;
 pub mod entries;
 pub mod guide;
 pub mod job;
+pub mod large;
 pub mod layout;
 pub mod refusal;
 pub mod replay;

@@ -1,0 +1,314 @@
+//! Host code, not proved: the program `order-large` as a command: options, exit status, what it says.
+
+use std::fs::{self, File};
+use std::io::Write;
+use std::path::PathBuf;
+use std::process::{Command, Output, Stdio};
+
+const J1: &str =
+    "parallelism=2\nplaces=6\nset=0\nin=0\nout=1\nin=1\nout=2\nin=0\nout=3\nin=\nout=4\nfinal=1\n";
+
+fn order_large(arguments: &[&str]) -> Command {
+    let mut command = Command::new(env!("CARGO_BIN_EXE_order-large"));
+    command.args(arguments).stdin(Stdio::null());
+    command
+}
+
+/// A file of its own for each test.
+fn file(name: &str, text: &[u8]) -> PathBuf {
+    let path = PathBuf::from(env!("CARGO_TARGET_TMPDIR")).join(name);
+    fs::write(&path, text).unwrap();
+    path
+}
+
+fn run(arguments: &[&str], job: &str) -> (i32, String, String) {
+    let mut command = order_large(arguments);
+    command
+        .stdin(Stdio::piped())
+        .stdout(Stdio::piped())
+        .stderr(Stdio::piped());
+    let mut child = command.spawn().unwrap();
+    // A command that is misused reads nothing.
+    let _ = child.stdin.take().unwrap().write_all(job.as_bytes());
+    told(child.wait_with_output().unwrap())
+}
+
+fn told(output: Output) -> (i32, String, String) {
+    let text = |bytes| String::from_utf8(bytes).unwrap();
+    (
+        output.status.code().unwrap(),
+        text(output.stdout),
+        text(output.stderr),
+    )
+}
+
+#[test]
+fn a_job_from_standard_input_or_a_file() {
+    let path = file("j1.job", J1.as_bytes());
+    let path = path.to_str().unwrap();
+    let (status, listing, said) = run(&[], J1);
+    assert_eq!((status, said.as_str()), (0, ""));
+    assert!(
+        listing.starts_with("status=0\nentries=4\nplaces=5\nfloor=1\nmedian=2\norder=0 added=0 ")
+    );
+    for arguments in [
+        &["-"][..],
+        &["--", "-"],
+        &["--words"],
+        &["--pool", "100"],
+        &["--pool=7"],
+    ] {
+        assert_eq!(
+            run(arguments, J1),
+            (0, listing.clone(), String::new()),
+            "{arguments:?}"
+        );
+    }
+    for arguments in [&[path][..], &["--", path], &["--words", path]] {
+        assert_eq!(
+            run(arguments, ""),
+            (0, listing.clone(), String::new()),
+            "{arguments:?}"
+        );
+    }
+}
+
+#[test]
+fn a_refused_job_has_status_1() {
+    let refused = "parallelism=2\nplaces=6\nset=0\nin=\nout=1,0\nfinal=1\n";
+    let lines = "status=8\nline=5\n".to_owned();
+    assert_eq!(run(&[], refused), (1, lines.clone(), String::new()));
+    let (status, listing, said) = run(&["--words"], refused);
+    assert_eq!((status, listing), (1, lines));
+    let said: Vec<&str> = said.lines().collect();
+    assert_eq!(said.len(), 4, "{said:?}");
+    assert!(
+        said[0].starts_with("order-large: line 5: refused with 8 (taken_place): a place to be set")
+    );
+    assert_eq!(said[1..3], ["     4 | in=", "     5 | out=1,0"]);
+    assert!(said[3].starts_with("order-large: "));
+}
+
+#[test]
+fn words_quote_the_line() {
+    for (job, quoted) in [
+        ("", "     1 | (the job ends before this line)"),
+        (
+            "parallelism=2",
+            "     1 | parallelism=2 (not ended by a line feed)",
+        ),
+        ("parallelism=2\nplaces=07\n", "     2 | places=07"),
+        ("parallelism=0\nplaces=7\n", "     1 | parallelism=0"),
+        (
+            "parallelism=2\nplaces=7\nset=\u{1b}[2J\n",
+            "     3 | set=\\x1b[2J",
+        ),
+        ("parallelism=2\nplaces=7\nset=7\n", "     3 | set=7"),
+        (
+            "parallelism=2\nplaces=7\nin=1\nout=\nfinal=1\n",
+            "     5 | final=1",
+        ),
+    ] {
+        let (status, _, said) = run(&["--words"], job);
+        assert_eq!(status, 1);
+        assert!(said.lines().any(|line| line == quoted), "{job:?}: {said}");
+    }
+    let long = format!("parallelism=2\nplaces=7\nset={}\n", "1".repeat(1 << 20));
+    let (_, _, said) = run(&["--words"], &long);
+    assert!(said.len() < 1000 && said.contains("111.."), "{said}");
+    let (_, _, said) = run(&["--words"], "parallelism=2\nplaces=7\nin=\nfinal=1\n");
+    assert!(
+        said.contains("order-large: expected: `out=LIST`, after `in=LIST`"),
+        "{said}"
+    );
+}
+
+#[test]
+fn help_and_version() {
+    let (status, text, said) = run(&["--help"], "");
+    assert_eq!((status, said.as_str()), (0, ""));
+    for option in [
+        "--pool W",
+        "--words",
+        "--dry-run",
+        "--help",
+        "--version",
+        "Exit status",
+    ] {
+        assert!(text.contains(option), "{option}");
+    }
+    let version = include_str!("../../../VERSION").trim();
+    assert_eq!(
+        run(&["--version"], ""),
+        (0, format!("order-large {version}\n"), String::new())
+    );
+    assert_eq!(version, env!("CARGO_PKG_VERSION"), "VERSION and Cargo.toml");
+}
+
+#[test]
+fn misuse_has_status_2_and_prints_nothing() {
+    for (arguments, sentence) in [
+        (&["--nonsense"][..], "--nonsense is no option"),
+        (&["-x"], "-x is no option"),
+        (&["--pool"], "--pool wants a number"),
+        (&["--pool", ""], "--pool wants a number below 2^64, not ``"),
+        (
+            &["--pool", "-1"],
+            "--pool wants a number below 2^64, not `-1`",
+        ),
+        (
+            &["--pool", "+1"],
+            "--pool wants a number below 2^64, not `+1`",
+        ),
+        (
+            &["--pool=1.5"],
+            "--pool wants a number below 2^64, not `1.5`",
+        ),
+        (
+            &["--pool", "18446744073709551616"],
+            "--pool wants a number below 2^64, not",
+        ),
+        (&["--words=1"], "--words=1 is no option"),
+        (&["--dry-run=1"], "--dry-run=1 is no option"),
+        (&["a", "b"], "one job at a time, not 2"),
+        (&["--", "--words", "b"], "one job at a time, not 2"),
+        (
+            &["no/such.job"],
+            "no/such.job cannot be read: No such file or directory",
+        ),
+        (&["--", "--words"], "--words cannot be read: No such file"),
+        (&[""], " cannot be read: No such file"),
+        (&["."], ". is a directory, not a job"),
+    ] {
+        let (status, printed, said) = run(arguments, J1);
+        assert_eq!((status, printed.as_str()), (2, ""), "{arguments:?}");
+        assert!(
+            said.starts_with("order-large: ") && said.contains(sentence),
+            "{arguments:?}: {said}"
+        );
+        assert_eq!(said.lines().count(), 1, "{arguments:?}: {said}");
+    }
+}
+
+#[cfg(unix)]
+#[test]
+fn an_argument_that_is_no_text() {
+    use std::os::unix::ffi::OsStrExt;
+    let mut command = order_large(&[]);
+    let output = command
+        .arg(std::ffi::OsStr::from_bytes(b"\xff.job"))
+        .output()
+        .unwrap();
+    let (status, printed, said) = told(output);
+    assert_eq!((status, printed.as_str()), (2, ""));
+    assert!(said.contains("is no text in UTF-8"), "{said}");
+}
+
+#[test]
+fn a_directory_as_standard_input() {
+    let output = order_large(&[])
+        .stdin(File::open(".").unwrap())
+        .output()
+        .unwrap();
+    let (status, printed, said) = told(output);
+    assert_eq!((status, printed.as_str()), (2, ""));
+    assert!(
+        said.contains("standard input cannot be read: Is a directory"),
+        "{said}"
+    );
+}
+
+#[test]
+fn a_full_disk() {
+    let path = file("full.job", J1.as_bytes());
+    let path = path.to_str().unwrap();
+    for arguments in [
+        &[path][..],
+        &["--dry-run", path],
+        &["--help"],
+        &["--version"],
+    ] {
+        let full = File::options().write(true).open("/dev/full").unwrap();
+        let output = order_large(arguments).stdout(full).output().unwrap();
+        let (status, _, said) = told(output);
+        assert_eq!(status, 2, "{arguments:?}");
+        let sentence = "order-large: standard output cannot be written: No space left on device";
+        assert!(said.starts_with(sentence), "{arguments:?}: {said}");
+    }
+}
+
+#[test]
+fn a_reader_that_goes_ends_it_quietly() {
+    let adds: String = (1..20_000)
+        .map(|x| format!("in={}\nout={x}\n", x - 1))
+        .collect();
+    let job = format!("parallelism=4\nplaces=20000\nset=0\n{adds}final=1\n");
+    let path = file("pipe.job", job.as_bytes());
+    let mut command = order_large(&[path.to_str().unwrap()]);
+    let mut child = command
+        .stdout(Stdio::piped())
+        .stderr(Stdio::piped())
+        .spawn()
+        .unwrap();
+    drop(child.stdout.take());
+    let (status, _, said) = told(child.wait_with_output().unwrap());
+    assert_eq!((status, said.as_str()), (2, ""));
+}
+
+#[test]
+fn a_dry_run_says_the_memory_and_places_nothing() {
+    let (status, text, said) = run(&["--dry-run"], J1);
+    assert_eq!((status, said.as_str()), (0, ""));
+    let value = |key: &str| -> u64 {
+        let line = text
+            .lines()
+            .find_map(|line| line.strip_prefix(&format!("{key}=")))
+            .expect(key);
+        line.parse().unwrap()
+    };
+    assert_eq!(
+        (value("parallelism"), value("places"), value("calls")),
+        (2, 6, 6)
+    );
+    assert_eq!((value("list_numbers"), value("pool_bytes")), (7, 28));
+    assert_eq!(value("storage_bytes"), 78 * 6 + 516 * 3 + 28);
+    assert_eq!(value("answers_bytes"), 48);
+    let total = value("storage_bytes") + value("calls_bytes") + value("answers_bytes");
+    assert_eq!(value("memory_bytes"), total);
+
+    let (_, text, _) = run(&["--dry-run", "--pool", "3"], J1);
+    assert!(text.contains("pool_bytes=12\n"), "{text}");
+    assert_eq!(
+        run(&["--dry-run"], "parallelism=0\nplaces=1\n"),
+        (1, "status=1\nline=2\n".to_owned(), String::new())
+    );
+    let (status, text, _) = run(&["--dry-run"], "parallelism=1\nplaces=1\nset=0\nnonsense\n");
+    assert!(
+        status == 1 && text.ends_with("status=15\nline=4\n") && text.contains("calls=1\n"),
+        "{text}"
+    );
+}
+
+/// With less memory than a job needs it says so. `prlimit` is a part of util-linux.
+#[cfg(target_os = "linux")]
+#[test]
+fn too_little_memory() {
+    let path = file(
+        "memory.job",
+        b"parallelism=64999\nplaces=16777216\nfinal=1\n",
+    );
+    let output = Command::new("prlimit")
+        .args([
+            "--as=500000000",
+            env!("CARGO_BIN_EXE_order-large"),
+            path.to_str().unwrap(),
+        ])
+        .output()
+        .unwrap();
+    let (status, printed, said) = told(output);
+    assert_eq!((status, printed.as_str()), (2, ""));
+    assert!(
+        said.contains("bytes of memory are needed, and the system does not give them"),
+        "{said}"
+    );
+}
