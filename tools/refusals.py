@@ -6,7 +6,7 @@
                                 crates/rules/specs; on a difference the status is 1
 
 The lists: the enum in C with order_code_text (hosts/refusals.h), the enum in Rust
-(hosts/rust/src/refusal.rs), the one in Python (hosts/python/refusals.py) and the table of docs/JOB.md,
+(hosts/rust/src/refusal.rs), the one in Python (hosts/python/witness_order/refusals.py) and the table of docs/JOB.md,
 between two lines that say so. One more refusal is one more line of the source."""
 
 import pathlib
@@ -220,7 +220,7 @@ def lists(rows):
     return {
         "hosts/refusals.h": in_c(rows),
         "hosts/rust/src/refusal.rs": in_rust(rows),
-        "hosts/python/refusals.py": in_python(rows),
+        "hosts/python/witness_order/refusals.py": in_python(rows),
         DOCUMENT: in_document(rows),
     }
 

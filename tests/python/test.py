@@ -141,7 +141,7 @@ class Libraries(unittest.TestCase):
         script = "import witness_order as w\ntry: w.run_job('')\nexcept w.LibraryMissing as e: print('missing:', e)"
         environment = dict(os.environ, ORDER_LIBS="/nonexistent", PYTHONPATH=os.path.join(ROOT, "hosts", "python"))
         said = subprocess.run([sys.executable, "-c", script], env=environment, capture_output=True, text=True, check=True)
-        self.assertIn("missing: no liborder_host.so in /nonexistent", said.stdout)
+        self.assertIn("missing: no liborder.so in /nonexistent", said.stdout)
 
 
 if __name__ == "__main__":
