@@ -34,6 +34,10 @@ def random_list(seed):
             outs = [source.randrange(places) for _ in range(source.randrange(3))]
             calls.add(ins, outs)
             lines.append(["in=" + ",".join(map(str, ins)), "out=" + ",".join(map(str, outs))])
+    # Whatever is still waited for is set; the others are refused.
+    for place in range(places if source.random() < 0.9 else 0):
+        calls.set(place)
+        lines.append([f"set={place}"])
     calls.final()
     lines.append(["final=1"])
     return parallelism, places, calls, lines
@@ -97,7 +101,7 @@ class Lists(unittest.TestCase):
             self.assertEqual(sum(summary.counts), sum(summary.thousands))
             self.assertEqual(sum(summary.counts), result.length)
             self.assertAlmostEqual(summary.average, result.length / 65_000, places=7)
-        self.assertGreater(finished, 40)
+        self.assertGreater(finished, 200)
 
     def test_marks(self):
         result = order.replay(2, 4, order.Calls().set(0).add([0], [1]).add([3], [2]))
