@@ -583,7 +583,7 @@ pub struct Summary {
 }
 
 impl Summary {
-    fn of(tally: &[u64]) -> Self {
+    pub fn of(tally: &[u64]) -> Self {
         let sum: u64 = tally.iter().sum();
         let mut running = 0;
         let median = tally.iter().position(|count| {

@@ -14,6 +14,7 @@ mod lists;
 mod openings;
 mod shapes;
 mod state;
+mod summary;
 mod text;
 
 #[path = "../reference/generate.rs"]

@@ -1,6 +1,7 @@
 #!/bin/bash
-# Holds the exported call of crate `replay` to the kept sample of the Rust's answers, to the hand-worked
-# cases and to the reference model, and, where the Rust is at hand, to the oracle.
+# Holds the exported call of crate `replay`, and that of crate `summary` on the tally that it leaves, to
+# the kept sample of the Rust's answers, to the hand-worked cases and to the reference model, and, where
+# the Rust is at hand, to the oracle.
 #
 #   tests/session/run.sh           the short form
 #   tests/session/run.sh --long    more than 100,000 lists and two million calls
@@ -18,11 +19,13 @@ case "${1:-}" in
 esac
 seed=${SESSION_SEED:-1}
 
+rt staticlib summary
 library=${SESSION_LIBRARY:-target/staticlib/libreplay.a}
 if [ -z "${SESSION_LIBRARY:-}" ]; then
   rt staticlib replay
 fi
 library=$(realpath "$library")
+summary=$(realpath target/staticlib/libsummary.a)
 path=-Wl,-rpath,$(dirname "$library")
 
 work=target/session
@@ -30,7 +33,8 @@ mkdir -p $work target/reference
 reference=target/reference/reference
 newest=$(ls -t tests/reference/*.rs $reference 2>/dev/null | head -n 1) || true
 [ "$newest" = $reference ] || rustc --edition 2021 -O -o $reference tests/reference/main.rs &
-rustc --edition 2021 -O -C link-arg="$library" -C link-arg="$path" -o $work/session tests/session/main.rs
+rustc --edition 2021 -O -C link-arg="$library" -C link-arg="$summary" -C link-arg="$path" -o $work/session \
+  tests/session/main.rs
 wait $! || fail "the reference model is not built"
 
 at_hand=$(oracle/at_hand.sh)

@@ -8,6 +8,7 @@
 
 use crate::buffers::Buffers;
 use crate::model;
+use crate::summary::{self, Numbers, COUNTS, THOUSANDS};
 use crate::Call;
 
 /// The spans of the window.
@@ -27,6 +28,8 @@ pub struct State {
     pub waiting: Vec<(u64, Vec<u64>)>,
     /// Parallelism and count, where that is not 0.
     pub tally: Vec<(u64, u64)>,
+    /// The summary of the tally; nothing, where none was told.
+    pub summary: Option<Numbers>,
     /// The lengths of the window's spans.
     pub lengths: Vec<u64>,
     /// Value, added, accepted of the entries in the window, span by span.
@@ -69,6 +72,7 @@ impl State {
                 .map(|(place, registrations)| (*place, registrations.clone()))
                 .collect(),
             tally: counted.map(|(i, count)| (i as u64, *count)).collect(),
+            summary: Some(numbers_of(&model::Summary::of(&window.tally))),
             lengths: window.spans.iter().map(|span| span.len() as u64).collect(),
             held: window
                 .spans
@@ -99,6 +103,7 @@ impl State {
         self.compare_rows(buffers)?;
         self.compare_places(buffers)?;
         self.compare_tally(buffers)?;
+        self.compare_summary(buffers)?;
         self.compare_spans(buffers, p)?;
         self.compare_waiting(buffers)?;
         let list_numbers = compare_lists(buffers, calls, codes)?;
@@ -160,6 +165,19 @@ impl State {
             true => Ok(()),
             false => Err(format!("the tally is {found:?}, not {:?}", self.tally)),
         }
+    }
+
+    /// The summary of the tally, bit for bit.
+    fn compare_summary(&self, buffers: &Buffers) -> Result<(), String> {
+        let Some(wanted) = self.summary else {
+            return Ok(());
+        };
+        let found = summary::of_tally(buffers.tally.needed())?;
+        for (i, (found, wanted)) in found.into_iter().zip(wanted).enumerate() {
+            let what = || format!("number {i} of the summary");
+            same(what, found.into(), wanted.into())?;
+        }
+        Ok(())
     }
 
     /// Each span that holds entries has a row of its own that begins with them, their parallelism
@@ -225,6 +243,20 @@ impl State {
             )),
         }
     }
+}
+
+/// The model's summary, laid out as `order_summary` lays it out.
+fn numbers_of(summary: &model::Summary) -> Numbers {
+    let mut numbers = [0; 195];
+    numbers[0] = summary.average;
+    numbers[1] = summary.median as u32;
+    for (i, count) in summary.low.iter().enumerate() {
+        numbers[COUNTS + i] = *count as u32;
+    }
+    for (i, sum) in summary.thousands.iter().enumerate() {
+        numbers[THOUSANDS + i] = *sum as u32;
+    }
+    numbers
 }
 
 /// The lists of the accepted adds, read from pool and waiting storage, and the places taken by them

@@ -3,6 +3,7 @@
 use crate::lists::{List, Step, Told};
 use crate::Call;
 use crate::state::State;
+use crate::summary::{Numbers, COUNTS, THOUSANDS};
 use std::fmt::Write;
 
 /// A run of a session as it stands in the text.
@@ -124,9 +125,30 @@ fn take_answer(told: &mut Told, calls: usize, answer: &[&str]) -> Result<(), Str
         }
         "window" => end.lengths = numbers(rest.get(1..).unwrap_or_default())?,
         "held" => end.held = tuples(rest)?,
-        // Of what final gives, only its number can be seen in the storage.
-        "final" | "average" | "median" | "low" | "thousands" => {}
+        // How many registrations and places there are stands in the session, which no host sees.
+        "final" => {}
+        "average" | "median" | "low" | "thousands" => {
+            let summary = end.summary.get_or_insert([0; 195]);
+            take_summary(summary, word, rest)?;
+        }
         _ => return Err(format!("`{word}` is no answer")),
+    }
+    Ok(())
+}
+
+/// One line of the summary, put where `order_summary` has it.
+fn take_summary(summary: &mut Numbers, word: &str, rest: &[&str]) -> Result<(), String> {
+    let from = match word {
+        "average" | "median" => {
+            let at = usize::from(word == "median");
+            summary[at] = number(rest.first().ok_or("no number")?)? as u32;
+            return Ok(());
+        }
+        "low" => COUNTS,
+        _ => THOUSANDS,
+    };
+    for [at, count] in tuples(rest)? {
+        summary[from + at as usize] = count as u32;
     }
     Ok(())
 }
