@@ -30,8 +30,9 @@ def random_list(seed):
             calls.flush()
             lines.append(["flush=1"])
         else:
-            ins = [source.randrange(places) for _ in range(source.randrange(4))]
             outs = [source.randrange(places) for _ in range(source.randrange(3))]
+            # Inputs below the outputs, so that no two registrations wait for each other.
+            ins = [source.randrange(min(outs, default=places)) for _ in range(source.randrange(4)) if 0 not in outs]
             calls.add(ins, outs)
             lines.append(["in=" + ",".join(map(str, ins)), "out=" + ",".join(map(str, outs))])
     # Whatever is still waited for is set; the others are refused.
