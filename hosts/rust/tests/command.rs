@@ -271,7 +271,8 @@ fn a_dry_run_says_the_memory_and_places_nothing() {
         (2, 6, 6)
     );
     assert_eq!((value("list_numbers"), value("pool_bytes")), (7, 28));
-    assert_eq!(value("storage_bytes"), 78 * 6 + 516 * 3 + 28);
+    let storage = witness_order::Storage::bytes(2, 6, 7).unwrap();
+    assert_eq!(value("storage_bytes"), storage);
     assert_eq!(value("answers_bytes"), 48);
     let total = value("storage_bytes") + value("calls_bytes") + value("answers_bytes");
     assert_eq!(value("memory_bytes"), total);

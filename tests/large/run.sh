@@ -1,0 +1,61 @@
+#!/bin/bash
+# Tests the crate for hosts in Rust (hosts/rust) and its program order-large, which are not proved: the
+# crate's own tests, among them order-large's reading and printing beside the proved order_job on
+# thousands of jobs; the program beside the proved program order; and, where the Rust is at hand, its
+# listings of jobs of thousands of places beside the oracle's.
+#
+# LARGE_SEED chooses the random jobs (default 1), LARGE_JOBS and LARGE_BYTES how many of them and of
+# random bytes the crate's test takes. The archives are those in the folder that ORDER_LIBS names, else
+# in target/staticlib; missing ones are built.
+set -euo pipefail
+cd "$(dirname "$0")/../.."
+
+fail() { echo "tests/large/run.sh: $*" >&2; exit 1; }
+work=target/large
+mkdir -p $work target/reference
+[ -z "${ORDER_LIBS:-}" ] || export ORDER_LIBS=$(realpath "$ORDER_LIBS")
+export LARGE_SEED=${LARGE_SEED:-1}
+
+manifest=hosts/rust/Cargo.toml
+cargo test --offline --quiet --manifest-path $manifest -- --show-output >$work/cargo.log 2>&1 ||
+  { tail -n 60 $work/cargo.log >&2; fail "cargo test"; }
+awk '/^test result: ok/ { passed += $4; parts += 1 } END {
+  printf "large: cargo test: %d tests and examples in %d parts passed\n", passed, parts; exit !passed }' $work/cargo.log
+grep '^large: ' $work/cargo.log || fail "cargo test compared nothing"
+
+cargo build --release --offline --quiet --manifest-path $manifest || fail "cargo build"
+large=target/cargo/release/order-large
+
+# The program beside the program.
+[ -x target/bin/order ] || rt check order >$work/order.log 2>&1 || { tail -n 20 $work/order.log >&2; fail "no order"; }
+reference=target/reference/reference
+newest=$(ls -t tests/reference/*.rs $reference 2>/dev/null | head -n 1) || true
+[ "$newest" = $reference ] || rustc --edition 2021 -O -o $reference tests/reference/main.rs
+$reference jobs "$LARGE_SEED" 200 >$work/random.cases
+python3 tests/large/compare.py order $large target/bin/order $work/random.cases
+
+# Jobs of thousands of places, of each kind that the benchmark has.
+rustc --edition 2021 -O --allow dead_code -o $work/jobtext bench/driver/jobtext.rs
+rm -f $work/*.job
+for name in forward poseidon chain independent delayed one-place reversed; do
+  for p in 3 70 1024; do
+    $work/jobtext $name $p 3000 1500 >$work/$name-$p.job
+  done
+done
+at_hand=$(oracle/at_hand.sh)
+if [ $at_hand = yes ]; then
+  oracle/build.sh
+  python3 tests/large/compare.py cases $large $work/*.job >$work/large.cases
+  python3 tests/reference/listings.py $work/large.cases target/oracle/oracle
+else
+  echo "large: NOT compared with the Rust"
+fi
+
+# The greatest session, from a pipe; and a long job on a terminal.
+printf '%s\n' parallelism=64999 places=16777216 set=16777215 in= out=0 final=1 | $large >$work/greatest
+diff $work/greatest <(printf '%s\n' status=0 entries=1 places=1 floor=1 median=1 \
+  'order=0 added=0 accepted=0 parallelism=1 written=1') || fail "the greatest session"
+$work/jobtext independent 1000 1100000 0 >$work/long.job
+python3 tests/large/compare.py terminal $large $work/long.job
+rm $work/*.job
+echo "large: the greatest P and V: as it should be"
