@@ -147,7 +147,7 @@ module _ (P N : ℕ) (q s o t w : List ℕ) where
   opening-number = verdict (check-alone P N (length s / 4) (length o / 4) (length t))
 
   passed-checks : opening-number ≡ 0
-      → ((ltb P 1 || ltb 64999 P) ≡ false) × ((ltb N 1 || ltb 16777216 N) ≡ false) × ((ltb (length s / 4) (32 * (P + 1)) || (ltb (length o / 4) N || ltb (length t) (P + 1))) ≡ false)
+      → ((ltb P 1 || ltb 64999 P) ≡ false) × ((ltb N 1 || ltb 16777216 N) ≡ false) × (any short ((length s / 4, spans-needed P) ∷ (length o / 4, N) ∷ (length t, tally-needed P) ∷ []) ≡ false)
   unfolding check-alone check-range
   passed-checks z =
       let x = verdict-head _ _ z (omega arith) in
