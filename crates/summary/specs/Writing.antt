@@ -90,7 +90,8 @@ pub written : (b m : ℕ) (counts sums to x y : List ℕ) → length counts ≡ 
 written b m counts sums [] x y el es h ex ey = absurd (omega arith)
 written b m counts sums (p ∷ []) x y el es h ex ey = absurd (omega arith)
 written b m counts sums (p ∷ (q ∷ to)) x y el es h ex ey =
-    ey′ ∙ ap (λ l. l ++ take 65 sums ++ drop 195 x) head ∙ ap (λ l. (b ∷ m ∷ counts) ++ l ++ drop 195 x) (take-all 65 sums (omega arith)) ∙ ap (λ l. (b ∷ m ∷ (counts ++ sums)) ++ l) rest
+    ey′ ∙ ap (λ l. l ++ take 65 sums ++ drop 195 x) head ∙ ap (λ l. (b ∷ m ∷ counts) ++ l ++ drop 195 x) (take-all 65 sums (omega arith))
+    ∙ ap (λ l. (b ∷ m ∷ (counts ++ sums)) ++ l) rest
   where
     a : List ℕ
     a = b ∷ m ∷ to

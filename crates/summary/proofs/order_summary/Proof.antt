@@ -15,16 +15,19 @@ summarize-requires c κs = let s = c .before .before .before .before in
 
 write-requires : tie.Need-write-requires
 write-requires c κs = let n = c .before .before .before in
-    let s = n .before .before .before in
-    (writable (c .before .summarize .result) (now (s .args .tally)) (c .before .summarize .ensures), accepted (now (s .args .tally)) _ (sym (n .check-summary .ensures) ∙ c .before .before .if1 .taken) .1)
+    let t = now (n .before .before .before .args .tally) in
+    let a = accepted t _ (sym (n .check-summary .ensures) ∙ c .before .before .if1 .taken) in
+    (writable (c .before .summarize .result) t (c .before .summarize .ensures), a .1)
 
 same-length : tie.Need-same-length
 same-length c = search needs
 
 returns : tie.Need-returns
-returns c = let n = c .before .before .before .before .before .before in
+returns c = let m = c .before .before .before .before in
+    let n = m .before .before in
     let s = n .before .before .before in
-    (n .check-summary .ensures, c .before .before .write .ensures ∙ after-done (n .check-summary .result) (now (s .args .tally)) (now (s .args .summary)) _ (c .before .before .before .before .before .if1 .taken) (c .before .before .before .before .summarize .ensures))
+    let done = after-done (n .check-summary .result) (now (s .args .tally)) (now (s .args .summary)) _ (m .before .if1 .taken) (m .summarize .ensures) in
+    (n .check-summary .ensures, c .before .before .write .ensures ∙ done)
 
 returns-2 : tie.Need-returns-2
 returns-2 c = let s = c .before .before .before .before in

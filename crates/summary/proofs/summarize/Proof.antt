@@ -21,7 +21,8 @@ thousands-requires c κs = search needs
 
 returns : tie.Need-returns
 unfolding figures average
-returns c = cc (c .before .before .before .average .ensures, c .before .before .median .ensures, c .before .low-counts .ensures, c .thousands .ensures, c .before .before .before .before .sum .ensures)
+returns c = let a = c .before .before .before in
+    cc (a .average .ensures, c .before .before .median .ensures, c .before .low-counts .ensures, c .thousands .ensures, a .before .sum .ensures)
 
 pub summarize-spec : {M : Type 1} → statement M
 summarize-spec =

@@ -37,8 +37,10 @@ same-length c = c .before .before .copy2 .kept .1 .0 ∙ c .before .before .befo
 
 returns : tie.Need-returns
 unfolding summary-numbers
-returns c = let s = c .before .before .before .before .before .before .before .before .before .before .before .before .before .before in
-    written _ _ (s .args .s .low) (s .args .s .thousands) (now (s .args .to)) _ _ (s .pre .0 .low) (s .pre .0 .thousands) (s .pre .1) (c .before .before .before .before .before .before .before .copy .ensures) (c .before .before .copy2 .ensures)
+returns c = let m = c .before .before .before .before .before .before .before in
+    let s = m .before .before .before .before .before .before .before in
+    let w = s .pre .0 in
+    written _ _ (s .args .s .low) (s .args .s .thousands) (now (s .args .to)) _ _ (w .low) (w .thousands) (s .pre .1) (m .copy .ensures) (c .before .before .copy2 .ensures)
 
 pub write-spec : {M : Type 1} → statement M
 write-spec =
