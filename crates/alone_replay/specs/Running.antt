@@ -11,7 +11,7 @@ use lib.ListN.{length, take, drop}
 use lib.Dec.{ltb}
 use lib.Seq.{drop-drop}
 use borrow.Author.Tests.{lt-ltb, le-ltb}
-use Rattle.rules.specs.Checks.{Check, verdict, check-range}
+use Rattle.rules.specs.Checks.{Check, verdict, any, short, spans-needed, tally-needed, check-range}
 use Rattle.rules.specs.Alone.{Alone as AloneModel, alone, check-alone, Request, reply, serve-step, serve-all}
 use Rattle.laws.specs.Accepted.{verdict-head}
 use Rattle.laws.specs.ModelBase.{bool-cases}
