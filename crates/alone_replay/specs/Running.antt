@@ -90,7 +90,8 @@ pub record Runs (p v n₀ : ℕ) (a : AloneModel) (s₀ o₀ t₀ q w : List ℕ
   pub beyond : drop (37 * n) w′ ≡ drop (37 * n) w
   pub frame : Frame p n₀ (guide .guide .written) s₀ o₀ t₀ s o t
 
-pub run-ends : (p v n₀ : ℕ) (a : AloneModel) (s₀ o₀ t₀ q w : List ℕ) (n k : ℕ) (y : Alone) (s o t w′ : List ℕ) → k ≡ n → Running p v n₀ a s₀ o₀ t₀ q w n k y s o t w′ → Runs p v n₀ a s₀ o₀ t₀ q w n s o t w′
+pub run-ends : (p v n₀ : ℕ) (a : AloneModel) (s₀ o₀ t₀ q w : List ℕ) (n k : ℕ) (y : Alone) (s o t w′ : List ℕ) → k ≡ n
+    → Running p v n₀ a s₀ o₀ t₀ q w n k y s o t w′ → Runs p v n₀ a s₀ o₀ t₀ q w n s o t w′
 unfolding requests-from serve-all answers-to
 run-ends p v n₀ a s₀ o₀ t₀ q w n k y s o t w′ e c =
     let z : n - k ≡ 0 = omega arith in
@@ -106,7 +107,8 @@ run-ends p v n₀ a s₀ o₀ t₀ q w n k y s o t w′ e c =
       frame = c .frame;
     }
 
-as-opened : {p v n₀ m₀ P N : ℕ} {a b : AloneModel} {s₀ o₀ t₀ q w : List ℕ} {n : ℕ} {s o t w′ : List ℕ} → Runs P N n₀ a s₀ o₀ t₀ q w n s o t w′ → P ≡ p → N ≡ v → a ≡ b → n₀ ≡ m₀ → Runs p v m₀ b s₀ o₀ t₀ q w n s o t w′
+as-opened : {p v n₀ m₀ P N : ℕ} {a b : AloneModel} {s₀ o₀ t₀ q w : List ℕ} {n : ℕ} {s o t w′ : List ℕ}
+    → Runs P N n₀ a s₀ o₀ t₀ q w n s o t w′ → P ≡ p → N ≡ v → a ≡ b → n₀ ≡ m₀ → Runs p v m₀ b s₀ o₀ t₀ q w n s o t w′
 as-opened r e f g h = rw (e, f, g, h) at r
 
 frame-to : {p n m m′ : ℕ} {s o t s′ o′ t′ : List ℕ} → m ≡ m′ → Frame p n m s o t s′ o′ t′ → Frame p n m′ s o t s′ o′ t′

@@ -54,7 +54,8 @@ returns-2 c = let e = c .before .before .before .before .before in
     let k = e .before in
     let a = k .before .before .before .before .args in
     let z = c .before .before .before .clear32 in
-    open-served (a .p) (a .v) (k .check-open .result) (c .fresh2 .result) (now (a .spans)) (now (a .order)) (now (a .tally)) (k .check-open .ensures) (z .last .0) (e .if1 .left) (c .fresh2 .ensures) (z .ensures)
+    open-served (a .p) (a .v) (k .check-open .result) (c .fresh2 .result) (now (a .spans)) (now (a .order)) (now (a .tally)) (k .check-open .ensures)
+    (z .last .0) (e .if1 .left) (c .fresh2 .ensures) (z .ensures)
 
 pub open-spec : {M : Type 1} → statement M
 open-spec =
