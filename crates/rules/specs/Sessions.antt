@@ -129,6 +129,8 @@ other-got =
     ∷ (verdict (check-alone 2 5 96 5 3) ∷ verdict (check-alone 2 5 95 5 3) ∷ verdict (check-alone 65000 5 95 5 3) ∷ [])
     -- the location (1,1) is not held, nor is one past the window; (0,0) and one below span 0 are fine; 14 after V pushes, before 13
     ∷ replies 1 3 (push-request none (item 0) ∷ push-request (at 1 1) (item 1) ∷ push-request (at 33 0) (item 1) ∷ push-request (at 0 0) (item 1) ∷ push-request (at 1 0) (item 2) ∷ push-request (at 99 0) (item 3) ∷ flush-request ∷ []) alone
+    -- on a fresh guide (0,1) is not held
+    ∷ (reply 3 (push-request (at 0 1) (item 0)) alone ∷ [])
     -- 14 once the last span number is 4,294,967,264
     ∷ (reply 3 flush-request (far 4294967232) ∷ reply 3 flush-request (far 4294967233) ∷ reply 3 (push-request none (item 0)) (far 4294967232) ∷ reply 3 (push-request none (item 0)) (far 4294967233) ∷ [])
     ∷ []
@@ -138,6 +140,7 @@ other-want =
     (1 ∷ 1 ∷ 1 ∷ 1 ∷ 0 ∷ 2 ∷ 2 ∷ 2 ∷ 2 ∷ [])
     ∷ (0 ∷ 2 ∷ 1 ∷ [])
     ∷ (0 ∷ 13 ∷ 13 ∷ 0 ∷ 0 ∷ 14 ∷ 0 ∷ [])
+    ∷ (13 ∷ [])
     ∷ (0 ∷ 14 ∷ 0 ∷ 14 ∷ [])
     ∷ []
 
