@@ -122,7 +122,7 @@ pub struct Next {
 // Reads the call whose first line is `line`, at `at`.
 pub fn next_call(job: &[u8], at: usize, line: u64, into: &mut [u64]) -> Next
     requires { ⌜ (at ≤ length (now job)) × ((length (now job) ≤ 2 * length (now into)) × (line ≤ 4294967296)) ⌝ }
-    ensures { λ r. ⌜ NextCall (now (job .entry)) at line (now (into .exit)) (r .act) (r .line) (r .next) ⌝ }
+    ensures { λ r. ⌜ NextCall (now (job .entry)) at line (now (into .entry)) (now (into .exit)) (r .act) (r .line) (r .next) ⌝ }
 {
     let a = line_at(job, at, into, 0);
     let l = a.line;
@@ -179,7 +179,7 @@ pub enum Head {
 // Reads the two lines of the head.
 pub fn read_head(job: &[u8], into: &mut [u64]) -> Head
     requires { ⌜ length (now job) ≤ 2 * length (now into) ⌝ }
-    ensures { λ r. ⌜ HeadRead (now (job .entry)) r ⌝ }
+    ensures { λ r. ⌜ HeadRead (now (job .entry)) r (now (into .entry)) (now (into .exit)) ⌝ }
 {
     let a = line_at(job, 0, into, 0);
     let l = a.line;

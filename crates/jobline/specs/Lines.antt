@@ -3,7 +3,7 @@ use mathlib.Core.Bool.{Bool, true, false}
 use mathlib.Core.List.{List, [], _∷_}
 use mathlib.Core.Option.{Option, some, none}
 use mathlib.Core.Path.{_≡_}
-use Prim.Native.Nat.{ℕ, _+_, _*_, _≤_}
+use Prim.Native.Nat.{ℕ, _+_, _*_, _/_, _≤_}
 use lib.ListN.{length, take, drop}
 use Rattle.rules.specs.Job as rule
 use Rattle.jobline.specs.declared.Key.{Key}
@@ -68,9 +68,12 @@ listed line.Flush = 0
 listed line.Final = 0
 listed line.Malformed = 0
 
--- the line s was read, its list into storage from `off` on: it is document 01's, it lies within, and what stands before is as it was
+-- the line s was read, its list into storage from `off` on: it is document 01's, it lies within, and what stands before and past it is as
+-- it was; of a malformed line some numbers may stand there, at most half as many as it has bytes
 pub record LineRead (entry exit : List ℕ) (off : ℕ) (s : List ℕ) (r : Line) : Type 0 where
   pub reads : line-as r (drop off exit) ≡ rule.line-of s
   pub few : 2 * listed r ≤ length s
   pub within : off + listed r ≤ length exit
   pub kept : take off exit ≡ take off entry
+  pub past : (r ≡ line.Malformed → ⊥) → drop (off + listed r) exit ≡ drop (off + listed r) entry
+  pub beyond : drop (off + length s / 2) exit ≡ drop (off + length s / 2) entry

@@ -2,12 +2,13 @@
 use mathlib.Core.List.{List, [], _∷_}
 use mathlib.Core.Option.{Option, some, none}
 use mathlib.Core.Path.{_≡_, refl, sym, ap, _∙_, subst}
-use Prim.Native.Nat.{ℕ, suc, _+_, _-_, _*_, _≤_, _<_, zero-le}
+use Prim.Native.Nat.{ℕ, suc, _+_, _-_, _*_, _/_, _≤_, _<_, zero-le}
 use native.Mathlib.Omega.{arith}
 use lib.ListN.{length, take, drop, length-take, length-drop, drop-of-length-le}
 use lib.Seq.{take-all}
 use Rattle.rules.specs.Job as rule
 use Rattle.jobtext.specs.Text.{value-of, list-of, count, ListRead}
+use Rattle.jobtext.specs.Lists.{drop-past}
 use Rattle.jobtext.specs.declared.Number.{Number}
 use Rattle.jobtext.specs.declared.Number.the-variants as number
 use Rattle.jobtext.specs.declared.Items.{Items}
@@ -28,7 +29,7 @@ tail s k = take-all (length s - k) (drop k s) (rw (length-drop k s) (omega arith
 module _ (s into : List ℕ) (off : ℕ) (room : 2 * off + length s < 2 * length into) where
   -- a line without a list: storage is as it was
   pub plain : (l : Line) → listed l ≡ 0 → line-as l (drop off into) ≡ rule.line-of s → LineRead into into off s l
-  plain l n e = record { reads = e; few = omega (arith, n); within = omega (arith, n); kept = refl }
+  plain l n e = record { reads = e; few = omega (arith, n); within = omega (arith, n); kept = refl; past = λ x. refl; beyond = refl }
 
   -- a number after its key of k bytes, of which f makes a line
   module _ (k : ℕ) (f : ℕ → rule.Line) (e : rule.with-number f (rule.number (drop k s)) ≡ rule.line-of s) (r : Number)
@@ -68,6 +69,11 @@ module _ (s into : List ℕ) (off : ℕ) (room : 2 * off + length s < 2 * length
     short : 2 * count r ≤ length s
     short = omega (arith, k₁, in-s, simp (length-take, length-drop) at (read .few))
 
+    list-beyond : drop (off + length s / 2) exit ≡ drop (off + length s / 2) into
+    list-beyond =
+        drop-past (off + (length (take (length s - k) (drop k s)) + 1) / 2) (off + length s / 2) exit into
+        (simp (length-take, length-drop) (omega (arith, k₁, in-s))) (read .beyond)
+
     pub list-line : (l : Line) (n : ℕ) → r ≡ items.Count n → listed l ≡ n → line-as l (drop off exit) ≡ f (take n (drop off exit)) → LineRead into exit off s l
     unfolding rule.with-list
     list-line l n v ln as-f =
@@ -77,6 +83,8 @@ module _ (s into : List ℕ) (off : ℕ) (room : 2 * off + length s < 2 * length
           few = omega (arith, m, short);
           within = omega (arith, m, read .within);
           kept = read .kept;
+          past = λ x. rw m (read .past (λ y. let z : _≡_ {A = ℕ} 0 1 = cc in absurd (omega arith)));
+          beyond = list-beyond;
         }
 
     pub no-list : r ≡ items.Malformed → LineRead into exit off s line.Malformed
@@ -87,4 +95,6 @@ module _ (s into : List ℕ) (off : ℕ) (room : 2 * off + length s < 2 * length
           few = zero-le;
           within = omega (arith, read .within);
           kept = read .kept;
+          past = λ x. absurd (x refl);
+          beyond = list-beyond;
         }

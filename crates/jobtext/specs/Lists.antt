@@ -2,19 +2,25 @@
 use mathlib.Core.List.{List, [], _∷_, _++_, append-assoc}
 use mathlib.Core.Option.{Option, none, some}
 use mathlib.Core.Path.{_≡_, refl, sym, ap, _∙_}
-use Prim.Native.Nat.{ℕ, zero, suc, _+_, _-_, _*_, _≤_, _<_, zero-le, suc-le-suc}
+use Prim.Native.Nat.{ℕ, zero, suc, _+_, _-_, _*_, _/_, _≤_, _<_, zero-le, suc-le-suc}
 use native.Mathlib.Decide.{decLt}
 use native.Mathlib.Nat.{suc-ne-zero}
 use native.Mathlib.Numerals.{add-one}
 use native.Mathlib.Omega.{arith}
 use lib.ListN.{length, getD, take, drop, set, length-drop, length-take, length-set}
-use lib.Seq.{take-all, drop-drop, take-suc-set, drop-set-add, take-set-le}
+use lib.Seq.{take-all, drop-drop, take-suc-set, drop-set-add, drop-set-lt, take-set-le}
 use Rattle.rules.specs.Job.{fields-from, both, number, numbers, list}
 use Rattle.jobtext.specs.Text.{before, ListRead}
 use Rattle.jobtext.specs.Pieces.{before-le, fields-more, fields-last}
 use Rattle.jobtext.specs.Numbers.{number-some}
 use Rattle.jobtext.specs.declared.Items.{Items}
 use Rattle.jobtext.specs.declared.Items.the-variants as items
+
+-- lists that agree from n on agree from any later place on
+pub drop-past : (n m : ℕ) (a b : List ℕ) → n ≤ m → drop n a ≡ drop n b → drop m a ≡ drop m b
+drop-past n m a b h e =
+    let q : n + (m - n) ≡ m = omega arith in
+    ap (λ (i : ℕ). drop i a) (sym q) ∙ sym (drop-drop (m - n) n a) ∙ ap (drop (m - n)) e ∙ drop-drop (m - n) n b ∙ ap (λ (i : ℕ). drop i b) q
 
 -- p is read, and o tells what is left
 unfoldable pub prefixed : List ℕ → Option (List ℕ) → Option (List ℕ)
@@ -83,9 +89,10 @@ pub record Reading (s entry into : List ℕ) (off at n : ℕ) : Type 0 where
   pub same : length into ≡ length entry
   pub left : Left s at (take n (drop off into))
   pub kept : take off into ≡ take off entry
+  pub past : drop (off + n) into ≡ drop (off + n) entry
 
 pub reading-begins : (s entry : List ℕ) (off : ℕ) → (length s ≡ 0 → ⊥) → Reading s entry entry off 0 0
-reading-begins s entry off n = record { inside = zero-le; slow = zero-le; same = refl; left = left-begins s entry off n; kept = refl }
+reading-begins s entry off n = record { inside = zero-le; slow = zero-le; same = refl; left = left-begins s entry off n; kept = refl; past = refl }
 
 -- a turn, whose field ends at e
 module _ {s entry into : List ℕ} {off at n : ℕ} (i : Reading s entry into off at n) (room : 2 * off + length s < 2 * length entry)
@@ -103,6 +110,8 @@ module _ {s entry into : List ℕ} {off at n : ℕ} (i : Reading s entry into of
         few = zero-le;
         within = omega arith;
         kept = i .kept;
+        past = λ x. absurd (x refl);
+        beyond = drop-past (off + n) (off + (length s + 1) / 2) into entry (omega (arith, i .slow, i .inside)) (i .past);
       }
 
   module _ (v : ℕ) (h : some v ≡ number (take (e - at) (drop at s))) where
@@ -115,6 +124,9 @@ module _ {s entry into : List ℕ} {off at n : ℕ} (i : Reading s entry into of
     before-kept : take off (set into (off + n) v) ≡ take off entry
     before-kept = take-set-le off into (off + n) v (omega arith) ∙ i .kept
 
+    past-kept : drop (off + (n + 1)) (set into (off + n) v) ≡ drop (off + (n + 1)) entry
+    past-kept = drop-set-lt (off + (n + 1)) into (off + n) v (omega arith) ∙ drop-past (off + n) (off + (n + 1)) into entry (omega arith) (i .past)
+
     pub says-all : e ≡ length s → ListRead entry (set into (off + n) v) off s (items.Count (n + 1))
     says-all d =
         record {
@@ -124,6 +136,8 @@ module _ {s entry into : List ℕ} {off at n : ℕ} (i : Reading s entry into of
           few = omega (arith, not-empty, d);
           within = simp length-set (omega (arith, not-empty, d));
           kept = before-kept;
+          past = λ x. past-kept;
+          beyond = drop-past (off + (n + 1)) (off + (length s + 1) / 2) (set into (off + n) v) entry (omega (arith, not-empty, d, i .slow)) past-kept;
         }
 
     pub reads-on : (e ≡ length s → ⊥) → Reading s entry (set into (off + n) v) off (e + 1) (n + 1)
@@ -135,9 +149,10 @@ module _ {s entry into : List ℕ} {off at n : ℕ} (i : Reading s entry into of
           same = simp length-set (i .same);
           left = rw (stored, found) (list-more s at (take n (drop off into)) (i .inside) (i .left) v (h ∙ ap number as-field) lt);
           kept = before-kept;
+          past = past-kept;
         }
 
 pub says-none : (s into : List ℕ) (off : ℕ) → 2 * off + length s < 2 * length into → length s ≡ 0 → ListRead into into off s (items.Count 0)
 unfolding list
-says-none [] into off room e = record { reads = refl; few = zero-le; within = omega arith; kept = refl }
+says-none [] into off room e = record { reads = refl; few = zero-le; within = omega arith; kept = refl; past = λ x. refl; beyond = refl }
 says-none (x ∷ l) into off room e = absurd (suc-ne-zero (length l) e)

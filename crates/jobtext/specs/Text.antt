@@ -3,7 +3,7 @@ use mathlib.Core.List.{List, [], _∷_}
 use mathlib.Core.Bool.{Bool, true, false}
 use mathlib.Core.Option.{Option, some, none}
 use mathlib.Core.Path.{_≡_}
-use Prim.Native.Nat.{ℕ, zero, suc, _+_, _*_, _≤_}
+use Prim.Native.Nat.{ℕ, zero, suc, _+_, _*_, _/_, _≤_}
 use lib.ListN.{length, take, drop}
 use lib.Dec.{eqb}
 use Rattle.rules.specs.Job.{list}
@@ -31,9 +31,12 @@ abbrev pub count : Items → ℕ
 count (items.Count n) = n
 count items.Malformed = 0
 
--- a list was read from the bytes s into storage from `off` on: it is document 01's, it lies within, and what stands before is as it was
+-- a list was read from the bytes s into storage from `off` on: it is document 01's, it lies within, and what stands before and past it
+-- is as it was; of a malformed list some numbers may stand there, at most half as many as it has bytes
 pub record ListRead (entry exit : List ℕ) (off : ℕ) (s : List ℕ) (r : Items) : Type 0 where
   pub reads : list-of r (drop off exit) ≡ list s
   pub few : 2 * count r ≤ length s + 1
   pub within : off + count r ≤ length exit
   pub kept : take off exit ≡ take off entry
+  pub past : (r ≡ items.Malformed → ⊥) → drop (off + count r) exit ≡ drop (off + count r) entry
+  pub beyond : drop (off + (length s + 1) / 2) exit ≡ drop (off + (length s + 1) / 2) entry

@@ -123,6 +123,53 @@ line-of bs =
     (key-or (after-key flush-text bs) (whole flush-line)
     (key-or (after-key final-text bs) (whole final-line) malformed))))))
 
+-- what a line says where one of the head's or an `out=` line must stand, and where a call must start; any other line says nothing there
+abbrev pub parallelism-of : Line → Option ℕ
+parallelism-of (parallelism-line n) = some n
+parallelism-of (places-line n) = none
+parallelism-of (set-line n) = none
+parallelism-of (in-line ns) = none
+parallelism-of (out-line ns) = none
+parallelism-of flush-line = none
+parallelism-of final-line = none
+parallelism-of malformed = none
+
+abbrev pub places-of : Line → Option ℕ
+places-of (parallelism-line n) = none
+places-of (places-line n) = some n
+places-of (set-line n) = none
+places-of (in-line ns) = none
+places-of (out-line ns) = none
+places-of flush-line = none
+places-of final-line = none
+places-of malformed = none
+
+abbrev pub outputs-of : Line → Option (List ℕ)
+outputs-of (parallelism-line n) = none
+outputs-of (places-line n) = none
+outputs-of (set-line n) = none
+outputs-of (in-line ns) = none
+outputs-of (out-line ns) = some ns
+outputs-of flush-line = none
+outputs-of final-line = none
+outputs-of malformed = none
+
+-- a call starts: one of a single line, an add by its inputs, or final
+pub data Start : Type 0 where
+  single : Call → Start
+  inputs : List ℕ → Start
+  last : Start
+
+abbrev pub start-of : Line → Option Start
+start-of (parallelism-line n) = none
+start-of (places-line n) = none
+start-of (set-line n) = some (single (set n))
+start-of (in-line ns) = some (inputs ns)
+start-of (out-line ns) = none
+start-of flush-line = some (single flush)
+start-of final-line = some last
+start-of malformed = none
+
 -- how a job ends: closed, with P and the model, or refused with its line and number
 pub data Outcome : Type 0 where
   finished : ℕ → Model → Outcome
@@ -142,26 +189,16 @@ closing P n (l ∷ ls) rag k = rejected n 15
 unfoldable pub run-lines : ℕ → ℕ → ℕ → ℕ → Option (List ℕ) → List (List ℕ) → Bool → Model → Outcome
 run-lines P N W n begun [] rag k = rejected n 15
 run-lines P N W n none (l ∷ ls) rag k =
-    elim (line-of l) [
-      | set-line x ↦ on-line n (answer N W (set x) k) (run-lines P N W (suc n) none ls rag (step P N W (set x) k))
-      | in-line ins ↦ run-lines P N W (suc n) (some ins) ls rag k
-      | flush-line ↦ on-line n (answer N W flush k) (run-lines P N W (suc n) none ls rag (step P N W flush k))
-      | final-line ↦ on-line n (answer N W final k) (closing P (suc n) ls rag (step P N W final k))
-      | parallelism-line x ↦ rejected n 15
-      | places-line x ↦ rejected n 15
-      | out-line outs ↦ rejected n 15
-      | malformed ↦ rejected n 15
+    elim (start-of (line-of l)) [
+      | some (single c) ↦ on-line n (answer N W c k) (run-lines P N W (suc n) none ls rag (step P N W c k))
+      | some (inputs ins) ↦ run-lines P N W (suc n) (some ins) ls rag k
+      | some last ↦ on-line n (answer N W final k) (closing P (suc n) ls rag (step P N W final k))
+      | none ↦ rejected n 15
     ]
 run-lines P N W n (some ins) (l ∷ ls) rag k =
-    elim (line-of l) [
-      | out-line outs ↦ on-line n (answer N W (add ins outs) k) (run-lines P N W (suc n) none ls rag (step P N W (add ins outs) k))
-      | parallelism-line x ↦ rejected n 15
-      | places-line x ↦ rejected n 15
-      | set-line x ↦ rejected n 15
-      | in-line xs ↦ rejected n 15
-      | flush-line ↦ rejected n 15
-      | final-line ↦ rejected n 15
-      | malformed ↦ rejected n 15
+    elim (outputs-of (line-of l)) [
+      | some outs ↦ on-line n (answer N W (add ins outs) k) (run-lines P N W (suc n) none ls rag (step P N W (add ins outs) k))
+      | none ↦ rejected n 15
     ]
 
 -- storage for P ≤ 64, V ≤ 512, W = 4,096
@@ -175,32 +212,58 @@ job-pool = 4096
 unfoldable pub run-places : ℕ → List (List ℕ) → Bool → Outcome
 run-places P [] rag = rejected 2 15
 run-places P (l ∷ ls) rag =
-    elim (line-of l) [
-      | places-line N ↦ on-line 2 (verdict (check-open P N job-sizes)) (run-lines P N job-pool 3 none ls rag initial)
-      | parallelism-line x ↦ rejected 2 15
-      | set-line x ↦ rejected 2 15
-      | in-line xs ↦ rejected 2 15
-      | out-line xs ↦ rejected 2 15
-      | flush-line ↦ rejected 2 15
-      | final-line ↦ rejected 2 15
-      | malformed ↦ rejected 2 15
+    elim (places-of (line-of l)) [
+      | some N ↦ on-line 2 (verdict (check-open P N job-sizes)) (run-lines P N job-pool 3 none ls rag initial)
+      | none ↦ rejected 2 15
     ]
 
 -- line 1
 unfoldable pub run-job : List (List ℕ) → Bool → Outcome
 run-job [] rag = rejected 1 15
-run-job (l ∷ ls) rag =
-    elim (line-of l) [
-      | parallelism-line P ↦ run-places P ls rag
-      | places-line x ↦ rejected 1 15
-      | set-line x ↦ rejected 1 15
-      | in-line xs ↦ rejected 1 15
-      | out-line xs ↦ rejected 1 15
-      | flush-line ↦ rejected 1 15
-      | final-line ↦ rejected 1 15
-      | malformed ↦ rejected 1 15
-    ]
+run-job (l ∷ ls) rag = elim (parallelism-of (line-of l)) [ some P ↦ run-places P ls rag | none ↦ rejected 1 15 ]
 
 -- 16: a job over 65,536 bytes, before anything else
 unfoldable pub outcome : List ℕ → Outcome
 outcome bs = elim (ltb 65536 (length bs)) [ true ↦ rejected 1 16 | false ↦ run-job (lines bs) (ragged bs) ]
+
+-- the model after the accepted calls of some lines, up to the first line that is refused
+unfoldable pub reached-lines : ℕ → ℕ → ℕ → Option (List ℕ) → List (List ℕ) → Model → Model
+reached-lines P N W begun [] k = k
+reached-lines P N W none (l ∷ ls) k =
+    elim (start-of (line-of l)) [
+      | some (single c) ↦ elim (eqb (answer N W c k) 0) [ true ↦ reached-lines P N W none ls (step P N W c k) | false ↦ k ]
+      | some (inputs ins) ↦ reached-lines P N W (some ins) ls k
+      | some last ↦ step P N W final k
+      | none ↦ k
+    ]
+reached-lines P N W (some ins) (l ∷ ls) k =
+    elim (outputs-of (line-of l)) [
+      | some outs ↦ elim (eqb (answer N W (add ins outs) k) 0) [ true ↦ reached-lines P N W none ls (step P N W (add ins outs) k) | false ↦ k ]
+      | none ↦ k
+    ]
+
+-- where a job's session ends: P and V are the numbers of its first two lines, and the model is the one that its accepted calls reach
+pub record Reached : Type 0 where
+  pub parallelism : ℕ
+  pub places : ℕ
+  pub model : Model
+
+-- none where no session was opened: a job that is too long, a head that is malformed, an opening that is refused
+unfoldable pub reached-places : ℕ → List (List ℕ) → Option Reached
+reached-places P [] = none
+reached-places P (l ∷ ls) =
+    elim (places-of (line-of l)) [
+      | some N ↦
+          elim (eqb (verdict (check-open P N job-sizes)) 0) [
+            | true ↦ some (record { parallelism = P; places = N; model = reached-lines P N job-pool none ls initial })
+            | false ↦ none
+          ]
+      | none ↦ none
+    ]
+
+unfoldable pub reached-job : List (List ℕ) → Option Reached
+reached-job [] = none
+reached-job (l ∷ ls) = elim (parallelism-of (line-of l)) [ some P ↦ reached-places P ls | none ↦ none ]
+
+unfoldable pub reached : List ℕ → Option Reached
+reached bs = elim (ltb 65536 (length bs)) [ true ↦ none | false ↦ reached-job (lines bs) ]
