@@ -3,8 +3,8 @@ use mathlib.Core.List.{List, [], _∷_, _++_, append-nil}
 use mathlib.Core.Path.{_≡_, refl, sym, ap, _∙_, subst}
 use Prim.Native.Nat.{ℕ, zero, suc, _+_, _*_, _≤_, _<_, min}
 use native.Mathlib.Omega.{arith}
-use lib.ListN.{length, take, drop, length-take, length-append}
-use lib.Seq.{paste, take-at}
+use lib.ListN.{length, take, drop, length-take, length-append, take-append-drop}
+use lib.Seq.{paste, take-at, drop-at}
 use lib.Dec.{ltb}
 use borrow.Author.Tests.{lt-ltb, le-ltb}
 use Rattle.rules.specs.Model.{Model}
@@ -16,63 +16,66 @@ use Rattle.writer.specs.Wrote.{Wrote}
 use Rattle.report.specs.Report.{Shown, MayReport, Reports}
 use Rattle.job.specs.declared.End.{End}
 use Rattle.job.specs.declared.End.the-variants as end
-use Rattle.job.specs.Run.{Closed, Tells, Ran}
+use Rattle.job.specs.Run.{Closed, Refused, Tells, Ran}
 use Rattle.host.specs.declared.Reply.{Reply}
 use Rattle.host.specs.declared.Reply.the-variants as reply
-use Rattle.host.specs.Reply.{reply-as, Small, Replied, Called}
+use Rattle.host.specs.Reply.{reply-as, Small, Replied, Answered, Called}
 
 -- what was written from the start on lies within the bytes
 pub wrote-in : {a b : List ℕ} {n : ℕ} {t : List ℕ} → Wrote a b 0 n t → n ≤ length b
 wrote-in {a} {b} {n} {t} w = omega (arith, w .next, sym (length-take n b) ∙ ap length (w .holds))
 
 -- a job that was refused
-pub replied-refused : (job bytes : List ℕ) (n code : ℕ) (x : End) (σ : Storage) → Ran job x σ → x ≡ end.Rejected n code → Replied job bytes bytes (reply.Refused n code)
+pub replied-refused : (job bytes : List ℕ) (n code : ℕ) (x : End) {σ σ′ : Storage} {a b : List ℕ} → Ran job x σ σ′ a b → x ≡ end.Rejected n code → Replied job bytes bytes (reply.Refused n code)
 unfolding rule.reply told rule.bytes-after
-replied-refused job bytes n code x σ r e =
-    let r′ = subst (λ (y : End). Ran job y σ) e r in
-    let q : rule.reply (length bytes) job ≡ rule.refused n code = ap (told (length bytes)) (r′ .tells) in
+replied-refused job bytes n code x {σ} {σ′} {a} {b} r e =
+    let r′ = subst (λ (y : End). Ran job y σ σ′ a b) e r in
+    let q : rule.reply (length bytes) job ≡ rule.refused n code = ap (told (length bytes)) (r′ .tells .is) in
     record { is = sym q; bytes = sym (ap (λ (y : rule.Reply). rule.bytes-after y bytes) q); small = (r′ .low .0, omega (arith, r′ .low .1)) }
 
 -- a job that was finished, over order o, tally t and rows rs
-module _ (job : List ℕ) (w pl p : ℕ) (x : End) (sp o t rs m l wa pool : List ℕ) (r : Ran job x (storage sp o t rs m l wa pool)) (e : x ≡ end.Finished w pl p) where
-  done : Ran job (end.Finished w pl p) (storage sp o t rs m l wa pool)
-  done = subst (λ (y : End). Ran job y (storage sp o t rs m l wa pool)) e r
+module _ (job : List ℕ) (w pl p : ℕ) (x : End) (sp o t rs m l wa pool : List ℕ) {σ : Storage} {a b : List ℕ}
+    (r : Ran job x σ (storage sp o t rs m l wa pool) a b) (e : x ≡ end.Finished w pl p) where
+  done : Closed job σ (storage sp o t rs m l wa pool) w pl p
+  done = subst (λ (y : End). Ran job y σ (storage sp o t rs m l wa pool) a b) e r .tells
 
-  shown : Shown (done .parallelism) (done .places) 4096 (done .tells .model) o t rs w pl p
+  abbrev P : ℕ
+  P = done .last .parallelism
+
+  abbrev N : ℕ
+  N = done .last .places
+
+  abbrev model : Model
+  model = done .last .model
+
+  shown : Shown P N 4096 model o t rs w pl p
   shown =
       record {
-        session = done .tells .session;
+        session = done .session;
         spans = sp;
         marks = m;
         locations = l;
         waiting = wa;
         pool = pool;
-        rep = done .tells .held .rep;
-        between = done .tells .held .between;
-        written-is = done .tells .written-is;
-        places-is = done .tells .places-is;
-        p-is = done .tells .parallelism-is;
+        rep = done .standing .held .rep;
+        between = done .standing .held .between;
+        written-is = done .written-is;
+        places-is = done .places-is;
+        p-is = done .parallelism-is;
       }
 
   pub may-report : (room : ℕ) → room ≡ 65536 → length o ≡ 2048 → MayReport room o t rs w pl p
   may-report room q h =
-      let g = done .tells .held .rep .core .guided in
-      record {
-        P = done .parallelism;
-        N = done .places;
-        W = 4096;
-        model = done .tells .model;
-        shown = shown;
-        enough = omega (arith, g .stands .order-long, g .v-is);
-      }
+      let g = done .standing .held .rep .core .guided in
+      record { P = P; N = N; W = 4096; model = model; shown = shown; enough = omega (arith, g .stands .order-long, g .v-is) }
 
   module _ (blank page : List ℕ) (n : ℕ) (long : length page ≡ 65536) (u : Reports blank page o t rs w pl p n) where
     text : List ℕ
-    text = listing (done .parallelism) (done .tells .model)
+    text = listing P model
 
     wrote : Wrote blank page 0 n text
     unfolding text
-    wrote = u (done .parallelism) (done .places) 4096 (done .tells .model) shown
+    wrote = u P N 4096 model shown
 
     text-is : take n page ≡ text
     text-is = wrote .holds
@@ -85,7 +88,7 @@ module _ (job : List ℕ) (w pl p : ℕ) (x : End) (sp o t rs m l wa pool : List
 
     replies : (bytes : List ℕ) → rule.reply (length bytes) job ≡ fit (length bytes) text
     unfolding rule.reply told text
-    replies bytes = ap (told (length bytes)) (done .tells .is)
+    replies bytes = ap (told (length bytes)) (done .is)
 
     pub replied-17 : (bytes : List ℕ) → length bytes < n → Replied job bytes bytes (reply.Refused 1 17)
     unfolding fit rule.bytes-after
@@ -129,14 +132,38 @@ module _ {job entry exit : List ℕ} {x : Reply} (r : Replied job entry exit x) 
 
   -- what the program prints
   module _ (long : length entry ≡ 65536) where
-    pub answer-listed : (n : ℕ) → x ≡ reply.Listed n → take n exit ≡ program job
+    printed-is : printed (reply-as x exit) ≡ program job
     unfolding program printed
+    printed-is = ap printed (r .is) ∙ ap (λ (i : ℕ). printed (rule.reply i job)) long
+
+    pub answer-listed : (n : ℕ) → x ≡ reply.Listed n → Answered job entry exit n
+    unfolding printed rule.bytes-after
     answer-listed n e =
         let r′ = subst (λ (y : Reply). Replied job entry exit y) e r in
-        ap printed (r′ .is) ∙ ap (λ (i : ℕ). printed (rule.reply i job)) long
+        let t : take n exit ≡ program job = ap (λ (y : Reply). printed (reply-as y exit)) (sym e) ∙ printed-is in
+        let q : length (take n exit) ≡ n = omega (arith, length-take n exit, r′ .small .0) in
+        record {
+          small = r′ .small .1;
+          text = t;
+          bytes = r′ .bytes ∙ ap (λ (y : rule.Reply). rule.bytes-after y entry) (sym (r′ .is))
+              ∙ ap (λ (i : ℕ). take n exit ++ drop i entry) q ∙ ap (λ (y : List ℕ). y ++ drop n entry) t;
+        }
 
-    pub answer-refused : (line code : ℕ) → x ≡ reply.Refused line code → (out : List ℕ) (n : ℕ) → Wrote exit out 0 n (rejection line code) → take n out ≡ program job
-    unfolding program printed
-    answer-refused line code e out n w =
+    pub answer-refused : (line code : ℕ) → x ≡ reply.Refused line code → (out : List ℕ) (n : ℕ) → n ≤ 65536 → Wrote exit out 0 n (rejection line code)
+        → Answered job entry out n
+    unfolding printed rule.bytes-after
+    answer-refused line code e out n h w =
         let r′ = subst (λ (y : Reply). Replied job entry exit y) e r in
-        w .holds ∙ ap printed (r′ .is) ∙ ap (λ (i : ℕ). printed (rule.reply i job)) long
+        let t : take n out ≡ program job = w .holds ∙ ap (λ (y : Reply). printed (reply-as y exit)) (sym e) ∙ printed-is in
+        let q : exit ≡ entry = r′ .bytes ∙ ap (λ (y : rule.Reply). rule.bytes-after y entry) (sym (r′ .is)) in
+        record {
+          small = h;
+          text = t;
+          bytes = sym (take-append-drop n out) ∙ ap (λ (y : List ℕ). y ++ drop n out) t ∙ ap (λ (y : List ℕ). program job ++ y) (w .rest ∙ ap (drop n) q);
+        }
+
+-- so nothing past what the program prints is written
+pub past-answer : {job entry exit : List ℕ} {r : ℕ} → length exit ≡ length entry → length entry ≡ 65536 → Answered job entry exit r → drop r exit ≡ drop r entry
+past-answer {job} {entry} {exit} {r} l e h =
+    let q : length (program job) ≡ r = sym (ap length (h .text)) ∙ omega (arith, length-take r exit, h .small) in
+    ap (drop r) (h .bytes) ∙ drop-at (program job) (drop r entry) r q

@@ -22,6 +22,12 @@ pub record Replied (job entry exit : List ℕ) (r : Reply) : Type 0 where
   pub bytes : exit ≡ rule.bytes-after (rule.reply (length entry) job) entry
   pub small : Small r exit
 
+-- the program's answer: what it prints stands at the start of the bytes, and what stands past it is as it was
+pub record Answered (job entry exit : List ℕ) (r : ℕ) : Type 0 where
+  pub small : r ≤ 65536
+  pub text : take r exit ≡ rule.program job
+  pub bytes : exit ≡ rule.program job ++ drop r entry
+
 -- the exported call: its result and the listing bytes after it
 pub record Called (job entry exit : List ℕ) (r : ℕ) : Type 0 where
   pub result : r ≡ rule.result (rule.reply (length entry) job)

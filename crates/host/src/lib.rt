@@ -3,7 +3,7 @@ ghost use mathlib.Core.Path.{_≡_};
 ghost use Prim.Native.Nat.{ℕ, _+_, _*_, _≤_, _<_};
 ghost use lib.ListN.{length, take};
 ghost use Rattle.rules.specs.Listing.{reply as Listing·reply, result, bytes-after, program};
-ghost use Rattle.host.specs.Reply.{Replied, Called};
+ghost use Rattle.host.specs.Reply.{Replied, Answered, Called};
 use job::End;
 
 // The answer to a job: the listing's length, or the line and the number of its refusal.
@@ -63,10 +63,10 @@ pub extern "C" fn order_job(job: &[u8], listing: &mut [u8]) -> u64
     }
 }
 
-// What the program prints for a job stands at the start of `out`; its length is returned.
+// What the program prints for a job stands at the start of `out`; its length is returned, and what stands past it is left.
 pub fn answer(job: &[u8], out: &mut [u8]) -> usize
     requires { ⌜ length (now out) ≡ 65536 ⌝ }
-    ensures { λ r. ⌜ (r ≤ 65536) × (take r (now (out .exit)) ≡ program (now (job .entry))) ⌝ }
+    ensures { λ r. ⌜ Answered (now (job .entry)) (now (out .entry)) (now (out .exit)) r ⌝ }
 {
     let r = reply_to(job, out);
     match r {

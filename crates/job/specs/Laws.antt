@@ -1,95 +1,167 @@
 -- Laws of running a job: what remains of it is kept by each turn. Assumes nothing.
 use mathlib.Core.Bool.{Bool, true, false}
 use mathlib.Core.List.{List, [], _∷_}
+use mathlib.Core.Logic.{_⊎_, inl, inr}
 use mathlib.Core.Option.{Option, some, none}
 use mathlib.Core.Path.{_≡_, refl, sym, ap, _∙_, subst}
-use Prim.Native.Nat.{ℕ, _+_, _*_, _≤_, _<_}
+use Prim.Native.Nat.{ℕ, _+_, _*_, _/_, _≤_, _<_}
 use native.Mathlib.Omega.{arith}
 use lib.ListN.{length, drop}
 use lib.Dec.{ltb, eqb}
 use borrow.Author.Tests.{lt-ltb, le-ltb, eq-eqb, ne-eqb}
 use Rattle.rules.specs.Model.{Model, initial}
 use Rattle.rules.specs.Checks.{verdict, check-open}
-use Rattle.rules.specs.Job.{Outcome, finished, rejected, outcome, lines, ragged, run-lines, run-job, on-line, job-sizes, job-pool}
+use Rattle.rules.specs.Calls as calls
+use Rattle.rules.specs.Calls.{Call, step}
+use Rattle.rules.specs.Job.{Outcome, finished, rejected, outcome, lines, ragged, run-lines, on-line, job-sizes, job-pool, Reached, reached, reached-lines}
 use Rattle.laws.specs.Sound.{Between, between-initial}
+use Rattle.guide.specs.Fresh.{first-guide}
 use Rattle.session.specs.declared.Session.{Session}
-use Rattle.session.specs.Storage.{Storage}
+use Rattle.session.specs.Storage.{Storage, Beyond, Frame, beyond-refl, beyond-drop, beyond-trans, frame-refl, frame-trans}
 use Rattle.session.specs.Rep.{Rep}
 use Rattle.admitting.specs.Promise.{Asks}
 use Rattle.opening.specs.Opened.{Opens, enough-of}
-use Rattle.jobcalls.specs.Told.{HeadRead}
+use Rattle.jobcalls.specs.Told.{Run, whole-run, HeadRead}
 use Rattle.jobcalls.specs.declared.Head.{Head}
 use Rattle.jobcalls.specs.declared.Head.the-variants as head
 use Rattle.jobturn.specs.declared.Step.{Step}
-use Rattle.jobturn.specs.declared.Step.the-variants as step
-use Rattle.jobturn.specs.Turned.{remains, Held, Turned, MayTurn}
+use Rattle.jobturn.specs.declared.Step.the-variants as step′
+use Rattle.jobturn.specs.Turned.{remains, Held, Refuses, Surplus, Turned, MayTurn}
 use Rattle.job.specs.declared.End.{End}
 use Rattle.job.specs.declared.End.the-variants as end
 use Rattle.jobturn.specs.Laws.{open-low}
-use Rattle.job.specs.Run.{Closed, Tells, Low, MayRun, Runs, Room, Ran}
+use Rattle.job.specs.Run.{Standing, Left, Refused, Closed, Tells, Low, MayRun, outcome-as, Figures, Stopped, Runs, Room, Ran}
 
--- where the loop stands, begun with s and σ: for every P and V for which they are a fresh session, a model is held, for which what
--- remains is what remained at the start
-pub record Running (s : Session) (σ : Storage) (job : List ℕ) (start : ℕ) (s′ : Session) (σ′ : Storage) (at n : ℕ) : Type 0 where
+-- begun with s and σ, the calls up to `at` lead to a model, for which what remains is what remained at the start
+pub record Going (P N W : ℕ) (s : Session) (σ : Storage) (job : List ℕ) (start : ℕ) (s′ : Session) (σ′ : Storage) (at n : ℕ) : Type 0 where
+  pub model : Model
+  pub held : Held P N W s′ σ′ model
+  pub same : remains P N W job start 3 initial ≡ remains P N W job at n model
+  pub frame : Frame P N (s .guide .written) (s′ .guide .written) σ σ′
+
+-- where the loop stands: so for every P and V for which s and σ are a fresh session
+pub record Running (s : Session) (σ : Storage) (job : List ℕ) (start : ℕ) (s′ : Session) (σ′ : Storage) (at n : ℕ) (a b : List ℕ) : Type 0 where
   pub inside : at ≤ length job
   pub low : n ≤ at + 3
-  pub stands : (P N : ℕ) → 1 ≤ P → Rep P N initial s σ
-      → (k : Model) × (Held P N (length (σ .pool)) s′ σ′ k × (remains P N (length (σ .pool)) job start 3 initial ≡ remains P N (length (σ .pool)) job at n k))
+  pub stands : (P N : ℕ) → 1 ≤ P → Rep P N initial s σ → Going P N (length (σ .pool)) s σ job start s′ σ′ at n
+  pub into : Beyond (length job / 2) a b
+
+-- a turn's frame, for the P and V for which the session before it stands
+module _ {P N W : ℕ} {s : Session} {σ : Storage} {job : List ℕ} {start : ℕ} {s′ : Session} {σ′ : Storage} {at n : ℕ} (g : Going P N W s σ job start s′ σ′ at n) where
+  frame-on : (t : Session) (τ : Storage) → Frame (s′ .guide .p) (s′ .guide .v) (s′ .guide .written) (t .guide .written) σ′ τ
+      → Frame P N (s .guide .written) (t .guide .written) σ τ
+  frame-on t τ f =
+      let h = g .held .rep .core .guided in
+      frame-trans P N (s .guide .written) (s′ .guide .written) (t .guide .written) σ σ′ τ (g .frame)
+      (subst (λ (x : ℕ). Frame x N (s′ .guide .written) (t .guide .written) σ′ τ) (h .p-is)
+      (subst (λ (x : ℕ). Frame (s′ .guide .p) x (s′ .guide .written) (t .guide .written) σ′ τ) (h .v-is) f))
 
 module _ {s : Session} {σ : Storage} {job : List ℕ} {room start : ℕ} (m : MayRun s σ job room start) where
-  pub running-begins : Running s σ job start s σ start 3
-  running-begins =
+  pub running-begins : (a : List ℕ) → Running s σ job start s σ start 3 a a
+  running-begins a =
       record {
         inside = m .inside;
         low = omega arith;
-        stands = λ P N hP r. (initial, (record { rep = r; between = between-initial P N (length (σ .pool)) hP; pool = refl }, refl));
+        stands = λ P N hP r.
+            record {
+              model = initial;
+              held = record { rep = r; between = between-initial P N (length (σ .pool)) hP; pool = refl };
+              same = refl;
+              frame = frame-refl P N (s .guide .written) σ;
+            };
+        into = beyond-refl _ a;
       }
 
-  module _ {s′ : Session} {σ′ : Storage} {at n : ℕ} (r : Running s σ job start s′ σ′ at n) where
+  module _ {s′ : Session} {σ′ : Storage} {at n : ℕ} {a b : List ℕ} (r : Running s σ job start s′ σ′ at n a b) where
     pub running-may : (room′ : ℕ) → room′ ≡ room → MayTurn s′ σ′ job room′ at n
     running-may room′ e =
         let h = r .stands (m .parallelism) (m .places) (m .positive) (m .rep) in
         record {
-          asks = record { parallelism = m .parallelism; places = m .places; model = h .0; rep = h .1 .0 .rep; between = rw (h .1 .0 .pool) (h .1 .0 .between) };
+          asks = record { parallelism = m .parallelism; places = m .places; model = h .model; rep = h .held .rep; between = rw (h .held .pool) (h .held .between) };
           inside = r .inside;
           half = rw e (m .half);
           low = omega (arith, r .low, r .inside, m .short);
         }
 
-    module _ {t : Session} {τ : Storage} {x : Step} (d : Turned job at n s′ x t σ′ τ) where
-      pub runs-on : (next i : ℕ) → x ≡ step.On next i → Running s σ job start t τ next i
+    module _ {t : Session} {τ : Storage} {x : Step} {b′ : List ℕ} (d : Turned job at n s′ x t σ′ τ b b′) where
+      numbers : Beyond (length job / 2) a b′
+      numbers = beyond-trans (length job / 2) (length job / 2) a b b′ (omega arith) (r .into) (d .into)
+
+      pub runs-on : (next i : ℕ) → x ≡ step′.On next i → Running s σ job start t τ next i a b′
       runs-on next i e =
-          let d′ = subst (λ (y : Step). Turned job at n s′ y t σ′ τ) e d in
+          let d′ = subst (λ (y : Step). Turned job at n s′ y t σ′ τ b b′) e d in
           record {
             inside = d′ .further .1 .0;
             low = omega (arith, d′ .further, r .low);
             stands = λ P N hP q.
                 let h = r .stands P N hP q in
-                let g = d′ .tells P N (length (σ .pool)) (h .0) hP (h .1 .0) in
-                (g .0, (g .1 .0, h .1 .1 ∙ g .1 .1));
+                let g = d′ .tells P N (length (σ .pool)) (h .model) hP (h .held) in
+                record {
+                  model = step P N (length (σ .pool)) (g .0) (h .model);
+                  held = g .1 .0 .held;
+                  same = h .same ∙ g .1 .1;
+                  frame = frame-on h t τ (d′ .frame);
+                };
+            into = numbers;
           }
 
-      pub falls : (next i : ℕ) → x ≡ step.On next i → (at < next) × (next ≤ length job)
-      falls next i e = let d′ = subst (λ (y : Step). Turned job at n s′ y t σ′ τ) e d in (d′ .further .0, d′ .further .1 .0)
+      pub falls : (next i : ℕ) → x ≡ step′.On next i → (at < next) × (next ≤ length job)
+      falls next i e = let d′ = subst (λ (y : Step). Turned job at n s′ y t σ′ τ b b′) e d in (d′ .further .0, d′ .further .1 .0)
 
-      pub runs-finished : x ≡ step.Finished → Runs s σ job start (end.Finished (t .guide .written) (t .places) (t .guide .p)) τ
+      pub runs-finished : x ≡ step′.Finished → Runs s σ job start (end.Finished (t .guide .written) (t .places) (t .guide .p)) τ a b′
       runs-finished e =
-          let d′ = subst (λ (y : Step). Turned job at n s′ y t σ′ τ) e d in
+          let d′ = subst (λ (y : Step). Turned job at n s′ y t σ′ τ b b′) e d in
           record {
             tells = λ P N hP q.
                 let h = r .stands P N hP q in
-                let g = d′ .tells P N (length (σ .pool)) (h .0) hP (h .1 .0) in
-                record { model = g .0; session = t; held = g .1 .0; is = h .1 .1 ∙ g .1 .1; written-is = refl; places-is = refl; parallelism-is = refl };
+                let g = d′ .tells P N (length (σ .pool)) (h .model) hP (h .held) in
+                record {
+                  model = step P N (length (σ .pool)) calls.final (h .model);
+                  session = t;
+                  held = g .0 .held;
+                  is = h .same ∙ g .1;
+                  frame = frame-on h t τ (d′ .frame);
+                  figures = (refl, (refl, refl));
+                };
             low = tt;
+            into = numbers;
           }
 
-      pub runs-rejected : (i code : ℕ) → x ≡ step.Rejected i code → Runs s σ job start (end.Rejected i code) τ
+      pub runs-rejected : (i code : ℕ) → x ≡ step′.Rejected i code → Runs s σ job start (end.Rejected i code) τ a b′
       runs-rejected i code e =
-          let d′ = subst (λ (y : Step). Turned job at n s′ y t σ′ τ) e d in
+          let d′ = subst (λ (y : Step). Turned job at n s′ y t σ′ τ b b′) e d in
           record {
-            tells = λ P N hP q. let h = r .stands P N hP q in h .1 .1 ∙ d′ .tells P N (length (σ .pool)) (h .0) hP (h .1 .0);
+            tells = λ P N hP q.
+                let h = r .stands P N hP q in
+                stopped P N h (d′ .frame) (d′ .tells P N (length (σ .pool)) (h .model) hP (h .held));
             low = (omega (arith, d′ .further, r .low, r .inside, m .short), d′ .further .1);
+            into = numbers;
           }
+        where
+          stopped : (P N : ℕ) (h : Going P N (length (σ .pool)) s σ job start s′ σ′ at n)
+              → Frame (s′ .guide .p) (s′ .guide .v) (s′ .guide .written) (t .guide .written) σ′ τ
+              → Refuses (h .model) s′ t σ′ τ i code (remains P N (length (σ .pool)) job at n (h .model))
+                  ⊎ Surplus P N (length (σ .pool)) (h .model) t τ i code (remains P N (length (σ .pool)) job at n (h .model))
+              → Stopped P N (length (σ .pool)) s σ τ (end.Rejected i code) (remains P N (length (σ .pool)) job start 3 initial)
+          stopped P N h f (inl y) =
+              record {
+                model = h .model;
+                session = t;
+                held = subst (λ (z : Session). Held P N (length (σ .pool)) z τ (h .model)) (sym (y .session))
+                    (subst (λ (z : Storage). Held P N (length (σ .pool)) s′ z (h .model)) (sym (y .storage)) (h .held));
+                is = h .same ∙ y .is;
+                frame = frame-on h t τ f;
+                figures = tt;
+              }
+          stopped P N h f (inr y) =
+              record {
+                model = step P N (length (σ .pool)) calls.final (h .model);
+                session = t;
+                held = y .final .held;
+                is = h .same ∙ y .is;
+                frame = frame-on h t τ f;
+                figures = tt;
+              }
 
 -- every slice keeps its length
 pub record Lengths (σ τ : Storage) (a b : List ℕ) : Type 0 where
@@ -122,25 +194,58 @@ lengths-trans x y =
     }
 
 -- a job too long, one with a bad head, one that opening refuses, and one that is run
-pub ran-long : (job : List ℕ) (σ : Storage) → 65536 < length job → Ran job (end.Rejected 1 16) σ
-unfolding outcome
-ran-long job σ h = record { parallelism = 0; places = 0; tells = rw (outcome, lt-ltb 65536 (length job) h); low = (omega arith, omega arith) }
+pub ran-long : (job : List ℕ) (σ : Storage) (a : List ℕ) → 65536 < length job → Ran job (end.Rejected 1 16) σ σ a a
+unfolding outcome reached
+ran-long job σ a h =
+    let n : reached job ≡ none = rw (reached, lt-ltb 65536 (length job) h) in
+    record {
+      tells = record { is = rw (outcome, lt-ltb 65536 (length job) h); left = subst (λ (x : Option Reached). Left x σ σ) (sym n) refl };
+      low = (omega arith, omega arith);
+      into = beyond-refl _ a;
+    }
 
 module _ (job : List ℕ) (short : length job ≤ 65536) where
-  not-long : outcome job ≡ run-job (lines job) (ragged job)
-  unfolding outcome
-  not-long = rw (outcome, le-ltb 65536 (length job) short)
+  abbrev whole : Outcome × Option Reached
+  whole = (outcome job, reached job)
 
-  pub ran-malformed : (n : ℕ) (h : Head) → HeadRead job h → h ≡ head.Malformed n → (σ : Storage) → Ran job (end.Rejected n 15) σ
-  ran-malformed n h r e σ =
-      let r′ = subst (λ (x : Head). HeadRead job x) e r in
-      record { parallelism = 0; places = 0; tells = not-long ∙ r′ .runs (ragged job); low = (omega (arith, r′ .starts), omega arith) }
+  not-long : whole ≡ whole-run (lines job) (ragged job)
+  unfolding outcome reached
+  not-long = rw (outcome, reached, le-ltb 65536 (length job) short)
 
-  module _ (P N start : ℕ) (h : Head) (r : HeadRead job h) (e : h ≡ head.Sizes P N start) where
-    sized : HeadRead job (head.Sizes P N start)
-    sized = subst (λ (x : Head). HeadRead job x) e r
+  -- no session was opened
+  unopened : (σ : Storage) (n code : ℕ) → whole ≡ (rejected n code, none) → Refused job σ σ n code
+  unopened σ n code q =
+      record {
+        is = ap (λ (x : Outcome × Option Reached). x .0) q;
+        left = subst (λ (x : Option Reached). Left x σ σ) (sym (ap (λ (x : Outcome × Option Reached). x .1) q)) refl;
+      }
 
-    opening-next : outcome job ≡ on-line 2 (verdict (check-open P N job-sizes)) (run-lines P N job-pool 3 none (lines (drop start job)) (ragged job) initial)
+  pub ran-malformed : (n : ℕ) (h : Head) (a b : List ℕ) → HeadRead job h a b → length b ≡ length a → h ≡ head.Malformed n → (σ : Storage) → Ran job (end.Rejected n 15) σ σ a b
+  ran-malformed n h a b r l e σ =
+      let r′ = subst (λ (x : Head). HeadRead job x a b) e r in
+      record {
+        tells = unopened σ n 15 (not-long ∙ r′ .runs (ragged job));
+        low = (omega (arith, r′ .starts), omega arith);
+        into = beyond-drop (length job / 2) (length job / 2) a b (omega arith) l (r′ .into);
+      }
+
+  module _ (P N start : ℕ) (h : Head) (a b : List ℕ) (r : HeadRead job h a b) (e : h ≡ head.Sizes P N start) where
+    sized : HeadRead job (head.Sizes P N start) a b
+    sized = subst (λ (x : Head). HeadRead job x a b) e r
+
+    -- what opening leaves of the run
+    opened : ℕ → Outcome × Option Reached
+    opened x =
+        (
+          on-line 2 x (run-lines P N job-pool 3 none (lines (drop start job)) (ragged job) initial),
+          elim (eqb x 0) [
+            | true ↦ some (record { parallelism = P; places = N; model = reached-lines P N job-pool none (lines (drop start job)) initial })
+            | false ↦ none
+          ],
+        )
+
+    opening-next : whole ≡ opened (verdict (check-open P N job-sizes))
+    unfolding opened
     opening-next = not-long ∙ sized .runs (ragged job)
 
     module _ (number : ℕ) (s : Session) (σ τ : Storage) (room : ℕ) (R : Room σ room) (o : Opens P N number s σ τ) where
@@ -148,14 +253,14 @@ module _ (job : List ℕ) (short : length job ≤ 65536) where
       unfolding job-sizes
       number-is = o .number ∙ rw (R .spans, R .order, R .tally, R .rows, R .marks, R .locations, R .waiting)
 
-      pub ran-refused : (number ≡ 0 → ⊥) → (υ : Storage) → Ran job (end.Rejected 2 number) υ
-      unfolding on-line
-      ran-refused z υ =
+      pub ran-refused : (number ≡ 0 → ⊥) → Ran job (end.Rejected 2 number) σ τ a b
+      unfolding on-line opened
+      ran-refused z =
+          let q : opened number ≡ (rejected 2 number, none) = rw (on-line, ne-eqb number 0 z) in
           record {
-            parallelism = 0;
-            places = 0;
-            tells = opening-next ∙ ap (λ (x : ℕ). on-line 2 x (run-lines P N job-pool 3 none (lines (drop start job)) (ragged job) initial)) (sym number-is) ∙ rw (on-line, ne-eqb number 0 z);
+            tells = subst (λ (x : Storage). Refused job σ x 2 number) (sym (o .refused z)) (unopened σ 2 number (opening-next ∙ ap opened (sym number-is) ∙ q));
             low = (omega arith, rw number-is (open-low P N job-sizes));
+            into = subst (λ (x : List ℕ). Beyond (length job / 2) a x) (sym (sized .into)) (beyond-refl _ a);
           }
 
       module _ (z : number ≡ 0) where
@@ -174,18 +279,65 @@ module _ (job : List ℕ) (short : length job ≤ 65536) where
               short = short;
             }
 
-        pub ran-all : (x : End) (υ : Storage) → Runs s τ job start x υ → length (τ .pool) ≡ length (σ .pool) → Ran job x υ
-        unfolding remains on-line
-        ran-all x υ u l =
-            let w : length (τ .pool) ≡ job-pool = l ∙ R .pool in
-            let f : outcome job ≡ remains P N job-pool job start 3 initial =
-            opening-next ∙ ap (λ (y : ℕ). on-line 2 y (run-lines P N job-pool 3 none (lines (drop start job)) (ragged job) initial)) (sym number-is ∙ z)
-            ∙ ap (λ (b : Bool). run-lines P N job-pool 3 none (lines (drop start job)) b initial) (sym (sized .starts .1 .1))
-            in
+        -- the run of the calls is the job's
+        runs-whole : whole ≡ (remains P N job-pool job start 3 initial .0, some (record { parallelism = P; places = N; model = remains P N job-pool job start 3 initial .1 }))
+        unfolding remains on-line opened
+        runs-whole =
+            let q : eqb number 0 ≡ true = eq-eqb number 0 z in
+            opening-next ∙ ap opened (sym number-is) ∙ rw (on-line, q)
+            (ap (λ (x : Bool). (run-lines P N job-pool 3 none (lines (drop start job)) x initial, some (record { parallelism = P; places = N; model = reached-lines P N job-pool none (lines (drop start job)) initial })))
+            (sym (sized .starts .1 .1)))
+
+        standing : (x : End) (υ : Storage) (u : Stopped P N job-pool s τ υ x (remains P N job-pool job start 3 initial))
+            → Standing (record { parallelism = P; places = N; model = u .model }) (u .session) σ υ
+        unfolding first-guide
+        standing x υ u =
+            let w : s .guide .written ≡ 0 = ap (λ (y : Session). y .guide .written) (o .session z) in
             record {
-              parallelism = P;
-              places = N;
-              tells = subst (λ (y : Outcome). Tells P N job-pool υ x y) (sym f)
-                  (subst (λ (y : ℕ). Tells P N y υ x (remains P N y job start 3 initial)) w (u .tells P N positive (o .rep z)));
-              low = u .low;
+              held = u .held;
+              frame = frame-trans P N 0 0 (u .session .guide .written) σ τ υ (o .frame z)
+                  (subst (λ (y : ℕ). Frame P N y (u .session .guide .written) τ υ) w (u .frame));
             }
+
+        module _ (x : End) (υ : Storage) (u : Stopped P N job-pool s τ υ x (remains P N job-pool job start 3 initial)) where
+          abbrev there : Reached
+          there = record { parallelism = P; places = N; model = u .model }
+
+          is-reached : reached job ≡ some there
+          is-reached =
+              ap (λ (y : Outcome × Option Reached). y .1) runs-whole
+              ∙ ap (λ (y : Run). some (record { parallelism = P; places = N; model = y .1 })) (u .is)
+
+          is-outcome : outcome job ≡ outcome-as x P (u .model)
+          is-outcome = ap (λ (y : Outcome × Option Reached). y .0) runs-whole ∙ ap (λ (y : Run). y .0) (u .is)
+
+        told : (x : End) (υ : Storage) → Stopped P N job-pool s τ υ x (remains P N job-pool job start 3 initial) → Tells job σ υ x
+        told (end.Rejected i code) υ u =
+            record {
+              is = is-outcome (end.Rejected i code) υ u;
+              left = subst (λ (y : Option Reached). Left y σ υ) (sym (is-reached (end.Rejected i code) υ u)) (u .session, standing (end.Rejected i code) υ u);
+            }
+        told (end.Finished w pl p) υ u =
+            record {
+              last = there (end.Finished w pl p) υ u;
+              reached-is = is-reached (end.Finished w pl p) υ u;
+              is = is-outcome (end.Finished w pl p) υ u;
+              session = u .session;
+              standing = standing (end.Finished w pl p) υ u;
+              written-is = u .figures .0;
+              places-is = u .figures .1 .0;
+              parallelism-is = u .figures .1 .1;
+            }
+
+        pub ran-all : (x : End) (υ : Storage) (b′ : List ℕ) → Runs s τ job start x υ b b′ → length (τ .pool) ≡ length (σ .pool) → Ran job x σ υ a b′
+        ran-all x υ b′ u l =
+            let w : length (τ .pool) ≡ job-pool = l ∙ R .pool in
+            record {
+              tells = told x υ (subst (λ (y : ℕ). Stopped P N y s τ υ x (remains P N y job start 3 initial)) w (u .tells P N positive (o .rep z)));
+              low = u .low;
+              into = subst (λ (y : List ℕ). Beyond (length job / 2) y b′) (sized .into) (u .into);
+            }
+
+-- so a job that is too long, whose head is malformed or that opening refuses has written nothing
+pub nothing-written : {job : List ℕ} {n code : ℕ} {σ σ′ : Storage} {a b : List ℕ} → reached job ≡ none → Ran job (end.Rejected n code) σ σ′ a b → σ′ ≡ σ
+nothing-written {job} {n} {code} {σ} {σ′} {a} {b} e r = subst (λ (x : Option Reached). Left x σ σ′) e (r .tells .left)

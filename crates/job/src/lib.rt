@@ -30,7 +30,7 @@ fn run_calls(
     start: usize,
 ) -> End
     requires { ⌜ MayRun s (storage (now spans) (now order) (now tally) (now rows) (now marks) (now locs) (now waiting) (now pool)) (now job) (length (now into)) start ⌝ }
-    ensures { λ r. ⌜ Runs s (storage (now (spans .entry)) (now (order .entry)) (now (tally .entry)) (now (rows .entry)) (now (marks .entry)) (now (locs .entry)) (now (waiting .entry)) (now (pool .entry))) (now (job .entry)) start r (storage (now (spans .exit)) (now (order .exit)) (now (tally .exit)) (now (rows .exit)) (now (marks .exit)) (now (locs .exit)) (now (waiting .exit)) (now (pool .exit))) ⌝ }
+    ensures { λ r. ⌜ Runs s (storage (now (spans .entry)) (now (order .entry)) (now (tally .entry)) (now (rows .entry)) (now (marks .entry)) (now (locs .entry)) (now (waiting .entry)) (now (pool .entry))) (now (job .entry)) start r (storage (now (spans .exit)) (now (order .exit)) (now (tally .exit)) (now (rows .exit)) (now (marks .exit)) (now (locs .exit)) (now (waiting .exit)) (now (pool .exit))) (now (into .entry)) (now (into .exit)) ⌝ }
 {
     let mut session = s;
     let mut at = start;
@@ -84,7 +84,7 @@ pub fn run(
     job: &[u8],
 ) -> End
     requires { ⌜ Room (storage (now spans) (now order) (now tally) (now rows) (now marks) (now locs) (now waiting) (now pool)) (length (now into)) ⌝ }
-    ensures { λ r. ⌜ Ran (now (job .entry)) r (storage (now (spans .exit)) (now (order .exit)) (now (tally .exit)) (now (rows .exit)) (now (marks .exit)) (now (locs .exit)) (now (waiting .exit)) (now (pool .exit))) ⌝ }
+    ensures { λ r. ⌜ Ran (now (job .entry)) r (storage (now (spans .entry)) (now (order .entry)) (now (tally .entry)) (now (rows .entry)) (now (marks .entry)) (now (locs .entry)) (now (waiting .entry)) (now (pool .entry))) (storage (now (spans .exit)) (now (order .exit)) (now (tally .exit)) (now (rows .exit)) (now (marks .exit)) (now (locs .exit)) (now (waiting .exit)) (now (pool .exit))) (now (into .entry)) (now (into .exit)) ⌝ }
 {
     if job.len() > 65536 {
         return End::Rejected(1, 16);

@@ -4,7 +4,7 @@ use mathlib.Core.List.{List, [], _∷_}
 use mathlib.Core.Logic.{_⊎_, inl, inr}
 use mathlib.Core.Option.{Option, some, none}
 use mathlib.Core.Path.{_≡_, refl, sym, ap, _∙_, subst}
-use Prim.Native.Nat.{ℕ, zero, suc, _+_, _-_, _*_, _≤_, _<_}
+use Prim.Native.Nat.{ℕ, zero, suc, _+_, _-_, _*_, _/_, _≤_, _<_}
 use native.Mathlib.Decide.{decLt}
 use native.Mathlib.Numerals.{add-one}
 use native.Mathlib.Omega.{arith}
@@ -20,16 +20,16 @@ use Rattle.laws.specs.Sound.{Between}
 use Rattle.jobtext.specs.Text.{before}
 use Rattle.jobtext.specs.Pieces.{bool, lines-more, lines-last, ragged-last, before-le}
 use Rattle.session.specs.declared.Session.{Session}
-use Rattle.session.specs.Storage.{Storage}
+use Rattle.session.specs.Storage.{Storage, Beyond, Frame, beyond-drop, frame-refl}
 use Rattle.session.specs.Rep.{Rep}
-use Rattle.admitting.specs.Promise.{Asks, Called}
+use Rattle.admitting.specs.Promise.{Asks, Called, step-refused}
 use Rattle.sorter.specs.Chain.{follows-step}
 use Rattle.jobcalls.specs.declared.Act.{Act}
 use Rattle.jobcalls.specs.declared.Act.the-variants as act
-use Rattle.jobcalls.specs.Told.{call-of, taken-by, goes, NextCall}
+use Rattle.jobcalls.specs.Told.{call-of, taken-by, Run, reads, makes, goes, NextCall}
 use Rattle.jobturn.specs.declared.Step.{Step}
 use Rattle.jobturn.specs.declared.Step.the-variants as step′
-use Rattle.jobturn.specs.Turned.{kind-of, Makes, remains, Held, Tells, Further, MayTurn, Turned}
+use Rattle.jobturn.specs.Turned.{kind-of, Makes, remains, Held, Accepts, Refuses, Surplus, Tells, Further, MayTurn, Turned}
 
 -- the end of a job: nothing may follow final
 ends : (P n : ℕ) (k : Model) (l : List ℕ) → length l ≡ 0 → closing P n (lines l) (ragged l) k ≡ finished P k
@@ -44,32 +44,34 @@ surplus P n k (b ∷ l) h = elim (decLt (before 10 (b ∷ l)) (length (b ∷ l))
 
 -- the run from a call on, by its number
 module _ (P N W m : ℕ) (rest : List (List ℕ)) (rag : Bool) (k : Model) where
-  goes-refused : (c : Call) → (answer N W c k ≡ 0 → ⊥) → goes P N W m (some c) rest rag k ≡ rejected m (answer N W c k)
+  makes-refused : (c : Call) → (answer N W c k ≡ 0 → ⊥) → makes P N W m c rest rag k ≡ (rejected m (answer N W c k), k)
+  unfolding on-line
+  makes-refused c h = rw (on-line, ne-eqb (answer N W c k) 0 h)
+
+  makes-on : (c : Call) → answer N W c k ≡ 0 → makes P N W m c rest rag k ≡ reads P N W (suc m) none rest rag (step P N W c k)
+  unfolding on-line
+  makes-on c h = rw (on-line, eq-eqb (answer N W c k) 0 h)
+
+  goes-refused : (c : Call) → (answer N W c k ≡ 0 → ⊥) → goes P N W m (some c) rest rag k ≡ (rejected m (answer N W c k), k)
   unfolding goes on-line
-  goes-refused (calls.set x) h = rw (on-line, ne-eqb (answer N W (calls.set x) k) 0 h)
-  goes-refused (calls.add i o) h = rw (on-line, ne-eqb (answer N W (calls.add i o) k) 0 h)
-  goes-refused calls.flush h = rw (on-line, ne-eqb (answer N W calls.flush k) 0 h)
-  goes-refused calls.final h = rw (on-line, ne-eqb (answer N W calls.final k) 0 h)
+  goes-refused (calls.set x) h = makes-refused (calls.set x) h
+  goes-refused (calls.add i o) h = makes-refused (calls.add i o) h
+  goes-refused calls.flush h = makes-refused calls.flush h
+  goes-refused calls.final h = rw (on-line, ne-eqb (answer N W calls.final k) 0 h, step-refused P N W calls.final k h)
 
   goes-on : (a : Act) (read : List ℕ) → kind-of a ≡ 1 → (c : Call) → call-of a read ≡ some c → answer N W c k ≡ 0
-      → goes P N W m (call-of a read) rest rag k ≡ run-lines P N W (suc m) none rest rag (step P N W c k)
-  unfolding goes on-line
-  goes-on (act.Set x) read e c q h =
-      let r : calls.set x ≡ c = cc in
-      let h′ : answer N W (calls.set x) k ≡ 0 = ap (λ (y : Call). answer N W y k) r ∙ h in
-      rw (on-line, eq-eqb (answer N W (calls.set x) k) 0 h′) (ap (λ (y : Call). run-lines P N W (suc m) none rest rag (step P N W y k)) r)
+      → goes P N W m (call-of a read) rest rag k ≡ reads P N W (suc m) none rest rag (step P N W c k)
+  unfolding goes
+  goes-on (act.Set x) read e c q h = let r : calls.set x ≡ c = cc in ap (λ (y : Call). makes P N W m y rest rag k) r ∙ makes-on c h
   goes-on (act.Add i o) read e c q h =
       let r : calls.add (take i read) (take o (drop i read)) ≡ c = cc in
-      let h′ : answer N W (calls.add (take i read) (take o (drop i read))) k ≡ 0 = ap (λ (y : Call). answer N W y k) r ∙ h in
-      rw (on-line, eq-eqb (answer N W (calls.add (take i read) (take o (drop i read))) k) 0 h′) (ap (λ (y : Call). run-lines P N W (suc m) none rest rag (step P N W y k)) r)
-  goes-on act.Flush read e c q h =
-      let r : calls.flush ≡ c = cc in
-      let h′ : answer N W calls.flush k ≡ 0 = ap (λ (y : Call). answer N W y k) r ∙ h in
-      rw (on-line, eq-eqb (answer N W calls.flush k) 0 h′) (ap (λ (y : Call). run-lines P N W (suc m) none rest rag (step P N W y k)) r)
+      ap (λ (y : Call). makes P N W m y rest rag k) r ∙ makes-on c h
+  goes-on act.Flush read e c q h = let r : calls.flush ≡ c = cc in ap (λ (y : Call). makes P N W m y rest rag k) r ∙ makes-on c h
   goes-on act.Final read e c q h = absurd (omega arith)
   goes-on act.Malformed read e c q h = absurd (omega arith)
 
-  goes-final : answer N W calls.final k ≡ 0 → goes P N W m (some calls.final) rest rag k ≡ closing P (suc m) rest rag (step P N W calls.final k)
+  goes-final : answer N W calls.final k ≡ 0
+      → goes P N W m (some calls.final) rest rag k ≡ (closing P (suc m) rest rag (step P N W calls.final k), step P N W calls.final k)
   unfolding goes on-line
   goes-final h = rw (on-line, eq-eqb (answer N W calls.final k) 0 h)
 
@@ -125,54 +127,78 @@ call-some act.Flush read z = (calls.flush, refl)
 call-some act.Final read z = (calls.final, refl)
 call-some act.Malformed read z = absurd (z refl)
 
-module _ {job read : List ℕ} {at n m next : ℕ} {a : Act} (s : Session) (σ : Storage) (c : NextCall job at n read a m next) where
+module _ {job entry read : List ℕ} {at n m next : ℕ} {a : Act} (s : Session) (σ : Storage) (c : NextCall job at n entry read a m next)
+    (same : length read ≡ length entry) where
   begins : (P N W : ℕ) (k : Model) → remains P N W job at n k ≡ goes P N W m (call-of a read) (lines (drop next job)) (ragged (drop next job)) k
   unfolding remains
   begins P N W k = c .runs P N W (ragged (drop at job)) k ∙ ap (λ (b : Bool). goes P N W m (call-of a read) (lines (drop next job)) b k) (sym (c .end))
 
-  pub turn-malformed : kind-of a ≡ 0 → (τ : Storage) → Turned job at n s (step′.Rejected m 15) s σ τ
+  numbers : Beyond (length job / 2) entry read
+  numbers = beyond-drop (length job / 2) (length job / 2) entry read (omega arith) same (c .into-beyond)
+
+  pub turn-malformed : kind-of a ≡ 0 → Turned job at n s (step′.Rejected m 15) s σ σ entry read
   unfolding goes
-  turn-malformed e τ =
+  turn-malformed e =
       record {
-        tells = λ P N W k hP h. begins P N W k ∙ ap (λ (x : Act). goes P N W m (call-of x read) (lines (drop next job)) (ragged (drop next job)) k) (is-malformed a e);
+        tells = λ P N W k hP h.
+            inl (record {
+              session = refl;
+              storage = refl;
+              is = begins P N W k ∙ ap (λ (x : Act). goes P N W m (call-of x read) (lines (drop next job)) (ragged (drop next job)) k) (is-malformed a e);
+            });
         further = (omega (arith, c .low), omega arith);
+        frame = frame-refl _ _ _ σ;
+        into = numbers;
       }
 
   module _ (z : kind-of a ≡ 0 → ⊥) {num : ℕ} {s′ : Session} {σ′ : Storage} (made : Makes a read num s s′ σ σ′) where
     abbrev made-call : Call
     made-call = call-some a read z .0
 
+    was-made : Called made-call num s s′ σ σ′
+    was-made = made made-call (call-some a read z .1)
+
     stepped : (P N W : ℕ) (k : Model) → 1 ≤ P → Held P N W s σ k → (num ≡ answer N W made-call k) × Held P N W s′ σ′ (step P N W made-call k)
     stepped P N W k hP h =
-        let f = follows-step P N W hP made-call k num s s′ σ σ′ (h .pool) (h .rep) (h .between) (made made-call (call-some a read z .1)) in
+        let f = follows-step P N W hP made-call k num s s′ σ σ′ (h .pool) (h .rep) (h .between) was-made in
         (f .0, record { rep = f .1; between = f .2; pool = f .3 })
 
-    pub turn-refused : Asks s σ → (num ≡ 0 → ⊥) → (t : Session) → Turned job at n s (step′.Rejected m num) t σ σ′
-    turn-refused q r t =
-        let d = made made-call (call-some a read z .1) .keeps (q .parallelism) (q .places) (q .model) (q .rep) (q .between) in
+    pub turn-refused : Asks s σ → (num ≡ 0 → ⊥) → Turned job at n s (step′.Rejected m num) s σ σ′ entry read
+    turn-refused q r =
+        let d = was-made .keeps (q .parallelism) (q .places) (q .model) (q .rep) (q .between) in
+        let u : σ′ ≡ σ = was-made .refused r .1 in
         record {
           tells = λ P N W k hP h.
               let f = stepped P N W k hP h in
-              begins P N W k ∙ ap (λ (o : Option Call). goes P N W m o (lines (drop next job)) (ragged (drop next job)) k) (call-some a read z .1)
-              ∙ goes-refused P N W m (lines (drop next job)) (ragged (drop next job)) k made-call (λ e. r (f .0 ∙ e)) ∙ ap (rejected m) (sym (f .0));
+              inl (record {
+                session = refl;
+                storage = u;
+                is = begins P N W k ∙ ap (λ (o : Option Call). goes P N W m o (lines (drop next job)) (ragged (drop next job)) k) (call-some a read z .1)
+                    ∙ goes-refused P N W m (lines (drop next job)) (ragged (drop next job)) k made-call (λ e. r (f .0 ∙ e))
+                    ∙ ap (λ (i : ℕ). (rejected m i, k)) (sym (f .0));
+              });
           further = (omega (arith, c .low), rw (d .0) (answer-low (q .places) (length (σ .pool)) made-call (q .model)));
+          frame = subst (λ (x : Storage). Frame (s .guide .p) (s .guide .v) (s .guide .written) (s .guide .written) σ x) (sym u) (frame-refl _ _ _ σ);
+          into = numbers;
         }
 
     module _ (ok : num ≡ 0) where
-      pub turn-on : kind-of a ≡ 1 → Turned job at n s (step′.On next (m + 1)) s′ σ σ′
+      pub turn-on : kind-of a ≡ 1 → Turned job at n s (step′.On next (m + 1)) s′ σ σ′ entry read
       unfolding remains
       turn-on e =
           record {
             tells = λ P N W k hP h.
                 let f = stepped P N W k hP h in (
-                  step P N W made-call k,
+                  made-call,
                   (
-                    f .1,
+                    record { accepted = sym (f .0) ∙ ok; held = f .1 },
                     begins P N W k ∙ goes-on P N W m (lines (drop next job)) (ragged (drop next job)) k a read e made-call (call-some a read z .1) (sym (f .0) ∙ ok)
-                        ∙ ap (λ (i : ℕ). run-lines P N W i none (lines (drop next job)) (ragged (drop next job)) (step P N W made-call k)) (sym (add-one m)),
+                        ∙ ap (λ (i : ℕ). reads P N W i none (lines (drop next job)) (ragged (drop next job)) (step P N W made-call k)) (sym (add-one m)),
                   ),
                 );
             further = go (c .past);
+            frame = was-made .frame;
+            into = numbers;
           }
         where
           go : (a ≡ act.Malformed) ⊎ (at + m + 1 ≤ next + n) → (at < next) × ((next ≤ length job) × (at + (m + 1) ≤ next + n))
@@ -180,35 +206,43 @@ module _ {job read : List ℕ} {at n m next : ℕ} {a : Act} (s : Session) (σ :
           go (inr h) = (omega (arith, c .high), (c .within, omega arith))
 
       module _ (o : kind-of a ≡ 1 → ⊥) where
-        closes : (P N W : ℕ) (k : Model) → 1 ≤ P → Held P N W s σ k → (q : Model) × (Held P N W s′ σ′ q × (remains P N W job at n k ≡ closing P (suc m) (lines (drop next job)) (ragged (drop next job)) q))
-        closes P N W k hP h =
+        closed : (P N W : ℕ) (k : Model) → 1 ≤ P → Held P N W s σ k
+            → Accepts P N W calls.final k s′ σ′ × (remains P N W job at n k ≡ (closing P (suc m) (lines (drop next job)) (ragged (drop next job)) (step P N W calls.final k), step P N W calls.final k))
+        closed P N W k hP h =
             let e = is-final a z o in
             let x : call-of a read ≡ some calls.final = ap (λ (y : Act). call-of y read) e in
             let f = follows-step P N W hP calls.final k num s s′ σ σ′ (h .pool) (h .rep) (h .between) (made calls.final x) in (
-              step P N W calls.final k,
-              (
-                record { rep = f .1; between = f .2; pool = f .3 },
-                begins P N W k ∙ ap (λ (y : Option Call). goes P N W m y (lines (drop next job)) (ragged (drop next job)) k) x
-                    ∙ goes-final P N W m (lines (drop next job)) (ragged (drop next job)) k (sym (f .0) ∙ ok),
-              ),
+              record { accepted = sym (f .0) ∙ ok; held = record { rep = f .1; between = f .2; pool = f .3 } },
+              begins P N W k ∙ ap (λ (y : Option Call). goes P N W m y (lines (drop next job)) (ragged (drop next job)) k) x
+                  ∙ goes-final P N W m (lines (drop next job)) (ragged (drop next job)) k (sym (f .0) ∙ ok),
             )
 
-        pub turn-finished : next ≡ length job → Turned job at n s step′.Finished s′ σ σ′
+        pub turn-finished : next ≡ length job → Turned job at n s step′.Finished s′ σ σ′ entry read
         turn-finished e =
             record {
               tells = λ P N W k hP h.
-                  let f = closes P N W k hP h in
-                  (f .0, (f .1 .0, f .1 .1 ∙ ends P (suc m) (f .0) (drop next job) (rw (length-drop next job) (omega arith))));
+                  let f = closed P N W k hP h in
+                  let k′ = step P N W calls.final k in
+                  (f .0, f .1 ∙ ap (λ (y : Outcome). (y, k′)) (ends P (suc m) k′ (drop next job) (rw (length-drop next job) (omega arith))));
               further = tt;
+              frame = was-made .frame;
+              into = numbers;
             }
 
-        pub turn-surplus : (next ≡ length job → ⊥) → Turned job at n s (step′.Rejected (m + 1) 15) s′ σ σ′
+        pub turn-surplus : (next ≡ length job → ⊥) → Turned job at n s (step′.Rejected (m + 1) 15) s′ σ σ′ entry read
         turn-surplus e =
             record {
               tells = λ P N W k hP h.
-                  let f = closes P N W k hP h in
-                  f .1 .1 ∙ surplus P (suc m) (f .0) (drop next job) (λ q. e (omega (arith, c .within, simp length-drop at q))) ∙ ap (λ (i : ℕ). rejected i 15) (sym (add-one m));
+                  let f = closed P N W k hP h in
+                  let k′ = step P N W calls.final k in
+                  inr (record {
+                    final = f .0;
+                    number = refl;
+                    is = f .1 ∙ ap (λ (y : Outcome). (y, k′)) (surplus P (suc m) k′ (drop next job) (λ q. e (omega (arith, c .within, simp length-drop at q))) ∙ ap (λ (i : ℕ). rejected i 15) (sym (add-one m)));
+                  });
               further = (omega (arith, c .low), omega arith);
+              frame = was-made .frame;
+              into = numbers;
             }
 
 -- a call that was made is the act's

@@ -89,7 +89,7 @@ pub fn run_call(
     line: u64,
 ) -> Turn
     requires { ⌜ MayTurn s (storage (now spans) (now order) (now tally) (now rows) (now marks) (now locs) (now waiting) (now pool)) (now job) (length (now into)) at line ⌝ }
-    ensures { λ r. ⌜ Turned (now (job .entry)) at line s (r .step) (r .session) (storage (now (spans .entry)) (now (order .entry)) (now (tally .entry)) (now (rows .entry)) (now (marks .entry)) (now (locs .entry)) (now (waiting .entry)) (now (pool .entry))) (storage (now (spans .exit)) (now (order .exit)) (now (tally .exit)) (now (rows .exit)) (now (marks .exit)) (now (locs .exit)) (now (waiting .exit)) (now (pool .exit))) ⌝ }
+    ensures { λ r. ⌜ Turned (now (job .entry)) at line s (r .step) (r .session) (storage (now (spans .entry)) (now (order .entry)) (now (tally .entry)) (now (rows .entry)) (now (marks .entry)) (now (locs .entry)) (now (waiting .entry)) (now (pool .entry))) (storage (now (spans .exit)) (now (order .exit)) (now (tally .exit)) (now (rows .exit)) (now (marks .exit)) (now (locs .exit)) (now (waiting .exit)) (now (pool .exit))) (now (into .entry)) (now (into .exit)) ⌝ }
 {
     let c = jobcalls::next_call(job, at, line, into);
     let act = c.act;

@@ -1,8 +1,6 @@
 -- The listing, or the two lines of a refusal. Assumes nothing.
-use Rattle.host.specs.Laws.{wrote-in, small-listed, answer-listed, answer-refused}
--- The listing, or the two lines of a refusal. Assumes nothing.
 use native.Mathlib.Omega.{arith}
-use Rattle.host.specs.Laws.{small-listed, answer-listed, answer-refused}
+use Rattle.host.specs.Laws.{wrote-in, answer-listed, answer-refused}
 use borrow.Author.Needs.{needs}
 use Rattle.host.proofs.answer.Statement.{statement}
 use Rattle.host.proofs.answer.Tie as tie
@@ -23,13 +21,13 @@ same-length : tie.Need-same-length
 same-length c = search needs
 
 returns : tie.Need-returns
-returns c = (small-listed (c .before .before .before .before .before .reply-to .ensures) _ (c .before .r .given .1), answer-listed (c .before .before .before .before .before .reply-to .ensures) (c .before .before .before .before .before .before .before .before .before .pre) _ (c .before .r .given .1))
+returns c = answer-listed (c .before .before .before .before .before .reply-to .ensures) (c .before .before .before .before .before .before .before .before .before .pre) _ (c .before .r .given .1)
 
 same-length-2 : tie.Need-same-length-2
 same-length-2 c = search needs
 
 returns-2 : tie.Need-returns-2
-returns-2 c = (omega (arith, wrote-in (c .before .before .put-rejection .ensures), c .before .before .put-rejection .kept .0, c .before .before .before .before .before .before .before .before .before .reply-to .kept .1 .0, c .before .before .before .before .before .before .before .before .before .before .before .before .before .pre), answer-refused (c .before .before .before .before .before .before .before .before .before .reply-to .ensures) (c .before .before .before .before .before .before .before .before .before .before .before .before .before .pre) _ _ (c .before .before .before .before .before .r2 .given .1) _ _ (c .before .before .put-rejection .ensures))
+returns-2 c = answer-refused (c .before .before .before .before .before .before .before .before .before .reply-to .ensures) (c .before .before .before .before .before .before .before .before .before .before .before .before .before .pre) _ _ (c .before .before .before .before .before .r2 .given .1) _ _ (omega (arith, wrote-in (c .before .before .put-rejection .ensures), c .before .before .put-rejection .kept .0, c .before .before .before .before .before .before .before .before .before .reply-to .kept .1 .0, c .before .before .before .before .before .before .before .before .before .before .before .before .before .pre)) (c .before .before .put-rejection .ensures)
 
 pub answer-spec : {M : Type 1} → statement M
 answer-spec =

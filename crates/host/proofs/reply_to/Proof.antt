@@ -75,7 +75,7 @@ returns-2 : tie.Need-returns-2
 returns-2 c = replied-listed (c .before .before .before .before .before .before .before .before .before .before .before .before .before .before .before .before .before .before .before .before .before .before .before .before .before .before .before .before .before .before .before .before .before .before .before .before .args .text .now) _ _ _ _ _ _ _ _ _ _ _ _ (c .before .before .before .before .before .before .before .before .before .before .before .before .before .before .before .before .before .before .before .before .before .before .before .before .run .ensures) (c .before .before .before .before .before .before .before .before .before .before .before .before .before .end .given .1) _ _ _ (c .before .before .before .before .before .before .before .report .kept .0 ∙ length-replicate {A = ℕ} 65536 0) (c .before .before .before .before .before .before .before .report .ensures) (c .before .before .before .before .before .before .before .before .before .before .before .before .before .before .before .before .before .before .before .before .before .before .before .before .before .before .before .before .before .before .before .before .before .before .before .before .args .listing .now) _ (c .before .before .before .before .before .if1 .left) (c .before .before .copy .ensures) (c .before .before .copy .kept .0)
 
 returns-3 : tie.Need-returns-3
-returns-3 c = replied-refused (c .before .before .before .before .before .before .before .before .before .before .before .before .before .before .before .before .before .before .before .before .before .before .before .before .args .text .now) (c .before .before .before .before .before .before .before .before .before .before .before .before .before .before .before .before .before .before .before .before .before .before .before .before .args .listing .now) _ _ _ _ (c .before .before .before .before .before .before .before .before .before .before .before .before .run .ensures) (c .before .end2 .given .1)
+returns-3 c = replied-refused (c .before .before .before .before .before .before .before .before .before .before .before .before .before .before .before .before .before .before .before .before .before .before .before .before .args .text .now) (c .before .before .before .before .before .before .before .before .before .before .before .before .before .before .before .before .before .before .before .before .before .before .before .before .args .listing .now) _ _ _ (c .before .before .before .before .before .before .before .before .before .before .before .before .run .ensures) (c .before .end2 .given .1)
 
 pub reply-to-spec : {M : Type 1} → statement M
 reply-to-spec =

@@ -10,13 +10,13 @@ use Rattle.job.proofs.run_calls.Statement.{statement}
 use Rattle.job.proofs.run_calls.Tie as tie
 
 abbrev Inv-loop : tie.InvT-loop
-Inv-loop spans₀ order₀ tally₀ rows₀ marks₀ locs₀ waiting₀ pool₀ into₀ job start session₀ at₀ line₀ spans order tally rows marks locs waiting pool into session at line = Lengths (storage spans₀ order₀ tally₀ rows₀ marks₀ locs₀ waiting₀ pool₀) (storage spans order tally rows marks locs waiting pool) into₀ into × Running session₀ (storage spans₀ order₀ tally₀ rows₀ marks₀ locs₀ waiting₀ pool₀) job start session (storage spans order tally rows marks locs waiting pool) at line
+Inv-loop spans₀ order₀ tally₀ rows₀ marks₀ locs₀ waiting₀ pool₀ into₀ job start session₀ at₀ line₀ spans order tally rows marks locs waiting pool into session at line = Lengths (storage spans₀ order₀ tally₀ rows₀ marks₀ locs₀ waiting₀ pool₀) (storage spans order tally rows marks locs waiting pool) into₀ into × Running session₀ (storage spans₀ order₀ tally₀ rows₀ marks₀ locs₀ waiting₀ pool₀) job start session (storage spans order tally rows marks locs waiting pool) at line into₀ into
 
 abbrev μ-loop : tie.MeasureT-loop
 μ-loop spans₀ order₀ tally₀ rows₀ marks₀ locs₀ waiting₀ pool₀ into₀ job start session₀ at₀ line₀ spans order tally rows marks locs waiting pool into session at line = length job - at
 
 loop-holds : tie.Need-loop-holds Inv-loop μ-loop
-loop-holds c = (lengths-refl _ _, running-begins (c .before .before .before .before .before .before .before .before .before .before .pre))
+loop-holds c = (lengths-refl _ _, running-begins (c .before .before .before .before .before .before .before .before .before .before .pre) _)
 
 run-call-requires : tie.Need-run-call-requires Inv-loop μ-loop
 run-call-requires c κs = running-may (c .before .before .before .before .before .before .before .before .before .before .before .before .before .before .before .before .before .before .before .before .pre) (c .before .before .before .before .before .before .before .before .before .loop .inv .1) _ (c .before .before .before .before .before .before .before .before .before .loop .inv .0 .into)

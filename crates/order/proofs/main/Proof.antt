@@ -44,7 +44,7 @@ array-share-prefix-out : tie.Need-array-share-prefix-out
 array-share-prefix-out c = search needs
 
 slice-aggregate-write-all-2 : tie.Need-slice-aggregate-write-all-2
-slice-aggregate-write-all-2 c = simp length-take (omega (arith, c .before .before .answer .ensures .0, c .before .before .answer .kept .1 .0, length-replicate {A = ℕ} 65536 0))
+slice-aggregate-write-all-2 c = simp length-take (omega (arith, c .before .before .answer .ensures .small, c .before .before .answer .kept .1 .0, length-replicate {A = ℕ} 65536 0))
 
 write-all-requires-2 : tie.Need-write-all-requires-2
 write-all-requires-2 c κs = search needs
