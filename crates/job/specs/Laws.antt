@@ -141,7 +141,7 @@ module _ {s : Session} {σ : Storage} {job : List ℕ} {room start : ℕ} (m : M
           stopped : (P N : ℕ) (h : Going P N (length (σ .pool)) s σ job start s′ σ′ at n)
               → Frame (s′ .guide .p) (s′ .guide .v) (s′ .guide .written) (t .guide .written) σ′ τ
               → Refuses (h .model) s′ t σ′ τ i code (remains P N (length (σ .pool)) job at n (h .model))
-                  ⊎ Surplus P N (length (σ .pool)) (h .model) t τ i code (remains P N (length (σ .pool)) job at n (h .model))
+              ⊎ Surplus P N (length (σ .pool)) (h .model) t τ i code (remains P N (length (σ .pool)) job at n (h .model))
               → Stopped P N (length (σ .pool)) s σ τ (end.Rejected i code) (remains P N (length (σ .pool)) job start 3 initial)
           stopped P N h f (inl y) =
               record {
@@ -235,14 +235,13 @@ module _ (job : List ℕ) (short : length job ≤ 65536) where
 
     -- what opening leaves of the run
     opened : ℕ → Outcome × Option Reached
-    opened x =
-        (
-          on-line 2 x (run-lines P N job-pool 3 none (lines (drop start job)) (ragged job) initial),
-          elim (eqb x 0) [
-            | true ↦ some (record { parallelism = P; places = N; model = reached-lines P N job-pool none (lines (drop start job)) initial })
-            | false ↦ none
-          ],
-        )
+    opened x = (
+      on-line 2 x (run-lines P N job-pool 3 none (lines (drop start job)) (ragged job) initial),
+      elim (eqb x 0) [
+        | true ↦ some (record { parallelism = P; places = N; model = reached-lines P N job-pool none (lines (drop start job)) initial })
+        | false ↦ none
+      ],
+    )
 
     opening-next : whole ≡ opened (verdict (check-open P N job-sizes))
     unfolding opened
