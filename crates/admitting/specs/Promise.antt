@@ -1,5 +1,5 @@
 -- What a call of a session presumes and promises: the number is the model's, the session and its storage stand for the model's next
--- state, a refused call leaves everything as it was, and what lies beyond is untouched. Two laws make such a promise: one for a refused
+-- state and show it, a refused call leaves everything as it was, and what lies beyond is untouched. Two laws make such a promise: one for a refused
 -- call, one for an accepted one. Assumes nothing.
 use mathlib.Core.Path.{_≡_, refl, sym, ap, _∙_, subst}
 use mathlib.Core.List.{List}
@@ -14,6 +14,8 @@ use Rattle.session.specs.declared.Session.{Session}
 use Rattle.session.specs.Storage.{Storage, Frame, frame-refl}
 use Rattle.session.specs.Turn.{with-waiting}
 use Rattle.session.specs.Rep.{Rep}
+use Rattle.session.specs.Shows.{Shows}
+use Rattle.session.specs.Showing.{shows}
 
 -- what a call may presume: that session and storage are as the calls before left them, so that they stand for some reachable model
 pub record Asks (s : Session) (σ : Storage) : Type 0 where
@@ -27,6 +29,7 @@ pub record Asks (s : Session) (σ : Storage) : Type 0 where
 pub record Called (c : Call) (n : ℕ) (s s′ : Session) (σ σ′ : Storage) : Type 0 where
   pub keeps : (P N : ℕ) (k : Model) → Rep P N k s σ → Between P N (length (σ .pool)) k
       → (n ≡ answer N (length (σ .pool)) c k) × Rep P N (step P N (length (σ .pool)) c k) s′ σ′
+  pub shows : (P N : ℕ) (k : Model) → Rep P N k s σ → Between P N (length (σ .pool)) k → Shows P N (step P N (length (σ .pool)) c k) s′ σ′
   pub refused : (n ≡ 0 → ⊥) → (s′ ≡ s) × (σ′ ≡ σ)
   pub frame : Frame (s .guide .p) (s .guide .v) (s .guide .written) (s′ .guide .written) σ σ′
 
@@ -39,25 +42,32 @@ pub step-accepted : (P N W : ℕ) (c : Call) (k : Model) → answer N W c k ≡ 
 unfolding step unless-refused
 step-accepted P N W c k h = rw (eq-eqb (answer N W c k) 0 h, unless-refused)
 
+-- the promise from the others of its parts: what is kept is shown
+called-by : {c : Call} {n : ℕ} {s s′ : Session} {σ σ′ : Storage}
+    → ((P N : ℕ) (k : Model) → Rep P N k s σ → Between P N (length (σ .pool)) k
+    → (n ≡ answer N (length (σ .pool)) c k) × Rep P N (step P N (length (σ .pool)) c k) s′ σ′)
+    → ((n ≡ 0 → ⊥) → (s′ ≡ s) × (σ′ ≡ σ)) → Frame (s .guide .p) (s .guide .v) (s .guide .written) (s′ .guide .written) σ σ′ → Called c n s s′ σ σ′
+called-by {c} {n} {s} {s′} {σ} {σ′} keeps refused f =
+    record {
+      keeps = keeps;
+      shows = λ P N k r b. shows P N (step P N (length (σ .pool)) c k) s′ σ′ (keeps P N k r b .1);
+      refused = refused;
+      frame = f;
+    }
+
 -- a refused call: nothing has changed, and the number is the model's
 pub called-refused : (c : Call) (n : ℕ) (s : Session) (σ : Storage) → (n ≡ 0 → ⊥) → ((P N : ℕ) (k : Model) → Rep P N k s σ → n ≡ answer N (length (σ .pool)) c k) → Called c n s s σ σ
 called-refused c n s σ z h =
-    record {
-      keeps = λ P N k r b. (h P N k r, rw (step-refused P N (length (σ .pool)) c k (λ e. z (h P N k r ∙ e))) r);
-      refused = λ x. (refl, refl);
-      frame = frame-refl (s .guide .p) (s .guide .v) (s .guide .written) σ;
-    }
+    called-by (λ P N k r b. (h P N k r, rw (step-refused P N (length (σ .pool)) c k (λ e. z (h P N k r ∙ e))) r)) (λ x. (refl, refl))
+    (frame-refl (s .guide .p) (s .guide .v) (s .guide .written) σ)
 
 -- an accepted call
 pub called-done : (c : Call) (s s′ : Session) (σ σ′ : Storage) → ((P N : ℕ) (k : Model) → Rep P N k s σ → 0 ≡ answer N (length (σ .pool)) c k)
     → ((P N : ℕ) (k : Model) → Rep P N k s σ → Between P N (length (σ .pool)) k → answer N (length (σ .pool)) c k ≡ 0 → Rep P N (apply-call P N c k) s′ σ′)
     → Frame (s .guide .p) (s .guide .v) (s .guide .written) (s′ .guide .written) σ σ′ → Called c 0 s s′ σ σ′
 called-done c s s′ σ σ′ a h f =
-    record {
-      keeps = λ P N k r b. (a P N k r, rw (step-accepted P N (length (σ .pool)) c k (sym (a P N k r))) (h P N k r b (sym (a P N k r))));
-      refused = λ x. absurd (x refl);
-      frame = f;
-    }
+    called-by (λ P N k r b. (a P N k r, rw (step-accepted P N (length (σ .pool)) c k (sym (a P N k r))) (h P N k r b (sym (a P N k r)))))
+    (λ x. absurd (x refl)) f
 
 -- what the work of an accepted call may presume, and what it does
 pub record MayDo (c : Call) (s : Session) (σ : Storage) : Type 0 where

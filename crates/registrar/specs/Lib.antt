@@ -1,4 +1,5 @@
--- Delayed registrations in storage: what is stored, laws of the model's lists, laws of chains, and what each function does to it.
+-- Delayed registrations in storage: how they are read, what is stored, laws of the model's lists, laws of chains, and what each function does to it.
+pub mod Reading
 pub mod Delayed
 pub mod Queue
 pub mod Chains

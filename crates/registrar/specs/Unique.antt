@@ -1,5 +1,4 @@
--- The delayed registrations and the stack are read from storage in one way only, so those that storage holds are the model's.
--- Assumes nothing.
+-- The delayed registrations that are read from storage are the model's, and the stack is read in one way only. Assumes nothing.
 use mathlib.Core.Path.{_≡_, refl, sym, _∙_, ap}
 use mathlib.Core.Logic.{_⊎_, inl, inr}
 use mathlib.Core.List.{List, [], _∷_, _++_, List·Memᴰ, List·Memᴰ·head}
@@ -8,23 +7,14 @@ use native.Mathlib.Omega.{arith}
 use lib.ListN.{getD}
 use Rattle.rules.specs.Model.{Pending, left}
 use Rattle.laws.specs.Delaying.{Sorted, left-sorted, left-above}
-use Rattle.registrar.specs.Delayed.{newest, Delayed}
+use Rattle.registrar.specs.Reading.{chain-from, onto, reading, waiting-in}
+use Rattle.registrar.specs.Delayed.{newest, Chain, Delayed}
 use Rattle.registrar.specs.Queue.{From, from-tail, eq-or-ne, left-in, newest-left, newest-none, newest-same, left-more, left-stop, sorted-from}
-use Rattle.registrar.specs.Chains.{chain-unique, linked-unique}
-
--- a chain of place p, newest first, put in front of others
-abbrev onto : ℕ → List ℕ → List Pending → List Pending
-onto p [] ps = ps
-onto p (r ∷ l) ps = onto p l (record { under = p; reg = r } ∷ ps)
+use Rattle.registrar.specs.Chains.{linked-unique}
 
 onto-append : (p : ℕ) (a b : List ℕ) (ps : List Pending) → onto p (a ++ b) ps ≡ onto p b (onto p a ps)
 onto-append p [] b ps = refl
 onto-append p (r ∷ a) b ps = onto-append p a b (record { under = p; reg = r } ∷ ps)
-
--- the chains of n places from p on
-abbrev reading : ℕ → ℕ → (ℕ → List ℕ) → List Pending
-reading zero p ch = []
-reading (suc n) p ch = onto p (ch p) (reading n (suc p) ch)
 
 reading-same : (n p : ℕ) (ch ch′ : ℕ → List ℕ) → ((q : ℕ) → p ≤ q → q < p + n → ch q ≡ ch′ q) → reading n p ch ≡ reading n p ch′
 reading-same zero p ch ch′ h = refl
@@ -56,12 +46,24 @@ read-back (suc n) p ps s f b =
     reading-same n (suc p) (λ q. newest q (left (suc p) ps)) (λ q. newest q ps) (λ q a z. newest-left (suc p) q ps a) in
     one-place p ps s f ∙ ap (onto p (newest p ps)) (r ∙ c)
 
+-- a chain whose registrations descend from n ends within n steps
+chain-read : (f : ℕ) (w : List ℕ) (v n h : ℕ) (l : List ℕ) → n ≤ f → Chain w v n h l → chain-from f w v h ≡ l
+unfolding chain-from
+chain-read zero w v n h [] k c = refl
+chain-read zero w v n h (r ∷ l) k c = absurd (omega (arith, c .1))
+chain-read (suc f) w v n h [] k c = rw c
+chain-read (suc f) w v n h (r ∷ l) k c = rw (c .0) (ap (λ (x : List ℕ). r ∷ x) (chain-read f w v r (getD w (v + r) 0) l (omega (arith, c .1)) (c .2)))
+
+-- those read are those that wait
+pub pending-read : (w : List ℕ) (v lo : ℕ) (ps : List Pending) (top : ℕ) (st : List ℕ) → Delayed w v lo ps top st → waiting-in w v lo ≡ ps
+unfolding waiting-in
+pending-read w v lo ps top st d =
+    reading-same (v - lo) lo (λ q. chain-from v w v (getD w q 0)) (λ q. newest q ps) (λ q a b. chain-read v w v v (getD w q 0) (newest q ps) (omega arith) (d .chains q a (omega arith)))
+    ∙ sym (read-back (v - lo) lo ps (d .sorted) (λ x h. d .within x h .0) (λ x h. omega (arith, d .within x h)))
+
 module _ (w : List ℕ) (v lo : ℕ) (ps : List Pending) (top : ℕ) (st : List ℕ) (ps′ : List Pending) (st′ : List ℕ) (d : Delayed w v lo ps top st) (e : Delayed w v lo ps′ top st′) where
   pub stack-unique : st ≡ st′
   stack-unique = linked-unique w v top st st′ (d .stack) (e .stack)
 
   pub pending-unique : ps ≡ ps′
-  pending-unique =
-      read-back (v - lo) lo ps (d .sorted) (λ x h. d .within x h .0) (λ x h. omega (arith, d .within x h))
-      ∙ reading-same (v - lo) lo (λ q. newest q ps) (λ q. newest q ps′) (λ q a b. chain-unique w v v v (getD w q 0) (newest q ps) (newest q ps′) (d .chains q a (omega arith)) (e .chains q a (omega arith)))
-      ∙ sym (read-back (v - lo) lo ps′ (e .sorted) (λ x h. e .within x h .0) (λ x h. omega (arith, e .within x h)))
+  pending-unique = sym (pending-read w v lo ps top st d) ∙ pending-read w v lo ps′ top st′ e

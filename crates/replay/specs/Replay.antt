@@ -15,6 +15,7 @@ use Rattle.laws.specs.Demand.{Demand}
 use Rattle.session.specs.declared.Session.{Session}
 use Rattle.session.specs.Storage.{Storage, Frame}
 use Rattle.session.specs.Rep.{Rep}
+use Rattle.session.specs.Shows.{Shows}
 use Rattle.opening.specs.Opened.{sizes}
 use Rattle.admitting.specs.declared.Admitted.{Admitted}
 use Rattle.admitting.specs.Promise.{Called}
@@ -26,11 +27,12 @@ unfoldable pub replay-number : ℕ → ℕ → Sizes → ℕ → Option (List Ca
 replay-number P N s room none = 15
 replay-number P N s room (some cs) = verdict (check-open P N s ++ (record { fails = ltb room (length cs); number = 2 } ∷ []))
 
--- after the calls cs: the numbers written are the model's, session and storage stand for the model's state, of which demand 3 holds, and
--- what lies beyond is untouched
+-- after the calls cs: the numbers written are the model's, session and storage stand for the model's state and show it, demand 3 holds
+-- of it, and what lies beyond is untouched
 pub record Ran (P N : ℕ) (cs : List Call) (s : Session) (σ τ : Storage) (out out′ : List ℕ) : Type 0 where
   pub numbers : take (length cs) out′ ≡ answers P N (length (σ .pool)) cs initial
   pub rep : Rep P N (run P N (length (σ .pool)) cs initial) s τ
+  pub shows : Shows P N (run P N (length (σ .pool)) cs initial) s τ
   pub demand : Demand P N (length (σ .pool)) cs (run P N (length (σ .pool)) cs initial)
   pub frame : Frame P N 0 (s .guide .written) σ τ
   pub long : length out′ ≡ length out

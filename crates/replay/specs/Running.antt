@@ -22,6 +22,7 @@ use Rattle.guide.specs.Fresh.{first-guide}
 use Rattle.session.specs.declared.Session.{Session}
 use Rattle.session.specs.Storage.{Storage, Frame, frame-refl, frame-trans}
 use Rattle.session.specs.Rep.{Rep}
+use Rattle.session.specs.Shows.{Shows}
 use Rattle.opening.specs.Opened.{sizes, first-session, Opens, enough-of}
 use Rattle.replay.specs.Replay.{replay-number, Ran, Replays, Exported}
 use Rattle.replay.specs.Turn.{Running, running-start, running-end}
@@ -70,6 +71,7 @@ moved P N cs s σ τ υ out out′ e f r =
     record {
       numbers = subst (λ (W : ℕ). take (length cs) out′ ≡ answers P N W cs initial) el (r .numbers);
       rep = subst (λ (W : ℕ). Rep P N (run P N W cs initial) s υ) el (r .rep);
+      shows = subst (λ (W : ℕ). Shows P N (run P N W cs initial) s υ) el (r .shows);
       demand = subst (λ (W : ℕ). Demand P N W cs (run P N W cs initial)) el (r .demand);
       frame = frame-trans P N 0 0 (s .guide .written) σ τ υ f (r .frame);
       long = r .long;

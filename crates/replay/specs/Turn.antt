@@ -17,6 +17,7 @@ use Rattle.encoding.specs.Decode.{decode-none, decode-some}
 use Rattle.session.specs.declared.Session.{Session}
 use Rattle.session.specs.Storage.{Storage, Frame, frame-trans}
 use Rattle.session.specs.Rep.{Rep}
+use Rattle.session.specs.Showing.{shows}
 use Rattle.admitting.specs.Promise.{Asks}
 use Rattle.sorter.specs.Chain.{follows-step}
 use Rattle.replay.specs.Replay.{Ran, Made, Readable}
@@ -146,9 +147,11 @@ module _ (P N : ℕ) (l : List ℕ) (all : List Call) (σ₀ : Storage) (out₀ 
         let e : some [] ≡ some (R .left) = ap decode (sym (drop-of-length-le l h)) ∙ R .is in
         let f : [] ≡ R .left = cc in
         let m : R .made ≡ all = sym (R .split ∙ ap (λ x. R .made ++ x) (sym f) ∙ append-none (R .made)) in
+        let r : Rep P N (run P N W all initial) s σ = subst (λ (x : List Call). Rep P N (run P N W x initial) s σ) m (R .rep) in
         record {
           numbers = subst (λ (x : List Call). take (length x) out ≡ answers P N W x initial) m (subst (λ (x : ℕ). take x out ≡ answers P N W (R .made) initial) (sym (R .many)) (R .told));
-          rep = subst (λ (x : List Call). Rep P N (run P N W x initial) s σ) m (R .rep);
+          rep = r;
+          shows = shows P N (run P N W all initial) s σ r;
           demand = demand-3 P N W (R .positive) all;
           frame = R .frame;
           long = R .long;

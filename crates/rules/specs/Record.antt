@@ -1,17 +1,25 @@
--- Document 01, "The records": what a place's mark and a registration's row are in a model, and what final gives of one. Definitions
--- only; that the lent marks and rows are these is shown where they are kept (crates tracking and records). Assumes nothing.
+-- Document 01, "The records": what a place's mark and location and a registration's row are in a model, and what final gives of one.
+-- Definitions only; that what a session's storage holds are these is shown by `Shows` (crate session). Assumes nothing.
 use mathlib.Core.List.{List, [], _∷_}
 use mathlib.Core.Bool.{Bool, true, false}
-use Prim.Native.Nat.{ℕ, suc}
+use Prim.Native.Nat.{ℕ, suc, _+_, _*_}
 use lib.ListN.{getD}
 use lib.Dec.{eqb}
-use Rattle.rules.specs.Guide.{Item, Entry, tally}
-use Rattle.rules.specs.Model.{Model, member, marked}
+use Rattle.rules.specs.Guide.{Loc, Item, Entry, tally}
+use Rattle.rules.specs.Model.{Model, member, marked, loc-of}
 use Rattle.rules.specs.Summary.{Figures, figures}
 
 -- "A place has a 16-bit mark: 0 untracked, 32,768 written by a registration (with its location), 49,152 set."
 unfoldable pub mark-of : Model → ℕ → ℕ
 mark-of k x = elim (member x (k .sets)) [ true ↦ 49152 | false ↦ elim (marked x (k .located)) [ true ↦ 32768 | false ↦ 0 ] ]
+
+-- "A location is a span number (32 bits) and a position (32 bits)": as one number, the greater for the later location
+unfoldable pub pack : Loc → ℕ
+pack l = l .span * 4294967296 + l .pos
+
+-- "Location (0,0) belongs to every set place", and places start as zeros: a place's location, that of the registration which wrote it, or (0,0)
+unfoldable pub location-of : Model → ℕ → ℕ
+location-of k x = pack (loc-of (k .located) x)
 
 -- "A record row has added, accepted, written (below), order index and parallelism."
 pub record Row : Type 0 where

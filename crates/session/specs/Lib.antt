@@ -1,7 +1,9 @@
--- The session and its storage: what they stand for (Storage, Rep), one placing (Finding, Placing, Rows, Outputs, PlaceOne), one turn of
+-- The session and its storage: what they stand for (Storage, Rep), what a host finds in them (Shows, Showing), one placing (Finding, Placing, Rows, Outputs, PlaceOne), one turn of
 -- the cascade (Turn) and the whole of it (Cascade, Settle).
 pub mod Storage
 pub mod Rep
+pub mod Shows
+pub mod Showing
 pub mod Parts
 pub mod Rows
 pub mod Outputs

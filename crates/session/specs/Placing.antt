@@ -12,13 +12,14 @@ use borrow.Author.Tests.{lt-ltb}
 use Rattle.rules.specs.Guide.{Loc, Item, Guide as GuideModel, Placed, place, tally}
 use Rattle.rules.specs.Checks.{taken}
 use Rattle.rules.specs.Model.{Reg, Model, run-from, watermark, top, after, spotted, reg-of, place-one}
+use Rattle.rules.specs.Record.{pack}
 use Rattle.laws.specs.History.{len}
 use Rattle.laws.specs.ModelBase.{In, member-in}
 use Rattle.laws.specs.Limits.{AllBelow}
 use Rattle.laws.specs.Placeable.{Placeable}
 use Rattle.lists.specs.Part.{part, Below, Listed, listed-of}
 use Rattle.tracking.specs.Tracking.{peak, stamped, tracked-in}
-use Rattle.tracking.specs.Places.{Places, pack, top-pack, Fresh, places-stamped, run-is}
+use Rattle.tracking.specs.Places.{Places, top-pack, Fresh, places-stamped, run-is}
 use Rattle.entries.specs.declared.Entry.{Entry}
 use Rattle.entries.specs.Entries.{row, item-of, entry-of}
 use Rattle.buffer.specs.declared.Guide.{Guide}

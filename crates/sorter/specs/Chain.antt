@@ -12,6 +12,8 @@ use Rattle.laws.specs.DemandProof.{demand-3}
 use Rattle.session.specs.declared.Session.{Session}
 use Rattle.session.specs.Storage.{Storage}
 use Rattle.session.specs.Rep.{Rep}
+use Rattle.session.specs.Shows.{Shows}
+use Rattle.session.specs.Showing.{shows}
 use Rattle.admitting.specs.Promise.{Called}
 
 -- calls cs with numbers ns lead from s with σ to s′ with σ′; nothing else writes them meanwhile
@@ -23,12 +25,13 @@ pub data Chain : Session → Storage → List Call → List ℕ → Session → 
 pub record Follows (P N W : ℕ) (cs : List Call) (k : Model) (ns : List ℕ) (s : Session) (σ : Storage) : Type 0 where
   pub numbers : ns ≡ answers P N W cs k
   pub rep : Rep P N (run P N W cs k) s σ
+  pub shows : Shows P N (run P N W cs k) s σ
   pub between : Between P N W (run P N W cs k)
   pub pool : length (σ .pool) ≡ W
 
 pub follows-none : (P N W : ℕ) (k : Model) (s : Session) (σ : Storage) → length (σ .pool) ≡ W → Rep P N k s σ → Between P N W k → Follows P N W [] k [] s σ
 unfolding run answers
-follows-none P N W k s σ e r b = record { numbers = refl; rep = r; between = b; pool = e }
+follows-none P N W k s σ e r b = record { numbers = refl; rep = r; shows = shows P N k s σ r; between = b; pool = e }
 
 -- one call more: what a loop over the calls does
 pub follows-step : (P N W : ℕ) → 1 ≤ P → (c : Call) (k : Model) (n : ℕ) (s t : Session) (σ τ : Storage) → length (σ .pool) ≡ W → Rep P N k s σ → Between P N W k → Called c n s t σ τ
@@ -44,7 +47,7 @@ chain-follows P N W hP {s} {u} {σ} {υ} k e r b here = follows-none P N W k s �
 chain-follows P N W hP {s} {u} {σ} {υ} k e r b (then {t = t} {τ = τ} {c = c} {n = n} {cs = cs} {ns = ns} d f) =
     let x = follows-step P N W hP c k n s t σ τ e r b d in
     let o = chain-follows P N W hP (step P N W c k) (x .3) (x .1) (x .2) f in
-    record { numbers = rw (x .0, o .numbers); rep = o .rep; between = o .between; pool = o .pool }
+    record { numbers = rw (x .0, o .numbers); rep = o .rep; shows = o .shows; between = o .between; pool = o .pool }
 
 -- demand 3: on a fresh session, every list of calls, refused ones among them
 pub chain-demand : (P N : ℕ) → 1 ≤ P → {s u : Session} {σ υ : Storage} {cs : List Call} {ns : List ℕ} → Rep P N initial s σ → Chain s σ cs ns u υ

@@ -12,14 +12,11 @@ use lib.ListN.{length, getD, set, drop, length-set}
 use lib.Seq.{getD-set-same, getD-set-other, drop-set-lt}
 use borrow.Author.Tests.{ltb-true, ltb-false, eq-eqb, ne-eqb}
 use Rattle.rules.specs.Guide.{Loc, origin}
+use Rattle.rules.specs.Record.{pack}
 use Rattle.rules.specs.Model.{Located, Model, member, marked, tracked, run-from, watermark, loc-of, later, top, spotted}
 use Rattle.laws.specs.ModelBase.{bool-cases, loc-of-left, loc-of-right, marked-append}
 use Rattle.lists.specs.Part.{Below}
 use Rattle.tracking.specs.Tracking.{peak, stamped, nz, tracked-in}
-
--- a location as one number
-unfoldable pub pack : Loc → ℕ
-pack l = l .span * 4294967296 + l .pos
 
 -- a place's mark: 49,152 set, 32,768 written, 0 untracked
 unfoldable pub mark-of : List ℕ → List Located → ℕ → ℕ

@@ -1,0 +1,92 @@
+-- A session and storage that stand for a model show it. Assumes nothing.
+use mathlib.Core.Path.{_≡_, refl, sym, ap, _∙_}
+use mathlib.Core.List.{List, [], _∷_, map}
+use Prim.Native.Nat.{ℕ, _+_, _*_, _<_}
+use native.Mathlib.Omega.{arith}
+use lib.ListN.{length, getD, take, length-map}
+use Rattle.rules.specs.Guide.{Item, Guide as GuideModel}
+use Rattle.rules.specs.Model.{Model, Reg, reg-of}
+use Rattle.rules.specs.Checks.{pooled}
+use Rattle.rules.specs.Record.{location-of}
+use Rattle.entries.specs.Entries.{row, item-of, entry-of}
+use Rattle.buffer.specs.View.{view, order-of, spans-of, upto}
+use Rattle.buffer.specs.Rows.{row-length, spans-at}
+use Rattle.records.specs.RowOf.{rows-are}
+use Rattle.tracking.specs.MarkOf.{marks-are}
+use Rattle.registrar.specs.Unique.{pending-read}
+use Rattle.lists.specs.ListLaws.{Parts}
+use Rattle.lists.specs.Arguments.{parts-of}
+use Rattle.session.specs.declared.Session.{Session}
+use Rattle.session.specs.Storage.{Storage}
+use Rattle.session.specs.Rep.{Rep}
+use Rattle.session.specs.Shows.{span-in, lists-in, Shows}
+
+-- the spans' lengths are the window's
+lengths-of : (p : ℕ) (s rs ls : List ℕ) → length rs ≡ length ls → map length (spans-of p s rs ls) ≡ ls
+unfolding spans-of
+lengths-of p s [] [] h = refl
+lengths-of p s [] (l ∷ ls) h = absurd (omega arith)
+lengths-of p s (r ∷ rs) [] h = absurd (omega arith)
+lengths-of p s (r ∷ rs) (l ∷ ls) h =
+    rw (length-map (row s (r * (p + 1)) l) item-of, row-length s (r * (p + 1)) l) (ap (λ (x : List ℕ). l ∷ x) (lengths-of p s rs ls (omega arith)))
+
+module _ (P N : ℕ) (k : Model) (s : Session) (σ : Storage) (R : Rep P N k s σ) where
+  guide-is : view (s .guide) (σ .spans) (σ .order) ≡ k .guide
+  guide-is = R .core .guided .view-is
+
+  order-is : order-of (σ .order) (s .guide .written) ≡ k .guide .order
+  unfolding view
+  order-is = ap (λ (g : GuideModel). g .order) guide-is
+
+  order-count : (o : List ℕ) (n : ℕ) → length (order-of o n) ≡ n
+  unfolding order-of
+  order-count o n = length-map (row o 0 n) entry-of ∙ row-length o 0 n
+
+  first-is : getD (s .guide .window .ids) 0 0 ≡ k .guide .first
+  unfolding view
+  first-is = ap (λ (g : GuideModel). g .first) guide-is
+
+  spans-are : spans-of P (σ .spans) (s .guide .window .rows) (s .guide .window .lens) ≡ k .guide .spans
+  unfolding view
+  spans-are = rw (← R .core .guided .p-is) (ap (λ (g : GuideModel). g .spans) guide-is)
+
+  same-many : length (s .guide .window .rows) ≡ length (s .guide .window .lens)
+  same-many = R .core .guided .stands .laid .rows-many ∙ sym (R .core .guided .stands .laid .lens-many)
+
+  lists-are : (r : ℕ) → r < length (k .adds) → lists-in (σ .waiting) (σ .pool) N (s .added) (s .used) r ≡ reg-of k r
+  unfolding lists-in
+  lists-are r h = rw (R .counted .added-is, R .counted .used-is) (whole (parts-of N k (pooled (k .adds)) (σ .waiting) (σ .pool) (R .core .stored .lists) r h))
+    where
+      whole : Parts (σ .waiting) N r (length (k .adds)) (pooled (k .adds)) (σ .pool) (reg-of k r) → lists-in (σ .waiting) (σ .pool) N (length (k .adds)) (pooled (k .adds)) r ≡ reg-of k r
+      whole p = rw (p .ins-are, p .outs-are)
+
+  none-assigned : (i j : ℕ) → i < 32 → j < getD (s .guide .window .lens) i 0 → getD (σ .spans) (4 * (getD (s .guide .window .rows) i 0 * (P + 1) + j) + 3) 0 ≡ 0
+  none-assigned = rw (← R .core .guided .p-is) (R .core .guided .stands .laid .unassigned)
+
+  pub shows : Shows P N k s σ
+  unfolding span-in location-of
+  shows =
+      record {
+        parallelism = R .core .guided .p-is;
+        many = R .core .guided .v-is;
+        written = sym (order-count (σ .order) (s .guide .written)) ∙ ap length order-is;
+        order = order-is;
+        tally = R .core .guided .tally-is;
+        rows = rows-are N k (σ .rows) (R .core .rowed .filled) (R .core .rowed .written);
+        marks = marks-are N k (σ .marks) (σ .locations) (R .core .tracked .places);
+        locations = R .core .tracked .places .place-of;
+        numbers = R .core .guided .stands .laid .numbered ∙ ap (λ (n : ℕ). upto n 32) first-is;
+        lengths = sym (lengths-of P (σ .spans) (s .guide .window .rows) (s .guide .window .lens) same-many) ∙ ap (λ (x : List (List Item)). map length x) spans-are;
+        spans = λ i h.
+            sym (spans-at P (σ .spans) (s .guide .window .rows) (s .guide .window .lens) i same-many) ∙ ap (λ (x : List (List Item)). getD x i []) spans-are;
+        unassigned = none-assigned;
+        mark = R .core .tracked .lead-is;
+        waiting = pending-read (σ .waiting) N (s .lead) (k .pending) 0 [] (R .delayed);
+        delayed = omega (arith, R .delayed-is);
+        accepted = R .counted .added-is;
+        lists = lists-are;
+        flushes = R .counted .flushes-is;
+        closed = R .counted .closed-is;
+        registrations = R .counted .registrations-is;
+        places = R .counted .places-is;
+      }
