@@ -11,7 +11,7 @@ use crate::dag::guide::GuideLoc;
 use crate::dag::resolvers::mt::sorters::sorter_live::{
     LiveRecordingResolverSorter, NullRecordWriter,
 };
-use crate::dag::resolvers::mt::sorters::ResolverSortingMode;
+use crate::dag::resolvers::mt::sorters::{sorter_playback, ResolverSortingMode};
 use crate::dag::resolvers::mt::{ResolverCommonData, ResolverComms};
 use crate::dag::CircuitResolverOpts;
 use crate::field::{Element, SmallField};
@@ -94,6 +94,54 @@ impl Sorter {
                 Call::Flush => self.sorter.flush(),
                 Call::Final => self.sorter.final_flush(),
             }
+        }
+    }
+
+    /// Makes calls encoded as docs/REPLAY.md says, each as it is read; the list must be well formed.
+    pub fn run_encoded(&mut self, numbers: &[u64]) {
+        let (mut inputs, mut outputs) = (Vec::new(), Vec::new());
+        let mut numbers = numbers.iter().copied();
+        while let Some(tag) = numbers.next() {
+            match tag {
+                1 => {
+                    let place = Place(numbers.next().expect("a place"));
+                    self.sorter.set_value(place, Element::from_u64_unchecked(1))
+                }
+                2 => {
+                    for list in [&mut inputs, &mut outputs] {
+                        let count = numbers.next().expect("a count") as usize;
+                        list.clear();
+                        list.extend(numbers.by_ref().take(count).map(Place));
+                    }
+                    self.sorter.add_resolution(&inputs, &outputs, |_, _| ())
+                }
+                3 => self.sorter.flush(),
+                _ => self.sorter.final_flush(),
+            }
+        }
+    }
+
+    /// After the final: tells the order's length, the places as final fixed them, the smallest
+    /// parallelism and the median, and then of each entry its added, accepted and parallelism and its
+    /// row's written.
+    pub fn tell(
+        &mut self,
+        head: impl FnOnce(usize, usize, u32, usize),
+        mut entry: impl FnMut(u32, u32, u32, u32),
+    ) {
+        let stats = &mut self.sorter.guide.stats;
+        stats.finalize();
+        let median = stats.median();
+        let record = self.sorter.retrieve_sequence();
+        let order = self.common.exec_order.lock().unwrap();
+        let items = &order.items[..order.size];
+        let floor = items.iter().map(|item| item.metadata.parallelism()).min().unwrap_or(0);
+        head(items.len(), record.values_count, floor as u32, median);
+        for item in items {
+            let metadata = item.metadata;
+            let added = metadata.added_at();
+            let written = sorter_playback::written(record, added as usize);
+            entry(added, metadata.accepted_at(), metadata.parallelism() as u32, written as u32);
         }
     }
 

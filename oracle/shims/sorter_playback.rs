@@ -26,3 +26,8 @@ fn row(item: &ResolutionRecordItem) -> Row {
         parallelism: item.parallelism,
     }
 }
+
+/// The `written` of one row.
+pub fn written(record: &ResolutionRecord, registration: usize) -> usize {
+    record.items[registration].order_len
+}
