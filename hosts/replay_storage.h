@@ -6,13 +6,17 @@
        uint64_t returned = replay_run(&storage, calls, calls_count, answers, answers_count);
        for (size_t i = 0; i < storage.entries; i++) .. replay_entry_at(&storage, i) ..
 
-   All functions are defined here; the program is linked with the archive of crate replay alone.
+   All functions are defined here; the program is linked with the archive of crate replay, and with that
+   of crate summary where it calls replay_summary_of.
    hosts/storage_example.c is a whole program. docs/REPLAY.md describes the calls' encoding, and what
    the slices hold. */
 #ifndef REPLAY_STORAGE_H
 #define REPLAY_STORAGE_H
 
+#include <string.h>
+
 #include "replay.h"
+#include "summary.h"
 
 /* The greatest parallelism and count of places that a session has. */
 #define REPLAY_MOST_PARALLELISM 64999
@@ -48,6 +52,14 @@ struct replay_row {
 /* Where a place stands: (0,0) if it is set. */
 struct replay_location {
     uint32_t span, position;
+};
+
+/* What final gives of the tally: the average is the order's length by 65,000 (as the Rust has it), the
+   median the first parallelism up to which half of the entries lie; the counts for each parallelism
+   below 128, and for each thousand of them. */
+struct replay_summary {
+    float average;
+    uint32_t median, counts[128], thousands[65];
 };
 
 /* The bytes that all slices but the pool take. */
@@ -172,6 +184,25 @@ static inline struct replay_row replay_row_at(const struct replay_storage *stora
 static inline uint32_t replay_tally_at(const struct replay_storage *storage, size_t parallelism) {
     int there = storage->refusal == ORDER_ACCEPTED && parallelism <= storage->p;
     return there ? storage->tally[parallelism] : 0;
+}
+
+/* The summary of the tally, after an accepted run. Returns 0; or a refusal, `summary` as it was: that of
+   a storage that could not be laid out, or ORDER_TOO_SHORT for a null pointer. */
+static inline uint64_t replay_summary_of(const struct replay_storage *storage, struct replay_summary *summary) {
+    uint32_t numbers[SUMMARY_NUMBERS];
+    uint64_t code;
+    if (storage->refusal != ORDER_ACCEPTED)
+        return storage->refusal;
+    if (summary == NULL)
+        return ORDER_TOO_SHORT;
+    code = order_summary(storage->tally, REPLAY_TALLY(storage->p), numbers, SUMMARY_NUMBERS);
+    if (code == ORDER_ACCEPTED) {
+        memcpy(&summary->average, numbers + SUMMARY_AVERAGE, sizeof summary->average);
+        summary->median = numbers[SUMMARY_MEDIAN];
+        memcpy(summary->counts, numbers + SUMMARY_COUNTS, sizeof summary->counts);
+        memcpy(summary->thousands, numbers + SUMMARY_THOUSANDS, sizeof summary->thousands);
+    }
+    return code;
 }
 
 /* The mark of a place, after an accepted run; REPLAY_UNTRACKED for a place that there is not. */

@@ -1,9 +1,10 @@
 /* Host code, not proved: the job J1 of document 01 through replay_storage, its order also as structs.
 
        rt staticlib replay
+       rt staticlib summary
        rt staticlib order_entries
        gcc -Ihosts hosts/storage_example.c target/staticlib/libreplay.a \
-           target/staticlib/liborder_entries.a -o storage_example
+           target/staticlib/libsummary.a target/staticlib/liborder_entries.a -o storage_example
        ./storage_example */
 #include <inttypes.h>
 #include <stdio.h>
@@ -37,8 +38,8 @@ static void print_order(const struct replay_storage *storage) {
         printf("order=%zu added=%" PRIu32 " accepted=%" PRIu32 " parallelism=%" PRIu32 " written=%" PRIu32 "\n",
                i, entry.added, entry.accepted, entry.parallelism, row.written);
     }
-    for (size_t parallelism = 0; parallelism <= storage->p; parallelism++)
-        printf("tally %zu: %" PRIu32 "\n", parallelism, replay_tally_at(storage, parallelism));
+    for (size_t parallelism = 1; parallelism <= storage->p; parallelism++)
+        printf("parallelism %zu: %" PRIu32 " entries\n", parallelism, replay_tally_at(storage, parallelism));
 }
 
 int main(void) {
@@ -57,6 +58,14 @@ int main(void) {
         if (answers[i] != ORDER_ACCEPTED)
             refused("a call", answers[i]);
     print_order(&storage);
+
+    struct replay_summary summary;
+    returned = replay_summary_of(&storage, &summary);
+    if (returned != ORDER_ACCEPTED) {
+        free(memory);
+        return refused("the summary", returned);
+    }
+    printf("median %" PRIu32 "\n", summary.median);
 
     returned = order_append_new(infos, V, storage.order, REPLAY_ORDER(V), 0, storage.entries);
     if (returned != ORDER_ACCEPTED) {

@@ -1,11 +1,13 @@
-/* The exported call of crate `summary`: what final gives of a tally, for hosts that have a tally, as
-   `replay_calls` leaves it. `rt staticlib summary` proves it and writes
-   target/staticlib/libsummary.a. */
+/* Host code, not proved: the declaration of the proved call of crate `summary`.
+   What final gives of a tally, for hosts that have a tally, as `replay_calls` leaves it.
+   `rt staticlib summary` proves it and writes target/staticlib/libsummary.a. */
 #ifndef SUMMARY_H
 #define SUMMARY_H
 
 #include <stddef.h>
 #include <stdint.h>
+
+#include "refusals.h"
 
 #ifdef __cplusplus
 extern "C" {
@@ -27,8 +29,8 @@ extern "C" {
 /* Fills the first 195 numbers of `summary` with the summary of `tally`, whose counts past its length
    are 0; what lies past them stays. Each slice is a pointer and a count of numbers; the slices do not
    overlap, and no pointer is null, also where the count is 0. Returns 0, or the number of a refusal,
-   and then nothing was written: 1 for a tally longer than 65,000 counts or a sum above 2^24 (no
-   session has such), or else 2 for fewer than 195 numbers in `summary`. */
+   and then nothing was written: ORDER_OUT_OF_RANGE for a tally longer than 65,000 counts or a sum above
+   2^24 (no session has such), or else ORDER_TOO_SHORT for fewer than 195 numbers in `summary`. */
 uint64_t order_summary(const uint32_t *tally, size_t tally_count,
                        uint32_t *summary, size_t summary_count);
 

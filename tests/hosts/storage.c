@@ -74,6 +74,17 @@ static void look_at_runs(void) {
         for (size_t p = 0; p <= P + 3; p++)
             sum += replay_tally_at(&s, p);
         look(sum == s.entries, "the tally's sum is the order's length");
+        struct replay_summary summary;
+        memset(&summary, 0x5a, sizeof summary);
+        size_t with[P + 1] = {0, 0, 0};
+        for (size_t i = 0; i < s.entries; i++)
+            with[replay_entry_at(&s, i).parallelism % (P + 1)]++;
+        look(replay_summary_of(&s, &summary) == ORDER_ACCEPTED && summary.counts[0] == 0 &&
+             summary.counts[1] == with[1] && summary.counts[2] == with[2] && summary.counts[3] == 0 &&
+             summary.thousands[0] == 4 && summary.thousands[1] == 0, "the summary's counts are the order's");
+        look(summary.median == (2 * with[1] >= 4 ? 1u : 2u), "the median");
+        look(summary.average == (float)(4.0 / 65000), "the average");
+        look(replay_summary_of(&s, NULL) == ORDER_TOO_SHORT, "a null summary is refused");
         look(replay_mark_at(&s, 0) == REPLAY_SET && replay_mark_at(&s, 4) == REPLAY_WRITTEN &&
              replay_mark_at(&s, 5) == REPLAY_UNTRACKED && replay_mark_at(&s, V) == REPLAY_UNTRACKED, "marks");
         look(replay_location_at(&s, 0).span == 0 && replay_location_at(&s, 1).span == 1 &&
@@ -108,6 +119,8 @@ static void look_at_refusals(void) {
 
     struct replay_storage none = replay_storage_in(NULL, P, V, W);
     look(replay_run(&none, calls, CALLS, answers, MADE) == ORDER_TOO_SHORT, "a run without storage is refused");
+    struct replay_summary summary;
+    look(replay_summary_of(&none, &summary) == ORDER_TOO_SHORT, "a summary without storage is refused");
     look(replay_run(NULL, calls, CALLS, answers, MADE) == ORDER_TOO_SHORT, "a run on null is refused");
     look(replay_entry_at(&none, 0).parallelism == 0 && replay_row_at(&none, 0).parallelism == 0 &&
          replay_tally_at(&none, 0) == 0 && replay_mark_at(&none, 0) == 0 && replay_location_at(&none, 0).span == 0,
