@@ -2,7 +2,7 @@
 # Tests the crate for hosts in Rust (hosts/rust) and its program order-large, which are not proved: the
 # crate's own tests, among them order-large's reading and printing beside the proved order_job on
 # thousands of jobs; the program beside the proved program order; and, where the Rust is at hand, its
-# listings of jobs of thousands of places beside the oracle's.
+# listings of jobs of thousands of places beside the oracle's; and the commands quoted in docs/LARGE.md.
 #
 # LARGE_SEED chooses the random jobs (default 1), LARGE_JOBS and LARGE_BYTES how many of them and of
 # random bytes the crate's test takes. The archives are those in the folder that ORDER_LIBS names, else
@@ -59,3 +59,5 @@ $work/jobtext independent 1000 1100000 0 >$work/long.job
 python3 tests/large/compare.py terminal $large $work/long.job
 rm $work/*.job
 echo "large: the greatest P and V: as it should be"
+
+python3 .ci/transcripts.py docs/LARGE.md

@@ -1,5 +1,6 @@
 //! Host code, not proved: a list of calls on a session, by the proved `replay_calls`.
 
+use std::alloc::{alloc_zeroed, Layout};
 use std::fmt;
 
 use crate::calls::{Call, Calls};
@@ -50,25 +51,28 @@ impl fmt::Display for StorageError {
 
 impl std::error::Error for StorageError {}
 
-/// Zeros, or an error where there is not so much memory.
-fn zeros<T: Copy + Default>(count: usize, bytes: u64) -> Result<Vec<T>, StorageError> {
-    let mut numbers = Vec::new();
-    grow(&mut numbers, count, bytes)?;
-    Ok(numbers)
-}
+/// Numbers whose 0 has no bit set.
+trait Number: Copy {}
+impl Number for u16 {}
+impl Number for u32 {}
+impl Number for u64 {}
 
-fn grow<T: Copy + Default>(
-    numbers: &mut Vec<T>,
-    count: usize,
-    bytes: u64,
-) -> Result<(), StorageError> {
-    let more = count.saturating_sub(numbers.len());
-    match numbers.try_reserve_exact(more) {
-        Ok(()) => {
-            numbers.resize(count, T::default());
-            Ok(())
+/// Zeros as the system hands them out, or an error where it has not so many. (`vec!` would end the
+/// program, and a vector that is filled afterwards would be written twice.)
+fn zeros<T: Number>(count: usize, bytes: u64) -> Result<Vec<T>, StorageError> {
+    let none = StorageError::Memory(bytes);
+    let layout = Layout::array::<T>(count).map_err(|_| none)?;
+    if layout.size() == 0 {
+        return Ok(Vec::new());
+    }
+    // SAFETY: the layout is that of `count` numbers and not empty, as `alloc_zeroed` asks. The vector
+    // takes over what was allocated with just this layout, all of it zeros.
+    unsafe {
+        let start = alloc_zeroed(layout).cast::<T>();
+        match start.is_null() {
+            true => Err(none),
+            false => Ok(Vec::from_raw_parts(start, count, count)),
         }
-        Err(_) => Err(StorageError::Memory(bytes)),
     }
 }
 
@@ -123,7 +127,10 @@ impl Storage {
 
     /// Allocates the numbers of so many calls, which [`replay`] would do otherwise.
     pub fn reserve_calls(&mut self, count: usize) -> Result<(), StorageError> {
-        grow(&mut self.answers, count, 8 * count as u64)
+        if self.answers.len() < count {
+            self.answers = zeros(count, (count as u64).saturating_mul(8))?;
+        }
+        Ok(())
     }
 
     pub fn parallelism(&self) -> u64 {

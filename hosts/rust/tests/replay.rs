@@ -178,7 +178,7 @@ fn the_bytes_of_storage_are_said_before() {
 }
 
 #[test]
-fn a_greatest_guide_request_list() {
+fn the_guide_alone_takes_v_pushes() {
     let push = |after| Request::Push {
         value: 5,
         added: 6,
@@ -199,7 +199,17 @@ fn a_greatest_guide_request_list() {
     );
     assert_eq!((done.entries().len(), done.tally()), (2, &[0, 2][..]));
     assert_eq!(done.answers().last().unwrap().written, 2);
-    assert!(guide::replay(1, 16_777_217, &[]).is_err() && guide::replay(65_000, 1, &[]).is_err());
+    for (p, v) in [
+        (0, 1),
+        (65_000, 1),
+        (1, 0),
+        (1, 16_777_217),
+        (1 << 32 | 1, 1),
+        (1, 1 << 32 | 1),
+    ] {
+        let refused = guide::replay(p, v, &[]).err();
+        assert_eq!(refused, Some(Refusal::OutOfRange), "p {p}, v {v}");
+    }
     assert_eq!(guide::replay(3, 3, &[]).unwrap().entries().len(), 0);
 }
 

@@ -171,7 +171,7 @@ impl Job {
             // The head was accepted, so p and v are in range.
             storage: Storage::bytes(self.p, self.v, pool).unwrap_or(0),
             pool: 4 * pool as u64,
-            calls: 8 * self.calls.numbers.capacity() as u64,
+            calls: 8 * self.calls.numbers.len() as u64,
             answers: 8 * self.calls.len() as u64,
         }
     }

@@ -97,6 +97,8 @@ impl<R: BufRead> Reader<R> {
                 Err(malformed) => break Err(malformed),
             }
         };
+        // What was taken in advance while the list grew goes back before storage is allocated.
+        calls.numbers.shrink_to_fit();
         Ok((calls, ended))
     }
 
@@ -298,6 +300,7 @@ mod tests {
             "1 ",
             "1a",
             "18446744073709551616",
+            "1844674407370955161a",
             "100000000000000000000",
         ];
         for text in wrong {
