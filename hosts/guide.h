@@ -1,6 +1,6 @@
-/* The exported call of crate `alone_replay`: a whole list of requests to the guide alone, freshly
-   opened. `rt staticlib alone_replay` proves it and writes target/staticlib/libalone_replay.a.
-   docs/GUIDE.md describes requests and answers. */
+/* Host code, not proved: the declaration of the proved call of crate `alone_replay`.
+   A whole list of requests to the guide alone, freshly opened. `rt staticlib alone_replay` proves it
+   and writes target/staticlib/libalone_replay.a. docs/GUIDE.md describes requests and answers. */
 #ifndef GUIDE_H
 #define GUIDE_H
 

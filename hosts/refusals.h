@@ -34,7 +34,7 @@ static inline const char *order_code_text(uint64_t number) {
     case ORDER_OUT_OF_RANGE:
         return "the parallelism is not from 1 to 64,999, or the count of places is not from 1 to 16,777,216";
     case ORDER_TOO_SHORT:
-        return "the storage is too short for this parallelism and this count of places";
+        return "the lent storage is too short for this parallelism, this count of places or this list";
     case ORDER_TOO_MANY_NUMBERS:
         return "a registration has more than 65,535 inputs or more than 65,535 outputs";
     case ORDER_FLAGGED_PLACE:
@@ -56,11 +56,11 @@ static inline const char *order_code_text(uint64_t number) {
     case ORDER_STILL_WAITING:
         return "final was called while a registration waits for its inputs";
     case ORDER_NOT_HELD:
-        return "the guide alone was asked to place after an entry that it does not hold";
+        return "the guide alone was asked to place after a location, not before its window, at which it holds no entry";
     case ORDER_GUIDE_EXHAUSTED:
         return "the guide alone has accepted as many pushes as it was opened for, or its span numbers are used up";
     case ORDER_MALFORMED:
-        return "a line is malformed, missing or surplus; in a list of calls, a number starts no call or a call is cut short";
+        return "a line is malformed, missing or surplus; in a list of calls or requests, a number starts none or one is cut short";
     case ORDER_LONG_JOB:
         return "the job has more than 65,536 bytes";
     case ORDER_LONG_LISTING:

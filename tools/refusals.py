@@ -213,7 +213,7 @@ def in_document(rows):
     text = read(DOCUMENT)
     if text.count(BEGIN) != 1 or text.count(END) != 1 or text.index(END) < text.index(BEGIN):
         raise Wrong(f"{DOCUMENT} has not the two lines between which the table stands, once each")
-    return text[: text.index(BEGIN)] + BEGIN + table + text[text.index(END) :]
+    return text[: text.index(BEGIN)] + BEGIN + "\n" + table + "\n" + text[text.index(END) :]
 
 
 def lists(rows):

@@ -104,28 +104,37 @@ echo "hosts: $headers headers, three examples and replay_storage's test by: ${co
 elsewhere=$(mktemp -d)
 trap 'rm -rf "$elsewhere"' EXIT
 outside() (
-  export PKG_CONFIG_PATH=$prefix/lib/pkgconfig
-  cp "$prefix"/share/order/examples/*.c "$elsewhere" && cd "$elsewhere"
+  set -e
+  listing=$PWD/crates/order/stdout job=$PWD/crates/order/stdin
+  export PKG_CONFIG_PATH=$prefix/lib/pkgconfig LD_LIBRARY_PATH=$prefix/lib
+  cp "$prefix"/share/order/examples/*.c "$elsewhere"
+  cd "$elsewhere"
   [ "$(pkg-config --modversion order)" = "$(cat "$prefix/share/order/VERSION")" ]
   for example in order replay storage; do
-    gcc -std=c99 $(pkg-config --cflags order) ${example}_example.c $(pkg-config --libs order) -o $example-shared
-    gcc -static $(pkg-config --cflags order) ${example}_example.c $(pkg-config --static --libs order) -o $example-static
-    g++ -std=c++11 -x c++ $(pkg-config --cflags order) ${example}_example.c -x none $(pkg-config --libs order) -o $example-c++
+    source=${example}_example.c
+    gcc -std=c99 $(pkg-config --cflags order) $source $(pkg-config --libs order) -o $example-shared
+    gcc -static $(pkg-config --cflags order) $source $(pkg-config --static --libs order) -o $example-static
+    ! command -v g++ >/dev/null ||
+      g++ -std=c++11 -x c++ $(pkg-config --cflags order) $source -x none $(pkg-config --libs order) -o $example-c++
   done
-  export LD_LIBRARY_PATH=$prefix/lib
-  for kind in shared static c++; do
-    ./order-$kind <"$OLDPWD/crates/order/stdin" | cmp - "$OLDPWD/crates/order/stdout"
-    ./replay-$kind | cmp - <(grep ^order= "$OLDPWD/crates/order/stdout")
-    ./storage-$kind | grep ^order= | cmp - <(grep ^order= "$OLDPWD/crates/order/stdout")
+  for program in order-*; do $(realpath $program) <"$job" | cmp - "$listing"; done
+  for program in replay-* storage-*; do
+    $(realpath $program) | grep ^order= | cmp - <(grep ^order= "$listing")
   done
-  ldd ./order-shared | grep -q "$prefix/lib/liborder.so"
-  mv "$prefix" "$prefix-moved" && PKG_CONFIG_PATH=$prefix-moved/lib/pkgconfig \
-    gcc $(PKG_CONFIG_PATH=$prefix-moved/lib/pkgconfig pkg-config --cflags --libs order) -x c storage_example.c \
-    -x none $(PKG_CONFIG_PATH=$prefix-moved/lib/pkgconfig pkg-config --libs order) -o moved
+  ldd order-shared | grep -qF "$prefix/lib/liborder.so"
+  # the prefix may be moved
+  mv "$prefix" "$prefix-moved"
+  export PKG_CONFIG_PATH=$prefix-moved/lib/pkgconfig LD_LIBRARY_PATH=$prefix-moved/lib
+  gcc -std=c99 $(pkg-config --cflags order) storage_example.c $(pkg-config --libs order) -o moved && ./moved >moved.out
   mv "$prefix-moved" "$prefix"
 )
 if command -v pkg-config >/dev/null; then
-  outside || fail "a host built from the installation"
+  # not in a condition, where a failing command would not end it
+  set +e
+  outside
+  ended=$?
+  set -e
+  [ $ended -eq 0 ] || fail "a host built from the installation"
   echo "hosts: three C programs built with pkg-config alone, shared, static and as C++; the prefix may be moved"
 else
   echo "hosts: no pkg-config: NOTHING is built from the installation"

@@ -4,6 +4,7 @@
 #include <stdlib.h>
 #include <string.h>
 
+#include "guide.h"
 #include "order.h"
 #include "order_entries.h"
 #include "replay_storage.h"
@@ -138,7 +139,30 @@ static void look_at_refusals(void) {
     look(replay_run(&s, NULL, 0, NULL, 0) == 0 && s.entries == 0, "no calls at all are accepted");
 }
 
-/* The numbers in words, and the other two calls in the same program. */
+/* G2 of document 01: a value after nothing, one after it, and a third after a location that is not held. */
+static void look_at_guide(void) {
+    static uint32_t spans[GUIDE_SPANS(3)], order[GUIDE_ORDER(9)], tally[GUIDE_TALLY(3)], answers[GUIDE_ANSWERS(4)];
+    static const uint32_t requests[4 * GUIDE_REQUEST] = {
+        GUIDE_PUSH, 0, 0, 5, 0, 0,
+        GUIDE_PUSH_AFTER, 1, 0, 6, 1, 1,
+        GUIDE_PUSH_AFTER, 1, 1, 7, 2, 2,
+        GUIDE_FLUSH, 0, 0, 0, 0, 0,
+    };
+    const uint32_t *answer = answers;
+    look(guide_replay(3, 9, requests, 4 * GUIDE_REQUEST, spans, GUIDE_SPANS(3), order, GUIDE_ORDER(9),
+                      tally, GUIDE_TALLY(3), answers, GUIDE_ANSWERS(4)) == ORDER_ACCEPTED, "requests are served");
+    look(answer[0] == 0 && answer[1] == 1 && answer[2] == 0, "the first stands at (1,0)");
+    answer += GUIDE_ANSWER;
+    look(answer[0] == 0 && answer[1] == 2 && answer[2] == 0, "the second stands at (2,0)");
+    answer += GUIDE_ANSWER;
+    look(answer[0] == ORDER_NOT_HELD, "the third is refused with 13");
+    answer += GUIDE_ANSWER;
+    look(answer[0] == 0 && answer[3] == 2 && order[0] == 5 && order[4] == 6, "two entries are in the order");
+    look(guide_replay(0, 9, requests, 4 * GUIDE_REQUEST, spans, GUIDE_SPANS(3), order, GUIDE_ORDER(9),
+                      tally, GUIDE_TALLY(3), answers, GUIDE_ANSWERS(4)) == ORDER_OUT_OF_RANGE, "P = 0 is refused");
+}
+
+/* The numbers in words, and the other calls in the same program. */
 static void look_at_others(void) {
     uint8_t listing[1000];
     const char *empty = "parallelism=1\nplaces=1\nfinal=1\n";
@@ -157,6 +181,7 @@ static void look_at_others(void) {
 int main(void) {
     look_at_runs();
     look_at_refusals();
+    look_at_guide();
     look_at_others();
     return wrong;
 }

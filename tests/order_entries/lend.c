@@ -5,16 +5,7 @@
 #include <stdio.h>
 #include <string.h>
 
-struct order_info {
-    uint32_t value, added, accepted;
-    uint16_t parallelism;
-};
-
-/* Copies entries `from` to `to` - 1 of the flat order (four numbers an entry) to the same indices of
-   the order and returns 0. It returns 2, with the order as it was, unless from <= to <= order_length,
-   4 * to <= flat_length and each parallelism is below 65,536. */
-uint64_t order_append_new(struct order_info *order, size_t order_length, const uint32_t *flat, size_t flat_length,
-                          size_t from, size_t to);
+#include "order_entries.h"
 
 enum { ENTRIES = 1000 };
 

@@ -42,7 +42,7 @@ class Refusal(enum.IntEnum):
 
 WHEN = {
     1: "the parallelism is not from 1 to 64,999, or the count of places is not from 1 to 16,777,216",
-    2: "the storage is too short for this parallelism and this count of places",
+    2: "the lent storage is too short for this parallelism, this count of places or this list",
     3: "a registration has more than 65,535 inputs or more than 65,535 outputs",
     4: "a place has bit 62 (witness) or bit 63 (placeholder)",
     5: "a place is not below the count of places",
@@ -53,9 +53,9 @@ WHEN = {
     10: "the list numbers of all accepted registrations and of this one would together pass the pool",
     11: "65,535 plain flushes are done",
     12: "final was called while a registration waits for its inputs",
-    13: "the guide alone was asked to place after an entry that it does not hold",
+    13: "the guide alone was asked to place after a location, not before its window, at which it holds no entry",
     14: "the guide alone has accepted as many pushes as it was opened for, or its span numbers are used up",
-    15: "a line is malformed, missing or surplus; in a list of calls, a number starts no call or a call is cut short",
+    15: "a line is malformed, missing or surplus; in a list of calls or requests, a number starts none or one is cut short",
     16: "the job has more than 65,536 bytes",
     17: "the listing is longer than the bytes that are lent for it",
 }

@@ -7,7 +7,7 @@
 pub enum Refusal {
     /// the parallelism is not from 1 to 64,999, or the count of places is not from 1 to 16,777,216
     OutOfRange = 1,
-    /// the storage is too short for this parallelism and this count of places
+    /// the lent storage is too short for this parallelism, this count of places or this list
     TooShort = 2,
     /// a registration has more than 65,535 inputs or more than 65,535 outputs
     TooManyNumbers = 3,
@@ -29,11 +29,11 @@ pub enum Refusal {
     TooManyFlushes = 11,
     /// final was called while a registration waits for its inputs
     StillWaiting = 12,
-    /// the guide alone was asked to place after an entry that it does not hold
+    /// the guide alone was asked to place after a location, not before its window, at which it holds no entry
     NotHeld = 13,
     /// the guide alone has accepted as many pushes as it was opened for, or its span numbers are used up
     GuideExhausted = 14,
-    /// a line is malformed, missing or surplus; in a list of calls, a number starts no call or a call is cut short
+    /// a line is malformed, missing or surplus; in a list of calls or requests, a number starts none or one is cut short
     Malformed = 15,
     /// the job has more than 65,536 bytes
     LongJob = 16,
@@ -106,7 +106,7 @@ impl Refusal {
                 "the parallelism is not from 1 to 64,999, or the count of places is not from 1 to 16,777,216"
             }
             Refusal::TooShort => {
-                "the storage is too short for this parallelism and this count of places"
+                "the lent storage is too short for this parallelism, this count of places or this list"
             }
             Refusal::TooManyNumbers => {
                 "a registration has more than 65,535 inputs or more than 65,535 outputs"
@@ -127,13 +127,13 @@ impl Refusal {
             Refusal::TooManyFlushes => "65,535 plain flushes are done",
             Refusal::StillWaiting => "final was called while a registration waits for its inputs",
             Refusal::NotHeld => {
-                "the guide alone was asked to place after an entry that it does not hold"
+                "the guide alone was asked to place after a location, not before its window, at which it holds no entry"
             }
             Refusal::GuideExhausted => {
                 "the guide alone has accepted as many pushes as it was opened for, or its span numbers are used up"
             }
             Refusal::Malformed => {
-                "a line is malformed, missing or surplus; in a list of calls, a number starts no call or a call is cut short"
+                "a line is malformed, missing or surplus; in a list of calls or requests, a number starts none or one is cut short"
             }
             Refusal::LongJob => "the job has more than 65,536 bytes",
             Refusal::LongListing => "the listing is longer than the bytes that are lent for it",
