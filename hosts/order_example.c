@@ -12,18 +12,18 @@
 
 int main(int count_of_words, char **words) {
     static uint8_t job[ORDER_JOB_BYTES + 1], listing[ORDER_LISTING_BYTES];
-    size_t lent = count_of_words > 1 ? (size_t)strtoul(words[1], NULL, 10) : sizeof listing;
+    size_t room = count_of_words > 1 ? (size_t)strtoul(words[1], NULL, 10) : sizeof listing;
     size_t count = fread(job, 1, sizeof job, stdin);
     if (ferror(stdin)) {
         fputs("the job cannot be read\n", stderr);
         return 2;
     }
-    if (lent > sizeof listing) {
+    if (room > sizeof listing) {
         fputs("so many listing bytes are not there\n", stderr);
         return 2;
     }
 
-    uint64_t returned = order_job(job, count, listing, lent);
+    uint64_t returned = order_job(job, count, listing, room);
     unsigned code = ORDER_CODE(returned);
     if (code != ORDER_ACCEPTED) {
         printf("refused with %u on line %lu: %s\n", code, ORDER_LINE(returned), order_code_text(code));

@@ -42,11 +42,31 @@ static void print_order(const struct replay_storage *storage) {
         printf("parallelism %zu: %" PRIu32 " entries\n", parallelism, replay_tally_at(storage, parallelism));
 }
 
+static int print_median(const struct replay_storage *storage) {
+    struct replay_summary summary;
+    uint64_t code = replay_summary_of(storage, &summary);
+    if (code != ORDER_ACCEPTED)
+        return refused("the summary", code);
+    printf("median %" PRIu32 "\n", summary.median);
+    return 0;
+}
+
+static int print_last_struct(const struct replay_storage *storage) {
+    struct order_info infos[V];
+    uint64_t code = order_append_new(infos, V, storage->order, REPLAY_ORDER(V), 0, storage->entries);
+    if (code != ORDER_ACCEPTED)
+        return refused("the order as structs", code);
+    if (storage->entries > 0)
+        printf("the last entry: added %" PRIu32 ", parallelism %u\n",
+               infos[storage->entries - 1].added, (unsigned)infos[storage->entries - 1].parallelism);
+    return 0;
+}
+
 int main(void) {
     uint64_t answers[6];
-    struct order_info infos[V];
     void *memory = malloc(replay_storage_bytes(P, V, W));
     struct replay_storage storage = replay_storage_in(memory, P, V, W);
+    int ended;
 
     uint64_t returned = replay_run(&storage, calls, sizeof calls / sizeof *calls,
                                    answers, sizeof answers / sizeof *answers);
@@ -58,22 +78,7 @@ int main(void) {
         if (answers[i] != ORDER_ACCEPTED)
             refused("a call", answers[i]);
     print_order(&storage);
-
-    struct replay_summary summary;
-    returned = replay_summary_of(&storage, &summary);
-    if (returned != ORDER_ACCEPTED) {
-        free(memory);
-        return refused("the summary", returned);
-    }
-    printf("median %" PRIu32 "\n", summary.median);
-
-    returned = order_append_new(infos, V, storage.order, REPLAY_ORDER(V), 0, storage.entries);
-    if (returned != ORDER_ACCEPTED) {
-        free(memory);
-        return refused("the order as structs", returned);
-    }
-    printf("the last entry: added %" PRIu32 ", parallelism %u\n",
-           infos[storage.entries - 1].added, (unsigned)infos[storage.entries - 1].parallelism);
+    ended = print_median(&storage) || print_last_struct(&storage);
     free(memory);
-    return 0;
+    return ended;
 }

@@ -42,93 +42,97 @@ static void look_at_layout(const struct replay_storage *s, const char *block, si
     look(end <= block + bytes, "the slices end within the block");
 }
 
-/* A run in a block at each offset from an aligned address, full of a pattern before, with bytes around
-   that must stay. */
-static void look_at_runs(void) {
-    size_t bytes = replay_storage_bytes(P, V, W);
-    char *memory = (char *)malloc(bytes + 64);
-    if (memory == NULL) {
-        look(0, "there is memory for a small storage");
-        return;
-    }
-    for (size_t offset = 16; offset < 24; offset++) {
-        uint64_t answers[MADE + 1];
-        memset(answers, 0x5a, sizeof answers);
-        memset(memory, 0x5a, bytes + 64);
-        struct replay_storage s = replay_storage_in(memory + offset, P, V, W);
-        look(s.refusal == ORDER_ACCEPTED && s.entries == 0, "a storage is laid out");
-        look_at_layout(&s, memory + offset, bytes);
-        for (int again = 0; again < 2; again++) {
-            look(replay_run(&s, calls, CALLS, answers, MADE) == 64 * 4, "the run returns 64 times 4 entries");
-            look(s.entries == 4, "there are four entries");
-            look(memcmp(answers, codes, sizeof codes) == 0, "each call has its number");
-            look(answers[MADE] == 0x5a5a5a5a5a5a5a5au, "the answer after the last stays");
-        }
-        struct replay_entry first = replay_entry_at(&s, 0), past = replay_entry_at(&s, 4);
-        look(first.value == 0 && first.added == 0 && first.accepted == 0 && first.parallelism == 2, "entry 0");
-        look(past.value == 0 && past.added == 0 && past.accepted == 0 && past.parallelism == 0, "no entry 4");
-        struct replay_row last = replay_row_at(&s, 3), none = replay_row_at(&s, V);
-        look(last.added == 3 && last.accepted == 3 && last.written == 4 && last.order_index == 3 &&
-             last.parallelism == 1, "row 3");
-        look(none.added == 0 && none.parallelism == 0 && none.written == 0, "no row V");
-        uint32_t sum = 0;
-        for (size_t p = 0; p <= P + 3; p++)
-            sum += replay_tally_at(&s, p);
-        look(sum == s.entries, "the tally's sum is the order's length");
-        struct replay_summary summary;
-        memset(&summary, 0x5a, sizeof summary);
-        size_t with[P + 1] = {0, 0, 0};
-        for (size_t i = 0; i < s.entries; i++)
-            with[replay_entry_at(&s, i).parallelism % (P + 1)]++;
-        look(replay_summary_of(&s, &summary) == ORDER_ACCEPTED && summary.counts[0] == 0 &&
-             summary.counts[1] == with[1] && summary.counts[2] == with[2] && summary.counts[3] == 0 &&
-             summary.thousands[0] == 4 && summary.thousands[1] == 0, "the summary's counts are the order's");
-        look(summary.median == (2 * with[1] >= 4 ? 1u : 2u), "the median");
-        look(summary.average == (float)(4.0 / 65000), "the average");
-        look(replay_summary_of(&s, NULL) == ORDER_TOO_SHORT, "a null summary is refused");
-        look(replay_mark_at(&s, 0) == REPLAY_SET && replay_mark_at(&s, 4) == REPLAY_WRITTEN &&
-             replay_mark_at(&s, 5) == REPLAY_UNTRACKED && replay_mark_at(&s, V) == REPLAY_UNTRACKED, "marks");
-        look(replay_location_at(&s, 0).span == 0 && replay_location_at(&s, 1).span == 1 &&
-             replay_location_at(&s, 2).span == 2 && replay_location_at(&s, V).span == 0, "locations");
-        for (size_t i = 0; i < offset; i++)
-            look(memory[i] == 0x5a, "the bytes before the block stay");
-        for (size_t i = offset + bytes; i < bytes + 64; i++)
-            look(memory[i] == 0x5a, "the bytes behind the block stay");
-    }
-    free(memory);
+/* The order, the rows and the places after a run. */
+static void look_at_results(const struct replay_storage *s) {
+    struct replay_entry first = replay_entry_at(s, 0), past = replay_entry_at(s, 4);
+    look(first.value == 0 && first.added == 0 && first.accepted == 0 && first.parallelism == 2, "entry 0");
+    look(past.value == 0 && past.added == 0 && past.accepted == 0 && past.parallelism == 0, "no entry 4");
+    struct replay_row last = replay_row_at(s, 3), none = replay_row_at(s, V);
+    look(last.added == 3 && last.accepted == 3 && last.written == 4 && last.order_index == 3 &&
+         last.parallelism == 1, "row 3");
+    look(none.added == 0 && none.parallelism == 0 && none.written == 0, "no row V");
+    look(replay_mark_at(s, 0) == REPLAY_SET && replay_mark_at(s, 4) == REPLAY_WRITTEN &&
+         replay_mark_at(s, 5) == REPLAY_UNTRACKED && replay_mark_at(s, V) == REPLAY_UNTRACKED, "marks");
+    look(replay_location_at(s, 0).span == 0 && replay_location_at(s, 1).span == 1 &&
+         replay_location_at(s, 2).span == 2 && replay_location_at(s, V).span == 0, "locations");
 }
 
-static void look_at_refusals(void) {
+/* Tally and summary count the entries that there are. */
+static void look_at_counts(const struct replay_storage *s) {
+    struct replay_summary summary;
+    size_t with[P + 1] = {0, 0, 0};
+    uint32_t sum = 0;
+    memset(&summary, 0x5a, sizeof summary);
+    for (size_t i = 0; i < s->entries; i++)
+        with[replay_entry_at(s, i).parallelism % (P + 1)]++;
+    for (size_t p = 0; p <= P + 3; p++)
+        sum += replay_tally_at(s, p);
+    look(sum == s->entries && replay_tally_at(s, 1) == with[1], "the tally counts the order's entries");
+    look(replay_summary_of(s, &summary) == ORDER_ACCEPTED && summary.counts[0] == 0 &&
+         summary.counts[1] == with[1] && summary.counts[2] == with[2] && summary.counts[3] == 0 &&
+         summary.thousands[0] == 4 && summary.thousands[1] == 0, "the summary's counts are the order's");
+    look(summary.median == (2 * with[1] >= 4 ? 1u : 2u), "the median");
+    look(summary.average == (float)(4.0 / 65000), "the average");
+    look(replay_summary_of(s, NULL) == ORDER_TOO_SHORT, "a null summary is refused");
+}
+
+/* Two runs in a block so far from an aligned address, full of a pattern before, with bytes around it
+   that must stay. */
+static void look_at_runs(char *memory, size_t offset) {
+    size_t bytes = replay_storage_bytes(P, V, W);
+    uint64_t answers[MADE + 1];
+    memset(answers, 0x5a, sizeof answers);
+    memset(memory, 0x5a, bytes + 64);
+    struct replay_storage s = replay_storage_in(memory + offset, P, V, W);
+    look(s.refusal == ORDER_ACCEPTED && s.entries == 0, "a storage is laid out");
+    look_at_layout(&s, memory + offset, bytes);
+    for (int again = 0; again < 2; again++) {
+        look(replay_run(&s, calls, CALLS, answers, MADE) == 64 * 4, "the run returns 64 times 4 entries");
+        look(s.entries == 4, "there are four entries");
+        look(memcmp(answers, codes, sizeof codes) == 0, "each call has its number");
+        look(answers[MADE] == 0x5a5a5a5a5a5a5a5au, "the answer after the last stays");
+        look_at_results(&s);
+        look_at_counts(&s);
+    }
+    for (size_t i = 0; i < offset; i++)
+        look(memory[i] == 0x5a, "the bytes before the block stay");
+    for (size_t i = offset + bytes; i < bytes + 64; i++)
+        look(memory[i] == 0x5a, "the bytes behind the block stay");
+}
+
+/* Sizes that no session has, and blocks that are too short. */
+static void look_at_sizes(void) {
     static char block[100000];
-    uint64_t answers[MADE], most_pool = SIZE_MAX / 8;
     size_t bytes = replay_storage_bytes(P, V, W);
     look(bytes > 0 && bytes < sizeof block, "a small storage has some bytes");
     look(replay_storage_bytes(0, V, W) == 0 && replay_storage_bytes(65000, V, W) == 0, "P out of range has none");
     look(replay_storage_bytes(P, 0, W) == 0 && replay_storage_bytes(P, 16777217, W) == 0, "V out of range has none");
     look(replay_storage_bytes(UINT64_MAX, UINT64_MAX, UINT64_MAX) == 0, "the greatest of all have none");
-    look(replay_storage_bytes(P, V, UINT64_MAX) == 0 && replay_storage_bytes(P, V, most_pool) == 0,
+    look(replay_storage_bytes(P, V, UINT64_MAX) == 0 && replay_storage_bytes(P, V, SIZE_MAX / 8) == 0,
          "a pool that no memory holds has none");
     look(replay_storage_bytes(64999, 16777216, 0) > 1300000000u, "the greatest session has its bytes");
     look(replay_storage_bytes(P, V, W + 1) == bytes + 4, "a pool number has four bytes");
-
     look(replay_storage_in(block, 0, V, W).refusal == ORDER_OUT_OF_RANGE, "P = 0 is refused with 1");
     look(replay_storage_in(block, P, UINT64_MAX, W).refusal == ORDER_OUT_OF_RANGE, "a huge V is refused with 1");
     look(replay_storage_in(block, P, V, UINT64_MAX).refusal == ORDER_TOO_SHORT, "a huge W is refused with 2");
     look(replay_storage_in(NULL, P, V, W).refusal == ORDER_TOO_SHORT, "null memory is refused with 2");
     look(replay_storage_within(block, bytes - 1, P, V, W).refusal == ORDER_TOO_SHORT, "a byte less is refused");
     look(replay_storage_within(block, bytes, P, V, W).refusal == ORDER_ACCEPTED, "bytes enough are accepted");
+}
 
-    struct replay_storage none = replay_storage_in(NULL, P, V, W);
-    look(replay_run(&none, calls, CALLS, answers, MADE) == ORDER_TOO_SHORT, "a run without storage is refused");
+/* Runs that are refused: nothing is written, and without storage all reads as 0. */
+static void look_at_refused_runs(void) {
+    static char block[100000];
+    uint64_t answers[MADE];
     struct replay_summary summary;
-    look(replay_summary_of(&none, &summary) == ORDER_TOO_SHORT, "a summary without storage is refused");
+    struct replay_storage none = replay_storage_in(NULL, P, V, W), s = replay_storage_in(block, P, V, W);
+    look(replay_run(&none, calls, CALLS, answers, MADE) == ORDER_TOO_SHORT, "a run without storage is refused");
     look(replay_run(NULL, calls, CALLS, answers, MADE) == ORDER_TOO_SHORT, "a run on null is refused");
+    look(replay_summary_of(&none, &summary) == ORDER_TOO_SHORT, "a summary without storage is refused");
     look(replay_entry_at(&none, 0).parallelism == 0 && replay_row_at(&none, 0).parallelism == 0 &&
          replay_tally_at(&none, 0) == 0 && replay_mark_at(&none, 0) == 0 && replay_location_at(&none, 0).span == 0,
          "without storage all is 0");
-
     memset(block, 0x5a, sizeof block);
-    struct replay_storage s = replay_storage_in(block, P, V, W);
     look(replay_run(&s, calls, CALLS, answers, MADE - 1) == ORDER_TOO_SHORT, "an answer less is refused");
     look(replay_run(&s, calls, CALLS, NULL, MADE) == ORDER_TOO_SHORT, "null answers are refused");
     look(replay_run(&s, NULL, CALLS, answers, MADE) == ORDER_MALFORMED, "null calls are refused");
@@ -179,8 +183,13 @@ static void look_at_others(void) {
 }
 
 int main(void) {
-    look_at_runs();
-    look_at_refusals();
+    char *memory = (char *)malloc(replay_storage_bytes(P, V, W) + 64);
+    look(memory != NULL, "there is memory for a small storage");
+    for (size_t offset = 16; memory != NULL && offset < 24; offset++)
+        look_at_runs(memory, offset);
+    free(memory);
+    look_at_sizes();
+    look_at_refused_runs();
     look_at_guide();
     look_at_others();
     return wrong;
