@@ -162,11 +162,21 @@ refuses 1 "file is there and is no folder" tools/install "$work/bad/file/below"
 refuses 1 "pkgconfig is there and is no folder" tools/install "$work/bad"
 refuses 1 "bin/order is a folder" tools/install "$work/bad/taken"
 refuses 1 "cannot be made" tools/install /proc/order/prefix
+# a folder that may not be written; root may write all, and so goes as nobody
+mkdir "$work/bad/closed" && chmod 555 "$work/bad/closed"
+before=$(listed)
+nobody=
+[ ! -w "$work/bad/closed" ] || nobody='setpriv --reuid=65534 --regid=65534 --clear-groups'
+if $nobody test -r tools/install && $nobody test -x "$work/bad/closed"; then
+  refuses 1 "closed may not be written" $nobody tools/install "$work/bad/closed"
+else
+  echo "hosts: nobody may not read the repository: NOT tried on a folder that may not be written"
+fi
 # a file system that takes no more: files end at 8 KB
 refuses 1 "nothing is installed" bash -c "trap '' XFSZ; ulimit -f 8; tools/install '$work/bad/full/deep'"
 [ "$before" = "$(listed)" ] || fail "a refused installation has changed something"
 tools/install --help | grep -q PREFIX || fail "tools/install --help"
-echo "hosts: ten installations refused in words, nothing written"
+echo "hosts: eleven installations refused in words, nothing written"
 
 # The command around the program, as installed.
 command=$prefix/bin/order-job
