@@ -30,7 +30,7 @@ def run(command, output):
         _, status, used = os.wait4(child, 0)
     if status != 0:
         sys.exit(f"large.py: {' '.join(command)} ended with {status}")
-    return used.ru_utime + used.ru_stime, used.ru_maxrss / 1000
+    return used.ru_utime + used.ru_stime, used.ru_maxrss * 1024 / 1e6
 
 
 def measure(name, size, repetitions):

@@ -7,7 +7,7 @@
 //!
 //! | module | call | what it is |
 //! |---|---|---|
-//! | [`replay`] | `replay_calls` | a list of calls ([`calls`]) on a session of any size |
+//! | [`mod@replay`] | `replay_calls` | a list of calls ([`calls`]) on a session of any size |
 //! | [`job`] | `order_job` | a job's text, of at most 65,536 bytes, to its listing |
 //! | [`summary`] | `order_summary` | average, median and counts of a tally |
 //! | [`guide`] | `guide_replay` | requests to the guide alone |
