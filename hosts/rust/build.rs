@@ -1,7 +1,7 @@
 //! Host code, not proved: finds the proved archives, or has them built, and links them.
 //!
-//! They are looked for in the folder that ORDER_LIBS names, else in target/staticlib of the repository;
-//! those missing there are built by `rt staticlib` where the toolchain is at hand.
+//! They are looked for in the folder that ORDER_LIBS names (an absolute path), else in target/staticlib
+//! of the repository; those missing there are built by `rt staticlib` where the toolchain is at hand.
 
 use std::path::{Path, PathBuf};
 use std::process::{exit, Command, Output};
@@ -13,8 +13,10 @@ fn main() {
     let root = Path::new(&variable("CARGO_MANIFEST_DIR")).join("../..");
     println!("cargo:rerun-if-env-changed=ORDER_LIBS");
     let named = std::env::var_os("ORDER_LIBS").filter(|name| !name.is_empty());
-    let folder = match named {
-        Some(named) => PathBuf::from(named),
+    let folder = match named.map(PathBuf::from) {
+        // Cargo runs this from another folder than its caller's.
+        Some(named) if named.is_relative() => fail("ORDER_LIBS must be an absolute path"),
+        Some(named) => named,
         None => built(&root),
     };
     let missing = missing(&folder);

@@ -23,6 +23,15 @@ awk '/^test result: ok/ { passed += $4; parts += 1 } END {
   printf "large: cargo test: %d tests and examples in %d parts passed\n", passed, parts; exit !passed }' $work/cargo.log
 grep '^large: ' $work/cargo.log || fail "cargo test compared nothing"
 
+# A folder without archives is said plainly.
+for folder in "$PWD/$work" some/where; do
+  ! ORDER_LIBS=$folder CARGO_TARGET_DIR=$work/none cargo build --offline --manifest-path $manifest 2>$work/said ||
+    fail "ORDER_LIBS=$folder: built without archives"
+  grep -Eq 'witness-order: (no libhost.a, .* in |ORDER_LIBS must be an absolute path)' $work/said ||
+    { cat $work/said >&2; fail "ORDER_LIBS=$folder: nothing is said"; }
+done
+echo "large: missing archives are said"
+
 cargo build --release --offline --quiet --manifest-path $manifest || fail "cargo build"
 large=target/cargo/release/order-large
 

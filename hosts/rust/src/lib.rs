@@ -63,8 +63,9 @@
 //!
 //! # Linking
 //!
-//! build.rs looks for the archives in the folder that ORDER_LIBS names, else in target/staticlib of
-//! the repository, and has the missing ones built by `rt staticlib` where the toolchain is at hand.
+//! build.rs looks for the archives in the folder that ORDER_LIBS names (an absolute path), else in
+//! target/staticlib of the repository, and has the missing ones built by `rt staticlib` where the
+//! toolchain is at hand.
 
 #![warn(missing_debug_implementations)]
 
