@@ -42,8 +42,7 @@ for copy in published ordered; do
 done
 
 if grep -q '^replay:' crates.txt; then
-  rt staticlib replay >target/bench/staticlib.log 2>&1 ||
-    { tail -n 20 target/bench/staticlib.log >&2; exit 1; }
+  tools/archives replay
   links+=(--cfg ours -L target/staticlib -l static=replay)
 fi
 rustc "${flags[@]}" --check-cfg 'cfg(ours)' "${links[@]}" --crate-name bench \

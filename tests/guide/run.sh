@@ -13,7 +13,7 @@ work=target/guide
 fail() { echo "tests/guide/run.sh: $*" >&2; exit 1; }
 
 mkdir -p $work
-rt staticlib alone_replay >$work/staticlib.log 2>&1 || { tail -n 20 $work/staticlib.log >&2; fail "no library"; }
+tools/archives alone_replay || fail "no library"
 rustc --edition 2021 -O -D warnings -L target/staticlib -l static=alone_replay -o $work/guide tests/guide/host.rs
 rustc --edition 2021 -O -o $work/reference tests/reference/main.rs
 guide=$work/guide reference=$work/reference

@@ -31,13 +31,13 @@ echo "hosts: installed twice, $((SECONDS - slow)) s: $(head -n 1 "$work/install.
 # The refusals: the lists are those of the source, and the comparison finds what it must.
 tools/refusals.py --check
 copy=$work/copy
-mkdir -p "$copy"/{crates/rules,docs,hosts/rust/src,hosts/python,tools}
+mkdir -p "$copy"/{crates/rules,docs,hosts/rust/src,hosts/python/witness_order,tools}
 fresh() {
   cp -r crates/rules/specs "$copy/crates/rules/" && cp docs/JOB.md "$copy/docs/" && cp tools/refusals.py "$copy/tools/"
   cp hosts/refusals.* "$copy/hosts/" && cp hosts/rust/src/refusal.rs "$copy/hosts/rust/src/"
-  cp hosts/python/refusals.py "$copy/hosts/python/"
+  cp hosts/python/witness_order/refusals.py "$copy/hosts/python/witness_order/"
 }
-for list in hosts/refusals.h hosts/rust/src/refusal.rs hosts/python/refusals.py docs/JOB.md; do
+for list in hosts/refusals.h hosts/rust/src/refusal.rs hosts/python/witness_order/refusals.py docs/JOB.md; do
   fresh && sed -i 's/already set, written or promised/already set or written/' "$copy/$list"
   refuses 1 "$list is not what" "$copy/tools/refusals.py" --check
 done
@@ -65,7 +65,7 @@ END
 rustc --edition 2021 -D warnings -o "$work/names" "$work/names.rs"
 diff <(grep -v '^#' hosts/refusals.txt) <("$work/names") || fail "the refusals in Rust"
 diff <(grep -v '^#' hosts/refusals.txt) <(PYTHONDONTWRITEBYTECODE=1 PYTHONPATH=hosts/python python3 -c '
-from refusals import Refusal
+from witness_order import Refusal
 for r in Refusal: print(f"{int(r)} | {r.name.lower()} | {r} | {r.advice}")') || fail "the refusals in Python"
 echo "hosts: names of refusals: one source, compared; seven wrong copies are found"
 
@@ -143,7 +143,6 @@ exported=$(nm -D --defined-only "$prefix/lib/liborder.so" | awk '$2 == "T" {prin
 wanted=$(sed -n 's/^pub extern "C" fn \([a-z_]*\).*/\1/p' crates/*/src/lib.rt | sort | paste -sd' ')
 [ "$exported" = "$wanted" ] || fail "liborder.so exports '$exported', not '$wanted'"
 for call in $exported; do
-  [ $call = guide_replay ] && [ ! -f hosts/guide.h ] && echo "hosts: no hosts/guide.h: guide_replay has NO header" && continue
   grep -qw "$call" hosts/*.h || fail "$call is exported and no header has it"
 done
 ! readelf -d "$prefix/lib/liborder.so" | grep -q TEXTREL || fail "liborder.so has text relocations"
@@ -203,6 +202,8 @@ diff crates/order/stdout <(ulimit -Ss 300; "$command" crates/order/stdin) || fai
 [ "$("$command" --version)" = "order-job $(cat VERSION)" ] || fail "order-job --version"
 [ "$(hosts/order-job --version)" = "order-job $(cat VERSION)" ] || fail "hosts/order-job --version"
 "$command" crates/order/stdin | "$prefix/bin/order-picture" >/dev/null || fail "order-picture"
+diff crates/order/stdout <("$prefix/bin/order-large" crates/order/stdin) || fail "order-large as installed"
+[ "$("$prefix/bin/order-large" --version)" = "order-large $(cat VERSION)" ] || fail "order-large --version"
 echo "hosts: order-job: listings as the program prints them, refusals and failures in words with their status"
 
 python3 .ci/transcripts.py docs/JOB.md docs/HOSTS.md

@@ -20,7 +20,7 @@ seed=${JOB_SEED:-1}
 
 work=target/job
 mkdir -p $work target/reference
-rt staticlib host >$work/staticlib.log 2>&1 || { tail -n 20 $work/staticlib.log >&2; fail "rt staticlib host"; }
+tools/archives host || fail "no library"
 rt check order >$work/order.log 2>&1 || { tail -n 20 $work/order.log >&2; fail "rt check order"; }
 library=$(realpath target/staticlib/libhost.a)
 order=target/bin/order

@@ -16,6 +16,7 @@ mkdir -p $work target/reference
 [ -z "${ORDER_LIBS:-}" ] || export ORDER_LIBS=$(realpath "$ORDER_LIBS")
 export LARGE_SEED=${LARGE_SEED:-1}
 
+[ -n "${ORDER_LIBS:-}" ] || tools/archives
 manifest=hosts/rust/Cargo.toml
 cargo test --offline --quiet --manifest-path $manifest -- --show-output >$work/cargo.log 2>&1 ||
   { tail -n 60 $work/cargo.log >&2; fail "cargo test"; }

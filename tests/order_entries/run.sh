@@ -6,7 +6,7 @@ cd "$(dirname "$0")/../.."
 
 out=target/order_entries
 mkdir -p $out
-rt staticlib order_entries >$out/staticlib.log 2>&1 || { tail -n 20 $out/staticlib.log >&2; exit 1; }
+tools/archives order_entries
 gcc -std=c11 -O2 -Wall -Wextra -Werror -Ihosts -o $out/lend-c tests/order_entries/lend.c -Ltarget/staticlib -lorder_entries
 rustc --edition 2021 -O -D warnings -L target/staticlib -l static=order_entries -o $out/lend-rust \
   tests/order_entries/lend.rs

@@ -19,10 +19,10 @@ case "${1:-}" in
 esac
 seed=${SESSION_SEED:-1}
 
-rt staticlib summary
+tools/archives summary
 library=${SESSION_LIBRARY:-target/staticlib/libreplay.a}
 if [ -z "${SESSION_LIBRARY:-}" ]; then
-  rt staticlib replay
+  tools/archives replay
 fi
 library=$(realpath "$library")
 summary=$(realpath target/staticlib/libsummary.a)

@@ -10,7 +10,7 @@ fail() { echo "tests/summary/run.sh: $*" >&2; exit 1; }
 work=target/summary
 mkdir -p $work
 if [ -z "${SUMMARY_LIBRARY:-}" ]; then
-  rt staticlib summary >$work/staticlib.log 2>&1 || { tail -n 20 $work/staticlib.log >&2; fail "no library"; }
+  tools/archives summary || fail "no library"
 fi
 library=$(realpath "${SUMMARY_LIBRARY:-target/staticlib/libsummary.a}")
 rustc --edition 2021 -O -D warnings -C link-arg="$library" -o $work/summary tests/summary/main.rs
