@@ -6,6 +6,7 @@ use Prim.Native.Nat.{ℕ, _+_, _*_, _<_}
 use native.Mathlib.Omega.{arith}
 use lib.ListN.{length, getD, set, length-set, length-append}
 use lib.Seq.{getD-set-other, getD-take}
+use Rattle.rules.specs.Record.{row-of}
 use Rattle.rules.specs.Model.{Reg, Model, watermark, tracked, with-add}
 use Rattle.rules.specs.Checks.{taken, pooled}
 use Rattle.laws.specs.Accepted.{AddPassed}
@@ -115,12 +116,12 @@ module _ (P N : ℕ) (k : Model) (s : Session) (σ : Storage) (R : Rep P N k s �
 
   -- its lists are stored; it is neither on the stack nor waiting yet
   pub entered-rep : Unplaced P N (with-add a k) (with-added s (length ins + length outs)) (with-lists σ w pool)
-  unfolding with-add watermark tracked
+  unfolding with-add watermark tracked row-of
   entered-rep =
       record {
         core = record {
-          guided = record { p-is = R .core .guided .p-is; v-is = R .core .guided .v-is; places = R .core .guided .places; stands = R .core .guided .stands; view-is = R .core .guided .view-is; tally-is = R .core .guided .tally-is };
-          rowed = record { long = R .core .rowed .long; filled = R .core .rowed .filled; written = R .core .rowed .written };
+          guided = record { p-is = R .core .guided .p-is; v-is = R .core .guided .v-is; places = R .core .guided .places; stands = R .core .guided .stands; view-is = R .core .guided .view-is };
+          rowed = record { long = R .core .rowed .long; rows = R .core .rowed .rows };
           tracked = record { places = R .core .tracked .places; lead-is = R .core .tracked .lead-is };
           stored = record { lists = lists′; flags = flags′ };
         };

@@ -8,6 +8,7 @@ use Prim.Native.Nat.{ℕ, suc, _*_, _≤_, _<_}
 use native.Mathlib.Omega.{arith}
 use lib.Dec.{ltb}
 use lib.ListN.{length, drop, length-append}
+use Rattle.rules.specs.Record.{row-of}
 use Rattle.rules.specs.Model.{Model, Pending, watermark, tracked, greatest, ready, queue, keep, with-add, do-add}
 use Rattle.rules.specs.Checks.{taken, pooled}
 use Rattle.rules.specs.Calls.{add as add-call, answer}
@@ -63,8 +64,8 @@ module _ (w : List ℕ) (v lead inputs m r : ℕ) (w′ : List ℕ) where
 core-waiting : (P N : ℕ) (j : Model) (g : Guide) (lead : ℕ) (σ : Storage) (w : List ℕ) → length w ≡ length (σ .waiting) → drop (2 * N) w ≡ drop (2 * N) (σ .waiting) → Core P N j g lead σ → Core P N j g lead (with-waiting w σ)
 core-waiting P N j g lead σ w lw dw c =
     record {
-      guided = record { p-is = c .guided .p-is; v-is = c .guided .v-is; places = c .guided .places; stands = c .guided .stands; view-is = c .guided .view-is; tally-is = c .guided .tally-is };
-      rowed = record { long = c .rowed .long; filled = c .rowed .filled; written = c .rowed .written };
+      guided = record { p-is = c .guided .p-is; v-is = c .guided .v-is; places = c .guided .places; stands = c .guided .stands; view-is = c .guided .view-is };
+      rowed = record { long = c .rowed .long; rows = c .rowed .rows };
       tracked = record { places = c .tracked .places; lead-is = c .tracked .lead-is };
       stored = record {
         lists = lists-kept N (j .adds) (pooled (j .adds)) (σ .waiting) (σ .pool) (c .stored .lists) w lw dw;
@@ -122,14 +123,14 @@ module _ (P N W : ℕ) (k : Model) (ins outs : List ℕ) (s : Session) (σ : Sto
 
     -- or it waits under its greatest input
     rep-waits : s .lead ≤ greatest ins → Joins (σ .waiting) N (greatest ins) reg w → Rep P N (keep (queue (record { under = greatest ins; reg = reg }) (k .pending)) new) s (with-waiting w σ)
-    unfolding with-add keep occurs watermark tracked taken
+    unfolding with-add keep occurs watermark tracked taken row-of
     rep-waits h J =
         let c = core-waiting P N new (s .guide) (s .lead) σ w lw (J .rest) (U .core) in
         let d = U .counted in
         record {
           core = record {
-            guided = record { p-is = c .guided .p-is; v-is = c .guided .v-is; places = c .guided .places; stands = c .guided .stands; view-is = c .guided .view-is; tally-is = c .guided .tally-is };
-            rowed = record { long = c .rowed .long; filled = c .rowed .filled; written = c .rowed .written };
+            guided = record { p-is = c .guided .p-is; v-is = c .guided .v-is; places = c .guided .places; stands = c .guided .stands; view-is = c .guided .view-is };
+            rowed = record { long = c .rowed .long; rows = c .rowed .rows };
             tracked = record { places = c .tracked .places; lead-is = c .tracked .lead-is };
             stored = record { lists = c .stored .lists; flags = c .stored .flags };
           };

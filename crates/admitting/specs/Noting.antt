@@ -11,7 +11,8 @@ use lib.Seq.{getD-set-same, getD-set-other, getD-at}
 use Rattle.rules.specs.Guide.{Entry}
 use Rattle.rules.specs.Model.{Model, Recorded, watermark, tracked, with-record, note-add}
 use Rattle.rules.specs.Checks.{taken}
-use Rattle.records.specs.Filled.{Filled, read-row}
+use Rattle.rules.specs.Record.{row-of}
+use Rattle.records.specs.Filled.{Filled, written-of, rewritten}
 use Rattle.session.specs.declared.Session.{Session}
 use Rattle.session.specs.Storage.{Storage, Frame, frame-refl}
 use Rattle.session.specs.Rep.{Rowed, Rep}
@@ -20,28 +21,21 @@ abbrev pub with-rows : Storage → List ℕ → Storage
 with-rows σ rs =
     record { spans = σ .spans; order = σ .order; tally = σ .tally; rows = rs; marks = σ .marks; locations = σ .locations; waiting = σ .waiting; pool = σ .pool }
 
--- a row's written is no part of what the order says of it
-pub filled-noted : (N r n : ℕ) (rs : List ℕ) (os : List Entry) → Filled N rs os → Filled N (set rs (5 * r + 2) n) os
-unfolding read-row
-filled-noted N r n rs os f q h =
-    let a = getD-set-other rs (5 * r + 2) (5 * q) n 0 (omega arith) in
-    let b = getD-set-other rs (5 * r + 2) (5 * q + 1) n 0 (omega arith) in
-    let c = getD-set-other rs (5 * r + 2) (5 * q + 3) n 0 (omega arith) in
-    let d = getD-set-other rs (5 * r + 2) (5 * q + 4) n 0 (omega arith) in
-    rw (a, b, c, d) (f q h)
-
 -- the record changes in the row of r alone
 pub rowed-noted : (N r n : ℕ) (k j : Model) (σ : Storage) → r < N → j .guide ≡ k .guide → getD (j .recorded .written) r 0 ≡ n
     → ((q : ℕ) → q ≢ r → getD (j .recorded .written) q 0 ≡ getD (k .recorded .written) q 0)
     → Rowed N k σ → Rowed N j (with-rows σ (set (σ .rows) (5 * r + 2) n))
+unfolding row-of
 rowed-noted N r n k j σ h g e o R =
+    let old : Filled N (σ .rows) (k .recorded .written) (j .guide .order) = rw g (R .rows) in
     record {
       long = omega (arith, length-set (σ .rows) (5 * r + 2) n, R .long);
-      filled = filled-noted N r n (σ .rows) (j .guide .order) (rw g (R .filled));
-      written = λ q z. elim (ℕ-discrete q r) [
-        | yes y ↦ rw y (getD-set-same (σ .rows) (5 * r + 2) n 0 (omega (arith, R .long)) ∙ sym e)
-        | no y ↦ getD-set-other (σ .rows) (5 * r + 2) (5 * q + 2) n 0 (omega (arith, y)) ∙ R .written q z ∙ sym (o q y)
-      ];
+      rows =
+          rewritten N (σ .rows) (set (σ .rows) (5 * r + 2) n) (k .recorded .written) (j .recorded .written) (j .guide .order) old (λ i z. getD-set-other (σ .rows) (5 * r + 2) i n 0 (z r))
+          (λ q z. elim (ℕ-discrete q r) [
+            | yes y ↦ rw y (getD-set-same (σ .rows) (5 * r + 2) n 0 (omega (arith, R .long)) ∙ sym e)
+            | no y ↦ getD-set-other (σ .rows) (5 * r + 2) (5 * q + 2) n 0 (omega (arith, y)) ∙ written-of N (σ .rows) (k .recorded .written) (j .guide .order) old q z ∙ sym (o q y)
+          ]);
     }
 
 -- the session with the places that final fixes
@@ -56,7 +50,7 @@ unfolding with-record watermark tracked taken
 rep-record P N d k s σ rs R W =
     record {
       core = record {
-        guided = record { p-is = R .core .guided .p-is; v-is = R .core .guided .v-is; places = R .core .guided .places; stands = R .core .guided .stands; view-is = R .core .guided .view-is; tally-is = R .core .guided .tally-is };
+        guided = record { p-is = R .core .guided .p-is; v-is = R .core .guided .v-is; places = R .core .guided .places; stands = R .core .guided .stands; view-is = R .core .guided .view-is };
         rowed = W;
         tracked = record { places = R .core .tracked .places; lead-is = R .core .tracked .lead-is };
         stored = record { lists = R .core .stored .lists; flags = R .core .stored .flags };

@@ -6,6 +6,7 @@ use Prim.Native.Nat.{ℕ, _+_, _*_, _-_, _≤_, _<_}
 use native.Mathlib.Omega.{arith}
 use lib.ListN.{length, getD, drop, set, length-set}
 use lib.Seq.{getD-set-other, getD-drop, take-set-le}
+use Rattle.rules.specs.Record.{row-of}
 use Rattle.rules.specs.Model.{Model, watermark, tracked, due, left, keep, off, rest, with-set, settle-all, do-set}
 use Rattle.rules.specs.Checks.{taken, pooled}
 use Rattle.rules.specs.Calls.{set as set-call, apply-call}
@@ -79,12 +80,12 @@ module _ (P N : ℕ) (k : Model) (s : Session) (σ : Storage) (R : Rep P N k s �
 
     -- the model with x set, what comes off on the stack
     pub rep-set : RepSt P N (rest N (with-set x k)) (with-lead s to) (with-marks σ m w) top (off N (with-set x k))
-    unfolding rest keep with-set watermark tracked taken off
+    unfolding rest keep with-set watermark tracked taken off row-of
     rep-set =
         record {
           core = record {
-            guided = record { p-is = R .core .guided .p-is; v-is = R .core .guided .v-is; places = R .core .guided .places; stands = R .core .guided .stands; view-is = R .core .guided .view-is; tally-is = R .core .guided .tally-is };
-            rowed = record { long = R .core .rowed .long; filled = R .core .rowed .filled; written = R .core .rowed .written };
+            guided = record { p-is = R .core .guided .p-is; v-is = R .core .guided .v-is; places = R .core .guided .places; stands = R .core .guided .stands; view-is = R .core .guided .view-is };
+            rowed = record { long = R .core .rowed .long; rows = R .core .rowed .rows };
             tracked = record { places = places′; lead-is = lead-is′ };
             stored = record { lists = lists′; flags = flags′ };
           };

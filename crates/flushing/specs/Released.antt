@@ -19,11 +19,11 @@ use Rattle.buffer.specs.View.{view, order-of}
 use Rattle.placing.specs.Stands.{Stands}
 use Rattle.placing.specs.Done.{Done, order-view}
 use Rattle.guide.specs.Ready.{Ready}
+use Rattle.rules.specs.Record.{row-of}
 use Rattle.records.specs.Filling.{filled, Fillable}
-use Rattle.records.specs.Filled.{Filled, Known, RowsFrame, read-row}
+use Rattle.records.specs.Filled.{Filled, Known, RowsFrame, written-of, rewritten}
 use Rattle.session.specs.Storage.{Storage, storage, Beyond, Frame, beyond-refl}
 use Rattle.session.specs.Rep.{Rowed, Core}
-use Rattle.session.specs.Parts.{guided-of}
 use Rattle.session.specs.Rows.{order-registered, rows-fillable, rows-filled, rows-frame}
 
 -- the rows with written n of the latest of so many registrations, if there is one
@@ -72,16 +72,6 @@ noted-other : (rs : List ℕ) (a n j : ℕ) → ((r : ℕ) → suc r ≡ a → j
 unfolding noted
 noted-other rs zero n j h = refl
 noted-other rs (suc r) n j h = getD-set-other rs (5 * r + 2) j n 0 (h r refl)
-
--- a row's written is no part of what the order says of it
-noted-filled : (N : ℕ) (rs : List ℕ) (a n : ℕ) (os : List OrderEntry) → Filled N rs os → Filled N (noted rs a n) os
-unfolding read-row
-noted-filled N rs a n os f q h =
-    let x = noted-other rs a n (5 * q) (λ r e y. omega arith) in
-    let y = noted-other rs a n (5 * q + 1) (λ r e y. omega arith) in
-    let z = noted-other rs a n (5 * q + 3) (λ r e y. omega arith) in
-    let u = noted-other rs a n (5 * q + 4) (λ r e y. omega arith) in
-    rw (x, y, z, u) (f q h)
 
 -- the latest row's written is the model's
 noted-written : (N : ℕ) (rs ws : List ℕ) (a n : ℕ) → 5 * N ≤ length rs → a ≤ N → length ws ≡ a → ((r : ℕ) → r < N → getD rs (5 * r + 2) 0 ≡ getD ws r 0)
@@ -133,14 +123,14 @@ module _ (g : Guide) (added : ℕ) (sp o t rs : List ℕ) where
       unfolding with-flush
       written-fits = omega (arith, written-is, F .room, F .many)
 
-      rows-here : Fillable o′ n new rs × (Filled N (filled rs n (row o′ n new)) ((flush-guide P (k .guide)) .order) × RowsFrame N rs (filled rs n (row o′ n new)))
-      unfolding view
+      rows-here : Fillable o′ n new rs × (Filled N (filled rs n (row o′ n new)) (k .recorded .written) ((flush-guide P (k .guide)) .order) × RowsFrame N rs (filled rs n (row o′ n new)))
+      unfolding view row-of
       rows-here = (
         rows-fillable N n new o o′ rs (C .rowed .long) (D .frame .order-kept) known,
         (
-          subst (λ (x : List OrderEntry). Filled N (filled rs n (row o′ n new)) x) order-is
-              (rows-filled N n new o o′ rs (C .rowed .long) (D .frame .order-kept) known
-              (subst (λ (x : List OrderEntry). Filled N rs x) (sym (ap (λ (b : GuideModel). b .order) (C .guided .view-is))) (C .rowed .filled))),
+          subst (λ (x : List OrderEntry). Filled N (filled rs n (row o′ n new)) (k .recorded .written) x) order-is
+              (rows-filled N n new o o′ rs (C .rowed .long) (D .frame .order-kept) known (k .recorded .written)
+              (subst (λ (x : List OrderEntry). Filled N rs (k .recorded .written) x) (sym (ap (λ (b : GuideModel). b .order) (C .guided .view-is))) (C .rowed .rows))),
           rows-frame N n new o o′ rs (C .rowed .long) (D .frame .order-kept) known,
         ),
       )
@@ -162,7 +152,7 @@ module _ (g : Guide) (added : ℕ) (sp o t rs : List ℕ) where
           omega (arith, ap length er, x, a .core .rowed .long, a .fits .many, a .added-is)
 
       pub releases : (rs′ : List ℕ) → rs′ ≡ noted rs₁ added (h .written) → MayRelease g added sp o t rs → Releases g h added sp o t rs o′ t′ rs′
-      unfolding note-flush with-record with-flush watermark tracked taken
+      unfolding note-flush with-record with-flush watermark tracked taken row-of
       releases rs′ en a =
           record { core = core; frame = frame }
         where
@@ -174,17 +164,23 @@ module _ (g : Guide) (added : ℕ) (sp o t rs : List ℕ) where
           core P N k lead f b m l w pool C F ew ea =
               let x = rows-here P N k lead m l w pool C F in
               record {
-                guided =
-                    guided-of P N (note-flush (with-flush P f b k)) h (storage sp o′ t′ rs′ m l w pool) (C .guided .places) (D .same-p ∙ C .guided .p-is) (D .same-v ∙ C .guided .v-is) (D .stands)
-                    (view-is P N k lead m l w pool C F);
+                guided = record {
+                  p-is = D .same-p ∙ C .guided .p-is;
+                  v-is = D .same-v ∙ C .guided .v-is;
+                  places = C .guided .places;
+                  stands = D .stands;
+                  view-is = view-is P N k lead m l w pool C F;
+                };
                 rowed = record {
                   long = omega (arith, ap length en, noted-length rs₁ added (h .written), ap length er, x .1 .1 .long, C .rowed .long);
-                  filled = subst (λ (y : List ℕ). Filled N y ((flush-guide P (k .guide)) .order)) (sym en) (noted-filled N rs₁ added (h .written) ((flush-guide P (k .guide)) .order) (subst (λ (y : List ℕ). Filled N y ((flush-guide P (k .guide)) .order)) (sym er) (x .1 .0)));
-                  written = λ r q.
-                      ap (λ (y : List ℕ). getD y (5 * r + 2) 0) en
+                  rows =
+                      let os : List OrderEntry = (flush-guide P (k .guide)) .order in
+                      let old : Filled N rs₁ (k .recorded .written) os = subst (λ (y : List ℕ). Filled N y (k .recorded .written) os) (sym er) (x .1 .0) in
+                      rewritten N rs₁ rs′ (k .recorded .written) (set (k .recorded .written) (length (k .recorded .written) - 1) (length os)) os old (λ j z. ap (λ (y : List ℕ). getD y j 0) en ∙ noted-other rs₁ added (h .written) j (λ r e. z r))
+                      (λ r q. ap (λ (y : List ℕ). getD y (5 * r + 2) 0) en
                       ∙ noted-written N rs₁ (k .recorded .written) added (h .written) (omega (arith, ap length er, x .1 .1 .long, C .rowed .long)) (omega (arith, F .many, ea)) (ew ∙ sym ea)
-                      (λ i z. ap (λ (y : List ℕ). getD y (5 * i + 2) 0) er ∙ x .1 .1 .written i ∙ C .rowed .written i z) r q
-                      ∙ ap (λ (y : ℕ). getD (set (k .recorded .written) (length (k .recorded .written) - 1) y) r 0) (written-is P N k lead m l w pool C F);
+                      (written-of N rs₁ (k .recorded .written) os old) r q
+                      ∙ ap (λ (y : ℕ). getD (set (k .recorded .written) (length (k .recorded .written) - 1) y) r 0) (written-is P N k lead m l w pool C F));
                 };
                 tracked = record { places = C .tracked .places; lead-is = C .tracked .lead-is };
                 stored = record { lists = C .stored .lists; flags = C .stored .flags };

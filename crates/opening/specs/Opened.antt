@@ -18,12 +18,12 @@ use Rattle.lists.specs.ListLaws.{lists-open}
 use Rattle.lists.specs.FlagLaws.{flags-open}
 use Rattle.registrar.specs.Keeps.{delayed-open}
 use Rattle.guide.specs.Fresh.{first-guide, fresh-stands, fresh-view}
+use Rattle.rules.specs.Record.{row-of}
 use Rattle.records.specs.Filled.{blank-rows}
 use Rattle.zeros.specs.Zeros.{Cleared}
 use Rattle.session.specs.declared.Session.{Session}
 use Rattle.session.specs.Storage.{Storage, storage, Beyond, Frame, beyond-refl, beyond-drop, beyond-trans}
 use Rattle.session.specs.Rep.{Rep}
-use Rattle.session.specs.Parts.{guided-of}
 
 -- the lengths of storage, in entries where it holds entries
 abbrev pub sizes : Storage → Sizes
@@ -125,18 +125,22 @@ tally-zeros P t h z =
 
 module _ (P N : ℕ) (σ τ : Storage) (E : Enough P N σ) (F : Fresh P N σ τ) where
   pub fresh-rep : Rep P N initial (first-session P N) τ
-  unfolding initial first-guide fresh pooled
+  unfolding initial first-guide fresh pooled row-of
   fresh-rep =
       record {
         core = record {
-          guided = guided-of P N initial (first-guide P N) τ (E .places) refl refl
-              (fresh-stands P N (τ .spans) (τ .order) (τ .tally) (E .one) (E .few) (E .small) (rw (F .spans) (E .spans)) (rw (F .order) (E .order)) (omega (arith, F .tally .long, E .tally))
-              (tally-zeros P (τ .tally) (omega (arith, F .tally .long, E .tally)) (λ i h. F .tally .zero i (omega arith) h)))
-              (fresh-view P N (τ .spans) (τ .order));
+          guided = record {
+            p-is = refl;
+            v-is = refl;
+            places = E .places;
+            stands =
+                fresh-stands P N (τ .spans) (τ .order) (τ .tally) (E .one) (E .few) (E .small) (rw (F .spans) (E .spans)) (rw (F .order) (E .order)) (omega (arith, F .tally .long, E .tally))
+                (tally-zeros P (τ .tally) (omega (arith, F .tally .long, E .tally)) (λ i h. F .tally .zero i (omega arith) h));
+            view-is = fresh-view P N (τ .spans) (τ .order);
+          };
           rowed = record {
             long = omega (arith, F .rows .long, E .rows);
-            filled = blank-rows N (τ .rows) (λ j h. F .rows .zero j (omega arith) h);
-            written = λ r h. F .rows .zero (5 * r + 2) (omega arith) (omega arith);
+            rows = blank-rows N (τ .rows) (λ j h. F .rows .zero j (omega arith) h);
           };
           tracked = record {
             places = places-open N (τ .marks) (τ .locations) (omega (arith, F .marks .long, E .marks)) (omega (arith, F .locations .long, E .locations)) (λ x h. F .marks .zero x (omega arith) h) (λ x h. F .locations .zero x (omega arith) h);

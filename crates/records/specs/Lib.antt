@@ -1,4 +1,3 @@
 -- Record rows: how they are filled, and what they then say.
 pub mod Filling
 pub mod Filled
-pub mod RowOf

@@ -5,6 +5,9 @@ use mathlib.Core.Path.{_≡_, refl, sym, ap, _∙_, subst}
 use Prim.Native.Nat.{ℕ, zero, suc, _+_, _*_, _≤_, _<_, _^_}
 use native.Mathlib.Omega.{arith}
 use lib.ListN.{length, getD, take}
+use Rattle.rules.specs.Record.{row-of}
+use Rattle.records.specs.Filled.{written-of}
+use Rattle.session.specs.Parts.{tally-is}
 use Rattle.rules.specs.Guide.{Entry, Guide as GuideModel, tally}
 use Rattle.rules.specs.Model.{Model}
 use Rattle.rules.specs.Summary.{Figures, sum, median, figures}
@@ -77,7 +80,7 @@ module _ {P N W : ℕ} {k : Model} {o t rs : List ℕ} {written places p : ℕ} 
   pub tallied : Tallied t p
   tallied =
       let g = x .rep .core .guided in
-      let e : sum (take (P + 1) t) ≡ length (k .guide .order) = ap sum (g .tally-is) ∙ tally-sum P (k .guide .order) (λ j h. fits .parallelisms j h .1) in
+      let e : sum (take (P + 1) t) ≡ length (k .guide .order) = ap sum (tally-is g) ∙ tally-sum P (k .guide .order) (λ j h. fits .parallelisms j h .1) in
       let q : p ≡ P = x .p-is ∙ g .p-is in
       record {
         stored = omega (arith, g .stands .tally-long, x .p-is);
@@ -86,13 +89,14 @@ module _ {P N W : ℕ} {k : Model} {o t rs : List ℕ} {written places p : ℕ} 
       }
 
   pub reported : (entry exit : List ℕ) (n r m : ℕ) → n ≡ written → m ≡ median (take (p + 1) t) → Wrote entry exit 0 r (listed o rs n places m) → Wrote entry exit 0 r (listing P k)
+  unfolding row-of
   reported entry exit n r m e em w =
       let g = x .rep .core .guided in
-      let med : m ≡ median (tally P (k .guide .order)) = em ∙ ap (λ (y : ℕ). median (take (y + 1) t)) (x .p-is ∙ g .p-is) ∙ ap median (g .tally-is) in
+      let med : m ≡ median (tally P (k .guide .order)) = em ∙ ap (λ (y : ℕ). median (take (y + 1) t)) (x .p-is ∙ g .p-is) ∙ ap median (tally-is g) in
       let pl : places ≡ k .recorded .places = x .places-is ∙ x .rep .counted .places-is in
       let is : listed o rs n places m ≡ listing P k =
       ap (λ (y : ℕ). listed o rs y places m) e ∙ ap (λ (y : ℕ). listed o rs written y m) pl ∙ ap (λ (y : ℕ). listed o rs written (k .recorded .places) y) med
-      ∙ listing-is P N written k o rs order-is (x .rep .core .rowed .written) known
+      ∙ listing-is P N written k o rs order-is (written-of N rs (k .recorded .written) (k .guide .order) (x .rep .core .rowed .rows)) known
       in
       subst (λ (y : List ℕ). Wrote entry exit 0 r y) is w
 

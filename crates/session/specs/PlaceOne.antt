@@ -22,6 +22,7 @@ use Rattle.placing.specs.Done.{order-view}
 use Rattle.guide.specs.Ready.{Ready, Near, after-of}
 use Rattle.guide.specs.Pushes.{Pushes}
 use Rattle.records.specs.Filling.{filled, Fillable}
+use Rattle.rules.specs.Record.{row-of}
 use Rattle.records.specs.Filled.{Filled, Known, RowsFrame}
 use Rattle.session.specs.declared.After.{After}
 use Rattle.session.specs.Storage.{Storage, Frame, beyond-refl, beyond-drop}
@@ -126,14 +127,14 @@ module _ (c r : ℕ) (g : Guide) (lead added used : ℕ) (σ : Storage) where
             (order-registered P N (rest N (place-one P c r k)) (fits-of P N W (P-one P N W k st C S) (rest N (place-one P c r k)) (push (off N (place-one P c r k)) st)
             (sound-placing P N W (P-one P N W k st C S) c r st k ended S) (N-small P N W k st C S)))
 
-        rows-here : Fillable o n new (σ .rows) × (Filled N (filled (σ .rows) n (row o n new)) ((place-one P c r k) .guide .order) × RowsFrame N (σ .rows) (filled (σ .rows) n (row o n new)))
-        unfolding view
+        rows-here : Fillable o n new (σ .rows) × (Filled N (filled (σ .rows) n (row o n new)) (k .recorded .written) ((place-one P c r k) .guide .order) × RowsFrame N (σ .rows) (filled (σ .rows) n (row o n new)))
+        unfolding view row-of
         rows-here = (
           rows-fillable N n new (σ .order) o (σ .rows) (C .rowed .long) (U .done .frame .order-kept) known,
           (
-            subst (λ (l : List OrderEntry). Filled N (filled (σ .rows) n (row o n new)) l) order-is
-                (rows-filled N n new (σ .order) o (σ .rows) (C .rowed .long) (U .done .frame .order-kept) known
-                (subst (λ (l : List OrderEntry). Filled N (σ .rows) l) (sym (ap (λ (b : GuideModel). b .order) (C .guided .view-is))) (C .rowed .filled))),
+            subst (λ (l : List OrderEntry). Filled N (filled (σ .rows) n (row o n new)) (k .recorded .written) l) order-is
+                (rows-filled N n new (σ .order) o (σ .rows) (C .rowed .long) (U .done .frame .order-kept) known (k .recorded .written)
+                (subst (λ (l : List OrderEntry). Filled N (σ .rows) (k .recorded .written) l) (sym (ap (λ (b : GuideModel). b .order) (C .guided .view-is))) (C .rowed .rows))),
             rows-frame N n new (σ .order) o (σ .rows) (C .rowed .long) (U .done .frame .order-kept) known,
           ),
         )
@@ -163,7 +164,7 @@ module _ (c r : ℕ) (g : Guide) (lead added used : ℕ) (σ : Storage) where
       pub places-one : (rs m l : List ℕ) (lead′ : ℕ) → MayPlace c g lead added used σ r → rs ≡ filled (σ .rows) n (row o n new)
           → Settled (σ .marks) (σ .locations) (part (σ .pool) (f .at) (f .n)) (span * 4294967296 + pos) (g .v) m l lead′
           → PlacesOne c r g lead added used σ h lead′ (placed-storage σ sp o t rs m l)
-      unfolding place-one
+      unfolding place-one row-of
       places-one rs m l lead′ a er Z =
           record {
             core = λ P N W k st C S E ea eu.
@@ -206,6 +207,5 @@ module _ (c r : ℕ) (g : Guide) (lead added used : ℕ) (σ : Storage) where
               let x = rows-here P N W k st C S E ea eu in
               record {
                 long = rw (er, x .1 .1 .long) (C .rowed .long);
-                filled = subst (λ (y : List ℕ). Filled N y ((place-one P c r k) .guide .order)) (sym er) (x .1 .0);
-                written = λ q h. ap (λ (y : List ℕ). getD y (5 * q + 2) 0) er ∙ x .1 .1 .written q ∙ C .rowed .written q h;
+                rows = subst (λ (y : List ℕ). Filled N y (k .recorded .written) ((place-one P c r k) .guide .order)) (sym er) (x .1 .0);
               }

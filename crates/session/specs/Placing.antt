@@ -33,7 +33,6 @@ use Rattle.session.specs.declared.After.{After}
 use Rattle.session.specs.Storage.{Storage}
 use Rattle.session.specs.Outputs.{Settling, Settled}
 use Rattle.session.specs.Rep.{Guided, Rowed, Tracked, Stored, Core}
-use Rattle.session.specs.Parts.{guided-of}
 
 -- what is read of a registration a: whether it has inputs, the greatest location of them, and where its outputs lie
 pub record Found (locs pool : List ℕ) (a : Reg) (f : After) : Type 0 where
@@ -132,7 +131,7 @@ module _ (P N : ℕ) (k : Model) (g : Guide) (lead : ℕ) (σ : Storage) (r : �
       unfolding place-one pack reg-of taken item pl
       placed lead′ rs m l R Z =
           record {
-            guided = guided-of P N (place-one P c r k) h (placed-storage σ sp o t rs m l) (C .guided .places) (U .done .same-p ∙ C .guided .p-is) (U .done .same-v ∙ C .guided .v-is) (U .done .stands) placed-view;
+            guided = record { p-is = U .done .same-p ∙ C .guided .p-is; v-is = U .done .same-v ∙ C .guided .v-is; places = C .guided .places; stands = U .done .stands; view-is = placed-view };
             rowed = R;
             tracked = record { places = ps; lead-is = Z .lead-is ∙ ap (λ (v : ℕ). run-from (tracked-in m) v 0) (C .guided .v-is) ∙ run-is N (place-one P c r k) m l ps };
             stored = record { lists = C .stored .lists; flags = C .stored .flags };

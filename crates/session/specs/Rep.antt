@@ -3,10 +3,10 @@
 use mathlib.Core.Path.{_≡_}
 use mathlib.Core.List.{List, [], _∷_}
 use Prim.Native.Nat.{ℕ, _+_, _*_, _≤_, _<_}
-use lib.ListN.{length, getD, take}
-use Rattle.rules.specs.Guide.{tally}
+use lib.ListN.{length}
 use Rattle.rules.specs.Model.{Model, Pending, watermark, registrations}
 use Rattle.rules.specs.Checks.{taken, pooled}
+use Rattle.rules.specs.Record.{row-of}
 use Rattle.buffer.specs.declared.Guide.{Guide}
 use Rattle.buffer.specs.View.{view}
 use Rattle.registrar.specs.Delayed.{Delayed}
@@ -14,24 +14,22 @@ use Rattle.tracking.specs.Places.{Places}
 use Rattle.placing.specs.Stands.{Stands}
 use Rattle.lists.specs.Lists.{Lists}
 use Rattle.lists.specs.Flags.{Flags}
-use Rattle.records.specs.Filled.{Filled}
+use Rattle.records.specs.Filled.{row-at}
 use Rattle.session.specs.declared.Session.{Session}
 use Rattle.session.specs.Storage.{Storage}
 
--- the window with its entries, the order and the tally
+-- the window with its entries and the order; the tally is the order's, by `Stands`
 pub record Guided (P N : ℕ) (k : Model) (g : Guide) (σ : Storage) : Type 0 where
   pub p-is : g .p ≡ P
   pub v-is : g .v ≡ N
   pub places : 1 ≤ N
   pub stands : Stands g (σ .spans) (σ .order) (σ .tally)
   pub view-is : view g (σ .spans) (σ .order) ≡ k .guide
-  pub tally-is : take (P + 1) (σ .tally) ≡ tally P (k .guide .order)
 
--- the rows: for each registration what the order says of it (added, accepted, order index, parallelism), and written
+-- the rows: each registration's is the record's
 pub record Rowed (N : ℕ) (k : Model) (σ : Storage) : Type 0 where
   pub long : 5 * N ≤ length (σ .rows)
-  pub filled : Filled N (σ .rows) (k .guide .order)
-  pub written : (r : ℕ) → r < N → getD (σ .rows) (5 * r + 2) 0 ≡ getD (k .recorded .written) r 0
+  pub rows : (r : ℕ) → r < N → row-at (σ .rows) r ≡ row-of k r
 
 -- marks, locations and the watermark
 pub record Tracked (N : ℕ) (k : Model) (lead : ℕ) (σ : Storage) : Type 0 where

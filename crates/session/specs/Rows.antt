@@ -49,8 +49,8 @@ module _ (N n a : ℕ) (o o′ rs : List ℕ) (long : 5 * N ≤ length rs) (kept
   pub rows-fillable : Fillable o′ n a rs
   rows-fillable = fillable N n a o′ rs long new-known
 
-  pub rows-filled : Filled N rs (order-of o n) → Filled N (filled rs n (row o′ n a)) (order-of o′ (n + a))
-  rows-filled f = fills N n a o′ rs long new-known (subst (λ (l : List OrderEntry). Filled N rs l) (sym (order-same o o′ n kept)) f)
+  pub rows-filled : (ws : List ℕ) → Filled N rs ws (order-of o n) → Filled N (filled rs n (row o′ n a)) ws (order-of o′ (n + a))
+  rows-filled ws f = fills N n a o′ rs long new-known ws (subst (λ (l : List OrderEntry). Filled N rs ws l) (sym (order-same o o′ n kept)) f)
 
   pub rows-frame : RowsFrame N rs (filled rs n (row o′ n a))
   rows-frame = fill-frame N n a o′ rs long new-known

@@ -11,7 +11,6 @@ use Rattle.rules.specs.Record.{location-of}
 use Rattle.entries.specs.Entries.{row, item-of, entry-of}
 use Rattle.buffer.specs.View.{view, order-of, spans-of, upto}
 use Rattle.buffer.specs.Rows.{row-length, spans-at}
-use Rattle.records.specs.RowOf.{rows-are}
 use Rattle.tracking.specs.MarkOf.{marks-are}
 use Rattle.registrar.specs.Unique.{pending-read}
 use Rattle.lists.specs.ListLaws.{Parts}
@@ -19,6 +18,7 @@ use Rattle.lists.specs.Arguments.{parts-of}
 use Rattle.session.specs.declared.Session.{Session}
 use Rattle.session.specs.Storage.{Storage}
 use Rattle.session.specs.Rep.{Rep}
+use Rattle.session.specs.Parts.{tally-is}
 use Rattle.session.specs.Shows.{span-in, lists-in, Shows}
 
 -- the spans' lengths are the window's
@@ -71,8 +71,8 @@ module _ (P N : ℕ) (k : Model) (s : Session) (σ : Storage) (R : Rep P N k s �
         many = R .core .guided .v-is;
         written = sym (order-count (σ .order) (s .guide .written)) ∙ ap length order-is;
         order = order-is;
-        tally = R .core .guided .tally-is;
-        rows = rows-are N k (σ .rows) (R .core .rowed .filled) (R .core .rowed .written);
+        tally = tally-is (R .core .guided);
+        rows = R .core .rowed .rows;
         marks = marks-are N k (σ .marks) (σ .locations) (R .core .tracked .places);
         locations = R .core .tracked .places .place-of;
         numbers = R .core .guided .stands .laid .numbered ∙ ap (λ (n : ℕ). upto n 32) first-is;

@@ -11,7 +11,7 @@ use Rattle.rules.specs.Record.{mark-of, location-of, row-of}
 use Rattle.window.specs.declared.Window.{Window}
 use Rattle.entries.specs.Entries.{entry-at, row, item-of}
 use Rattle.buffer.specs.View.{order-of, upto}
-use Rattle.records.specs.RowOf.{row-at}
+use Rattle.records.specs.Filled.{row-at}
 use Rattle.registrar.specs.Reading.{waiting-in}
 use Rattle.lists.specs.Part.{part}
 use Rattle.lists.specs.Lists.{start-of, inputs-of, end-of}

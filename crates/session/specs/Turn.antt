@@ -7,6 +7,7 @@ use Prim.Native.Nat.{ℕ, suc, _+_, _*_, _-_, _≤_, _<_}
 use native.Mathlib.Omega.{arith}
 use lib.Dec.{eqb}
 use lib.ListN.{length, getD, drop}
+use Rattle.rules.specs.Record.{row-of}
 use Rattle.rules.specs.Model.{Model, Pending, tracked, watermark, place-one, keep, due, left, push, off, rest}
 use Rattle.rules.specs.Checks.{taken, pooled}
 use Rattle.laws.specs.CascadeInv.{push-length, off-rest}
@@ -101,11 +102,11 @@ popped w v lo ps top r st d =
 -- what comes off is taken off
 module _ (P N : ℕ) (j : Model) (h : Guide) (lead′ : ℕ) (τ : Storage) (C : Core P N j h lead′ τ) (w : List ℕ) (ew : length w ≡ length (τ .waiting)) (ed : drop (2 * N) w ≡ drop (2 * N) (τ .waiting)) where
   pub core-rest : Core P N (rest N j) h lead′ (with-waiting w τ)
-  unfolding rest keep watermark tracked taken
+  unfolding rest keep watermark tracked taken row-of
   core-rest =
       record {
-        guided = record { p-is = C .guided .p-is; v-is = C .guided .v-is; places = C .guided .places; stands = C .guided .stands; view-is = C .guided .view-is; tally-is = C .guided .tally-is };
-        rowed = record { long = C .rowed .long; filled = C .rowed .filled; written = C .rowed .written };
+        guided = record { p-is = C .guided .p-is; v-is = C .guided .v-is; places = C .guided .places; stands = C .guided .stands; view-is = C .guided .view-is };
+        rowed = record { long = C .rowed .long; rows = C .rowed .rows };
         tracked = record { places = C .tracked .places; lead-is = C .tracked .lead-is };
         stored = record { lists = lists-kept N (j .adds) _ (τ .waiting) (τ .pool) (C .stored .lists) w ew ed; flags = flags-kept N _ (τ .waiting) w ew ed (C .stored .flags) };
       }

@@ -14,6 +14,7 @@ use Rattle.laws.specs.Tally.{tally-sum}
 use Rattle.summary.specs.Figured.{Tallied}
 use Rattle.session.specs.declared.Session.{Session}
 use Rattle.session.specs.Storage.{Storage}
+use Rattle.session.specs.Parts.{tally-is}
 use Rattle.session.specs.Rep.{Rep}
 use Rattle.admitting.specs.Promise.{Called, MayDo, Does, step-accepted, positive}
 
@@ -29,7 +30,7 @@ tallied-of P N W k s σ R B =
     let h : N ≤ 16777216 = omega (arith, R .core .guided .stands .small, R .core .guided .v-is) in
     let F = fits-of P N W (positive P N k s σ R) k [] (B .sound) h in
     let e = tally-sum P (k .guide .order) (λ j q. F .parallelisms j q .1) in
-    let t = ap sum (R .core .guided .tally-is) in
+    let t = ap sum (tally-is (R .core .guided)) in
     rw (R .core .guided .p-is) (record {
       stored = omega (arith, R .core .guided .stands .tally-long, R .core .guided .p-is);
       most = omega (arith, R .core .guided .stands .laid .few, R .core .guided .p-is);
@@ -53,7 +54,7 @@ module _ (s t : Session) (σ τ : Storage) (D : Does final-call s t σ τ) where
         called = c;
         summary = λ y P N k R B.
             let x = stepped P N k R B (sym (h P N k R) ∙ z) .0 in
-            e ∙ ap (λ (p : ℕ). figures (take (p + 1) (τ .tally))) (x .core .guided .p-is) ∙ ap figures (x .core .guided .tally-is);
+            e ∙ ap (λ (p : ℕ). figures (take (p + 1) (τ .tally))) (x .core .guided .p-is) ∙ ap figures (tally-is (x .core .guided));
         zeros = λ y. absurd (y refl);
       }
 

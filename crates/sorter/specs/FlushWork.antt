@@ -5,6 +5,7 @@ use mathlib.Core.Bool.{Bool, true}
 use Prim.Native.Nat.{ℕ, suc, _+_, _≤_, _<_}
 use native.Mathlib.Omega.{arith}
 use lib.ListN.{length}
+use Rattle.rules.specs.Record.{row-of}
 use Rattle.rules.specs.Model.{Model, tracked, watermark, with-record, with-flush, note-flush, note-final, do-flush, do-final}
 use Rattle.rules.specs.Checks.{taken}
 use Rattle.rules.specs.Calls.{flush as flush-call, final as final-call, answer, apply-call}
@@ -95,13 +96,13 @@ module _ (P N : ℕ) (k : Model) (s : Session) (σ : Storage) (R : Rep P N k s �
         }
 
     rep-final : Rep P N (do-final P N k) (final-session s h) (with-order σ o t rs)
-    unfolding do-final note-final note-flush with-record with-flush watermark tracked taken
+    unfolding do-final note-final note-flush with-record with-flush watermark tracked taken row-of
     rep-final =
         let c = core-flushed (k .flushes) true in
         record {
           core = record {
-            guided = record { p-is = c .guided .p-is; v-is = c .guided .v-is; places = c .guided .places; stands = c .guided .stands; view-is = c .guided .view-is; tally-is = c .guided .tally-is };
-            rowed = record { long = c .rowed .long; filled = c .rowed .filled; written = c .rowed .written };
+            guided = record { p-is = c .guided .p-is; v-is = c .guided .v-is; places = c .guided .places; stands = c .guided .stands; view-is = c .guided .view-is };
+            rowed = record { long = c .rowed .long; rows = c .rowed .rows };
             tracked = record { places = c .tracked .places; lead-is = c .tracked .lead-is };
             stored = record { lists = c .stored .lists; flags = c .stored .flags };
           };
