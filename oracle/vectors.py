@@ -169,7 +169,7 @@ RULES = {
     "Calls": "checks answer apply-call unless-refused step run",
     "Alone": "alone holds stray worn check-push check-flush-alone requests reply location serve serve-step serve-all",
     "Summary": "sum average median-from median counts thousands figures",
-    "Record": "mark-of unfilled fill row-after row-of summary",
+    "Record": "mark-by unfilled fill row-after row-of summary",
 }
 # and of the library's floats
 FLOATS = "round size span climb units odd toBits"

@@ -10,8 +10,14 @@ use Rattle.rules.specs.Model.{Model, member, marked, loc-of}
 use Rattle.rules.specs.Summary.{Figures, figures}
 
 -- "A place has a 16-bit mark: 0 untracked, 32,768 written by a registration (with its location), 49,152 set."
-unfoldable pub mark-of : Model → ℕ → ℕ
-mark-of k x = elim (member x (k .sets)) [ true ↦ 49152 | false ↦ elim (marked x (k .located)) [ true ↦ 32768 | false ↦ 0 ] ]
+-- By whether it is set, and whether a registration wrote it
+unfoldable pub mark-by : Bool → Bool → ℕ
+mark-by true written = 49152
+mark-by false true = 32768
+mark-by false false = 0
+
+abbrev pub mark-of : Model → ℕ → ℕ
+mark-of k x = mark-by (member x (k .sets)) (marked x (k .located))
 
 -- "A location is a span number (32 bits) and a position (32 bits)": as one number, the greater for the later location
 unfoldable pub pack : Loc → ℕ

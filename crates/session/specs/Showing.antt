@@ -11,7 +11,6 @@ use Rattle.rules.specs.Record.{location-of}
 use Rattle.entries.specs.Entries.{row, item-of, entry-of}
 use Rattle.buffer.specs.View.{view, order-of, spans-of, upto}
 use Rattle.buffer.specs.Rows.{row-length, spans-at}
-use Rattle.tracking.specs.MarkOf.{marks-are}
 use Rattle.registrar.specs.Unique.{pending-read}
 use Rattle.lists.specs.ListLaws.{Parts}
 use Rattle.lists.specs.Arguments.{parts-of}
@@ -73,7 +72,7 @@ module _ (P N : ℕ) (k : Model) (s : Session) (σ : Storage) (R : Rep P N k s �
         order = order-is;
         tally = tally-is (R .core .guided);
         rows = R .core .rowed .rows;
-        marks = marks-are N k (σ .marks) (σ .locations) (R .core .tracked .places);
+        marks = R .core .tracked .places .at;
         locations = R .core .tracked .places .place-of;
         numbers = R .core .guided .stands .laid .numbered ∙ ap (λ (n : ℕ). upto n 32) first-is;
         lengths = sym (lengths-of P (σ .spans) (s .guide .window .rows) (s .guide .window .lens) same-many) ∙ ap (λ (x : List (List Item)). map length x) spans-are;

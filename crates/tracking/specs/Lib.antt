@@ -2,4 +2,3 @@
 pub mod Tracking
 pub mod Loops
 pub mod Places
-pub mod MarkOf

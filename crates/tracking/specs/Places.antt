@@ -12,21 +12,17 @@ use lib.ListN.{length, getD, set, drop, length-set}
 use lib.Seq.{getD-set-same, getD-set-other, drop-set-lt}
 use borrow.Author.Tests.{ltb-true, ltb-false, eq-eqb, ne-eqb}
 use Rattle.rules.specs.Guide.{Loc, origin}
-use Rattle.rules.specs.Record.{pack}
+use Rattle.rules.specs.Record.{mark-by, pack}
 use Rattle.rules.specs.Model.{Located, Model, member, marked, tracked, run-from, watermark, loc-of, later, top, spotted}
 use Rattle.laws.specs.ModelBase.{bool-cases, loc-of-left, loc-of-right, marked-append}
 use Rattle.lists.specs.Part.{Below}
 use Rattle.tracking.specs.Tracking.{peak, stamped, nz, tracked-in}
 
--- a place's mark: 49,152 set, 32,768 written, 0 untracked
-unfoldable pub mark-of : List ℕ → List Located → ℕ → ℕ
-mark-of sets ls x = cond {A = ℕ} (member x sets) 49152 (cond {A = ℕ} (marked x ls) 32768 0)
-
 -- marks and locations of the first N places are those of the set places and of the located ones
 pub record Places (N : ℕ) (sets : List ℕ) (ls : List Located) (marks locs : List ℕ) : Type 0 where
   pub marks-long : N ≤ length marks
   pub locs-long : N ≤ length locs
-  pub at : (x : ℕ) → x < N → getD marks x 0 ≡ mark-of sets ls x
+  pub at : (x : ℕ) → x < N → getD marks x 0 ≡ mark-by (member x sets) (marked x ls)
   pub place-of : (x : ℕ) → x < N → getD locs x 0 ≡ pack (loc-of ls x)
   pub low : (x : ℕ) → (loc-of ls x) .pos < 4294967296
 
@@ -139,11 +135,11 @@ module _ (N : ℕ) (sets : List ℕ) (ls : List Located) (marks locs outs : List
       go (inl m) = loc-of-left ls (spotted l outs) x m
       go (inr m) = loc-of-right ls (spotted l outs) x m ∙ unspotted (spotted l outs) x (spotted-marked l outs x ∙ e) ∙ sym (unspotted ls x m)
 
-  at′ : (x : ℕ) → x < N → getD (stamped marks outs 32768) x 0 ≡ mark-of sets ls′ x
-  unfolding mark-of
+  at′ : (x : ℕ) → x < N → getD (stamped marks outs 32768) x 0 ≡ mark-by (member x sets) (marked x ls′)
+  unfolding mark-by
   at′ x h = stamped-at marks outs 32768 x (omega (arith, k .marks-long)) ∙ go (bool-cases (member x outs))
     where
-      go : (member x outs ≡ true) ⊎ (member x outs ≡ false) → cond {A = ℕ} (member x outs) 32768 (getD marks x 0) ≡ mark-of sets ls′ x
+      go : (member x outs ≡ true) ⊎ (member x outs ≡ false) → cond {A = ℕ} (member x outs) 32768 (getD marks x 0) ≡ mark-by (member x sets) (marked x ls′)
       go (inl e) = rw (marked′ x, e, f .unset x e, or-true)
       go (inr e) = rw (marked′ x, e, or-false (marked x ls)) (k .at x h)
 
@@ -175,15 +171,15 @@ run-cong t u (suc f) m h = go (bool-cases (u m)) (run-cong t u f (suc m) (λ x k
     go (inl e) r = let d : t m ≡ true = h m (omega arith) ∙ e in rw (run-from, d, e) r
     go (inr e) r = let d : t m ≡ false = h m (omega arith) ∙ e in rw (run-from, d, e)
 
-nz-mark : (a b : Bool) → nz (cond {A = ℕ} a 49152 (cond {A = ℕ} b 32768 0)) ≡ (a || b)
-unfolding nz
+nz-mark : (a b : Bool) → nz (mark-by a b) ≡ (a || b)
+unfolding nz mark-by
 nz-mark true b = refl
 nz-mark false true = refl
 nz-mark false false = refl
 
 -- a mark says whether the place is tracked
 pub tracked-is : (N : ℕ) (sets : List ℕ) (ls : List Located) (marks locs : List ℕ) → Places N sets ls marks locs → (x : ℕ) → x < N → tracked-in marks x ≡ (member x sets || marked x ls)
-unfolding tracked-in mark-of
+unfolding tracked-in
 tracked-is N sets ls marks locs k x h = ap nz (k .at x h) ∙ nz-mark (member x sets) (marked x ls)
 
 -- the run of tracked marks is the watermark
@@ -230,22 +226,22 @@ set-from N from marks y long h = omega (arith, run-mono (tracked-in marks) (trac
 -- opening: storage of zeros stands for no set and no placed place
 pub places-open : (N : ℕ) (marks locs : List ℕ) → N ≤ length marks → N ≤ length locs → ((x : ℕ) → x < N → getD marks x 0 ≡ 0) → ((x : ℕ) → x < N → getD locs x 0 ≡ 0)
     → Places N [] [] marks locs
-unfolding mark-of member marked loc-of origin pack
+unfolding mark-by member marked loc-of origin pack
 places-open N marks locs hm hl zm zl = record { marks-long = hm; locs-long = hl; at = zm; place-of = zl; low = λ x. omega arith }
 
 -- a set place
 pub places-set : (N : ℕ) (sets : List ℕ) (ls : List Located) (marks locs : List ℕ) (x : ℕ) → Places N sets ls marks locs → Places N (x ∷ sets) ls (set marks x 49152) locs
-unfolding mark-of member
+unfolding mark-by member
 places-set N sets ls marks locs x k =
     record { marks-long = omega (arith, length-set marks x 49152, k .marks-long); locs-long = k .locs-long; at = at″; place-of = k .place-of; low = k .low }
   where
-    at″ : (y : ℕ) → y < N → getD (set marks x 49152) y 0 ≡ mark-of (x ∷ sets) ls y
+    at″ : (y : ℕ) → y < N → getD (set marks x 49152) y 0 ≡ mark-by (member y (x ∷ sets)) (marked y ls)
     at″ y h = elim (ℕ-discrete y x) [ yes e ↦ same e | no n ↦ other n ]
       where
-        same : y ≡ x → getD (set marks x 49152) y 0 ≡ mark-of (x ∷ sets) ls y
+        same : y ≡ x → getD (set marks x 49152) y 0 ≡ mark-by (member y (x ∷ sets)) (marked y ls)
         same e = rw (eq-eqb y x e) (rw e (getD-set-same marks x 49152 0 (omega (arith, k .marks-long))))
 
-        other : (y ≡ x → ⊥) → getD (set marks x 49152) y 0 ≡ mark-of (x ∷ sets) ls y
+        other : (y ≡ x → ⊥) → getD (set marks x 49152) y 0 ≡ mark-by (member y (x ∷ sets)) (marked y ls)
         other n = rw (ne-eqb y x n, getD-set-other marks x y 49152 0 n) (k .at y h)
 
 -- what lies beyond the first N places is untouched
