@@ -18,9 +18,9 @@ check-tally t = record { fails = ltb 65000 (length t) || ltb 16777216 (sum t); n
 
 -- 1; then 2: fewer than 195 numbers lent; or 0
 unfoldable pub summary-number : List ℕ → ℕ → ℕ
-summary-number t lent = verdict (check-tally t ∷ (record { fails = ltb lent 195; number = 2 } ∷ []))
+summary-number t count = verdict (check-tally t ∷ (record { fails = ltb count 195; number = 2 } ∷ []))
 
 -- the lent numbers after a call with this number: the summary of the tally and what lies past it; refused, as they were
 unfoldable pub summary-after : ℕ → List ℕ → List ℕ → List ℕ
-summary-after zero t lent = summary-numbers (figures t) ++ drop 195 lent
-summary-after (suc n) t lent = lent
+summary-after zero t before = summary-numbers (figures t) ++ drop 195 before
+summary-after (suc n) t before = before

@@ -47,42 +47,42 @@ writable s t e =
     }
 
 -- the number in each case
-module _ (t : List ℕ) (lent : ℕ) where
-  pub too-long : 65000 < length t → 1 ≡ summary-number t lent
+module _ (t : List ℕ) (count : ℕ) where
+  pub too-long : 65000 < length t → 1 ≡ summary-number t count
   unfolding summary-number check-tally verdict
   too-long h = rw (lt-ltb 65000 (length t) h)
 
-  pub too-great : length t ≤ 65000 → true ≡ ltb 16777216 (sum t) → 1 ≡ summary-number t lent
+  pub too-great : length t ≤ 65000 → true ≡ ltb 16777216 (sum t) → 1 ≡ summary-number t count
   unfolding summary-number check-tally verdict
   too-great h e = rw (le-ltb 65000 (length t) h, sym e)
 
-  pub too-few : length t ≤ 65000 → false ≡ ltb 16777216 (sum t) → lent < 195 → 2 ≡ summary-number t lent
+  pub too-few : length t ≤ 65000 → false ≡ ltb 16777216 (sum t) → count < 195 → 2 ≡ summary-number t count
   unfolding summary-number check-tally verdict
-  too-few h e l = rw (le-ltb 65000 (length t) h, sym e, lt-ltb lent 195 l)
+  too-few h e l = rw (le-ltb 65000 (length t) h, sym e, lt-ltb count 195 l)
 
-  pub fine : length t ≤ 65000 → false ≡ ltb 16777216 (sum t) → 195 ≤ lent → 0 ≡ summary-number t lent
+  pub fine : length t ≤ 65000 → false ≡ ltb 16777216 (sum t) → 195 ≤ count → 0 ≡ summary-number t count
   unfolding summary-number check-tally verdict
-  fine h e l = rw (le-ltb 65000 (length t) h, sym e, le-ltb lent 195 l)
+  fine h e l = rw (le-ltb 65000 (length t) h, sym e, le-ltb count 195 l)
 
   -- what an accepted call may presume
-  pub accepted : summary-number t lent ≡ 0 → (Small t) × (195 ≤ lent)
+  pub accepted : summary-number t count ≡ 0 → (Small t) × (195 ≤ count)
   accepted e = elim (decLt 65000 (length t)) [ yes h ↦ absurd (omega (arith, e, too-long h)) | no h ↦ short (omega arith) ]
     where
-      room : length t ≤ 65000 → sum t ≤ 16777216 → (Small t) × (195 ≤ lent)
-      room a b = elim (decLt lent 195) [ yes h ↦ absurd (omega (arith, e, too-few a (sym (le-ltb 16777216 (sum t) b)) h)) | no h ↦ (record { few = a; total = b }, omega arith) ]
+      room : length t ≤ 65000 → sum t ≤ 16777216 → (Small t) × (195 ≤ count)
+      room a b = elim (decLt count 195) [ yes h ↦ absurd (omega (arith, e, too-few a (sym (le-ltb 16777216 (sum t) b)) h)) | no h ↦ (record { few = a; total = b }, omega arith) ]
 
-      short : length t ≤ 65000 → (Small t) × (195 ≤ lent)
+      short : length t ≤ 65000 → (Small t) × (195 ≤ count)
       short a = elim (decLt 16777216 (sum t)) [ yes h ↦ absurd (omega (arith, e, too-great a (sym (lt-ltb 16777216 (sum t) h)))) | no h ↦ room a (omega arith) ]
 
 -- the lent numbers after an accepted and after a refused call
-pub after-done : (n : ℕ) (t lent : List ℕ) (f : Figures) → n ≡ 0 → f ≡ figures t → summary-numbers f ++ drop 195 lent ≡ summary-after n t lent
+pub after-done : (n : ℕ) (t before : List ℕ) (f : Figures) → n ≡ 0 → f ≡ figures t → summary-numbers f ++ drop 195 before ≡ summary-after n t before
 unfolding summary-after
-after-done n t lent f e g = rw (e, g)
+after-done n t before f e g = rw (e, g)
 
-pub after-refused : (n : ℕ) (t lent : List ℕ) → (n ≡ 0 → ⊥) → lent ≡ summary-after n t lent
+pub after-refused : (n : ℕ) (t before : List ℕ) → (n ≡ 0 → ⊥) → before ≡ summary-after n t before
 unfolding summary-after
-after-refused zero t lent h = absurd (h refl)
-after-refused (suc n) t lent h = refl
+after-refused zero t before h = absurd (h refl)
+after-refused (suc n) t before h = refl
 
 -- the summary written in its parts: two numbers, then the counts, then the sums
 pub written : (b m : ℕ) (counts sums to x y : List ℕ) → length counts ≡ 128 → length sums ≡ 65 → 195 ≤ length to

@@ -119,9 +119,9 @@ fn sum_too_great(t: &[u32]) -> bool
     false
 }
 
-// The number of a summary of the tally in `lent` numbers: 0, or 1 or 2 where it is refused.
-fn check_summary(tally: &[u32], lent: usize) -> u64
-    ensures { λ r. ⌜ r ≡ summary-number (now (tally .entry)) lent ⌝ }
+// The number of a summary of the tally in `count` numbers: 0, or 1 or 2 where it is refused.
+fn check_summary(tally: &[u32], count: usize) -> u64
+    ensures { λ r. ⌜ r ≡ summary-number (now (tally .entry)) count ⌝ }
 {
     if 65000 < tally.len() {
         return 1;
@@ -129,7 +129,7 @@ fn check_summary(tally: &[u32], lent: usize) -> u64
     if sum_too_great(tally) {
         return 1;
     }
-    if lent < 195 {
+    if count < 195 {
         return 2;
     }
     0
