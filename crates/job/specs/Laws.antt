@@ -283,9 +283,9 @@ module _ (job : List ℕ) (short : length job ≤ 65536) where
         unfolding remains on-line opened
         runs-whole =
             let q : eqb number 0 ≡ true = eq-eqb number 0 z in
+            let there : Option Reached = some (record { parallelism = P; places = N; model = reached-lines P N job-pool none (lines (drop start job)) initial }) in
             opening-next ∙ ap opened (sym number-is) ∙ rw (on-line, q)
-            (ap (λ (x : Bool). (run-lines P N job-pool 3 none (lines (drop start job)) x initial, some (record { parallelism = P; places = N; model = reached-lines P N job-pool none (lines (drop start job)) initial })))
-            (sym (sized .starts .1 .1)))
+            (ap (λ (x : Bool). (run-lines P N job-pool 3 none (lines (drop start job)) x initial, there)) (sym (sized .starts .1 .1)))
 
         standing : (x : End) (υ : Storage) (u : Stopped P N job-pool s τ υ x (remains P N job-pool job start 3 initial))
             → Standing (record { parallelism = P; places = N; model = u .model }) (u .session) σ υ
@@ -340,3 +340,12 @@ module _ (job : List ℕ) (short : length job ≤ 65536) where
 -- so a job that is too long, whose head is malformed or that opening refuses has written nothing
 pub nothing-written : {job : List ℕ} {n code : ℕ} {σ σ′ : Storage} {a b : List ℕ} → reached job ≡ none → Ran job (end.Rejected n code) σ σ′ a b → σ′ ≡ σ
 nothing-written {job} {n} {code} {σ} {σ′} {a} {b} e r = subst (λ (x : Option Reached). Left x σ σ′) e (r .tells .left)
+
+-- a wrong program shut out: a job opened with another V, or that tells another P. Those of its first two lines are the session's, for whose
+-- model the storage stands
+pub own-numbers : {job : List ℕ} {w pl p : ℕ} {σ σ′ : Storage} {a b : List ℕ} → Ran job (end.Finished w pl p) σ σ′ a b
+    → (r : Reached) × ((reached job ≡ some r) × ((s : Session) × (Rep (r .parallelism) (r .places) (r .model) s σ′ × ((s .guide .v ≡ r .places) × (p ≡ r .parallelism)))))
+own-numbers r =
+    let c = r .tells in
+    let g = c .standing .held .rep in
+    (c .last, (c .reached-is, (c .session, (g, (g .core .guided .v-is, c .parallelism-is ∙ g .core .guided .p-is)))))

@@ -222,15 +222,21 @@ module _ {s entry read : List ℕ} {at next : ℕ} {l : Line} (n : ℕ) (a : Lin
 
   pub a-set : (x : ℕ) → first-of l ≡ first.Set x → NextCall s at n entry read (act.Set x) n next
   unfolding started
-  a-set x e = one (first.Set x) e (act.Set x) (λ P N W rag k rest. refl) (λ h. let z : _≡_ {A = ℕ} 0 1 = cc in absurd (omega arith)) (λ i h. let z : _≡_ {A = ℕ} 0 1 = cc in absurd (omega arith)) refl
+  a-set x e =
+      one (first.Set x) e (act.Set x) (λ P N W rag k rest. refl) (λ h. let z : _≡_ {A = ℕ} 0 1 = cc in absurd (omega arith))
+      (λ i h. let z : _≡_ {A = ℕ} 0 1 = cc in absurd (omega arith)) refl
 
   pub a-flush : first-of l ≡ first.Flush → NextCall s at n entry read act.Flush n next
   unfolding started
-  a-flush e = one first.Flush e act.Flush (λ P N W rag k rest. refl) (λ h. let z : _≡_ {A = ℕ} 0 1 = cc in absurd (omega arith)) (λ i h. let z : _≡_ {A = ℕ} 0 1 = cc in absurd (omega arith)) refl
+  a-flush e =
+      one first.Flush e act.Flush (λ P N W rag k rest. refl) (λ h. let z : _≡_ {A = ℕ} 0 1 = cc in absurd (omega arith))
+      (λ i h. let z : _≡_ {A = ℕ} 0 1 = cc in absurd (omega arith)) refl
 
   pub a-final : first-of l ≡ first.Final → NextCall s at n entry read act.Final n next
   unfolding started
-  a-final e = one first.Final e act.Final (λ P N W rag k rest. refl) (λ h. let z : _≡_ {A = ℕ} 0 1 = cc in absurd (omega arith)) (λ i h. let z : _≡_ {A = ℕ} 0 1 = cc in absurd (omega arith)) refl
+  a-final e =
+      one first.Final e act.Final (λ P N W rag k rest. refl) (λ h. let z : _≡_ {A = ℕ} 0 1 = cc in absurd (omega arith))
+      (λ i h. let z : _≡_ {A = ℕ} 0 1 = cc in absurd (omega arith)) refl
 
   pub no-first : first-of l ≡ first.Malformed → NextCall s at n entry read act.Malformed n next
   unfolding started goes
@@ -499,7 +505,11 @@ unfolding acts-2 on-line
 acts-2-reach P none rest rag = refused-reaches 2 15
 acts-2-reach P (some N) rest rag = go (eqb (verdict (check-open P N job-sizes)) 0)
   where
-    go : (b : Bool) → Reaches (elim b [ true ↦ run-lines P N job-pool 3 none rest rag initial | false ↦ rule.rejected 2 (verdict (check-open P N job-sizes)) ], elim b [ true ↦ some (record { parallelism = P; places = N; model = reached-lines P N job-pool none rest initial }) | false ↦ none ])
+    go : (b : Bool)
+        → Reaches (
+          elim b [ true ↦ run-lines P N job-pool 3 none rest rag initial | false ↦ rule.rejected 2 (verdict (check-open P N job-sizes)) ],
+          elim b [ true ↦ some (record { parallelism = P; places = N; model = reached-lines P N job-pool none rest initial }) | false ↦ none ],
+        )
     go true Q m e =
         let a = lines-agree P N job-pool rag rest 3 none initial Q m e in (
           N,
@@ -527,3 +537,7 @@ finished-reached job = go (ltb 65536 (length job))
     go : (b : Bool) → Reaches (elim b [ true ↦ rule.rejected 1 16 | false ↦ run-job (lines job) (ragged job) ], elim b [ true ↦ none | false ↦ reached-job (lines job) ])
     go true = refused-reaches 1 16
     go false = lines-reach
+
+-- a wrong program shut out: a well-formed head that writes to the storage for numbers
+pub head-writes-none : {s : List ℕ} {P N next : ℕ} {a b : List ℕ} → HeadRead s (head.Sizes P N next) a b → b ≡ a
+head-writes-none r = r .into

@@ -207,7 +207,9 @@ module _ {job entry read : List ℕ} {at n m next : ℕ} {a : Act} (s : Session)
 
       module _ (o : kind-of a ≡ 1 → ⊥) where
         closed : (P N W : ℕ) (k : Model) → 1 ≤ P → Held P N W s σ k
-            → Accepts P N W calls.final k s′ σ′ × (remains P N W job at n k ≡ (closing P (suc m) (lines (drop next job)) (ragged (drop next job)) (step P N W calls.final k), step P N W calls.final k))
+            → Accepts P N W calls.final k s′ σ′
+            × (remains P N W job at n k
+            ≡ (closing P (suc m) (lines (drop next job)) (ragged (drop next job)) (step P N W calls.final k), step P N W calls.final k))
         closed P N W k hP h =
             let e = is-final a z o in
             let x : call-of a read ≡ some calls.final = ap (λ (y : Act). call-of y read) e in
@@ -235,10 +237,11 @@ module _ {job entry read : List ℕ} {at n m next : ℕ} {a : Act} (s : Session)
               tells = λ P N W k hP h.
                   let f = closed P N W k hP h in
                   let k′ = step P N W calls.final k in
+                  let more = surplus P (suc m) k′ (drop next job) (λ q. e (omega (arith, c .within, simp length-drop at q))) in
                   inr (record {
                     final = f .0;
                     number = refl;
-                    is = f .1 ∙ ap (λ (y : Outcome). (y, k′)) (surplus P (suc m) k′ (drop next job) (λ q. e (omega (arith, c .within, simp length-drop at q))) ∙ ap (λ (i : ℕ). rejected i 15) (sym (add-one m)));
+                    is = f .1 ∙ ap (λ (y : Outcome). (y, k′)) (more ∙ ap (λ (i : ℕ). rejected i 15) (sym (add-one m)));
                   });
               further = (omega (arith, c .low), omega arith);
               frame = was-made .frame;
@@ -265,3 +268,9 @@ module _ (a : Act) (numbers : List ℕ) (n : ℕ) (s s′ : Session) (σ σ′ :
 -- the lists of an add lie within the numbers
 pub lists-in : (a : Act) (numbers : List ℕ) (i o : ℕ) → a ≡ act.Add i o → taken-by a ≤ length numbers → i + o ≤ length numbers
 lists-in a numbers i o e h = omega (arith, ap taken-by e)
+
+-- a wrong program shut out: a call refused by its own number, not for text after final, that changes session or storage
+pub refused-changes-none : {P N W m code at n : ℕ} {k : Model} {job a b : List ℕ} {s s′ : Session} {σ σ′ : Storage} → (code ≡ 15 → ⊥) → 1 ≤ P → Held P N W s σ k
+    → Turned job at n s (step′.Rejected m code) s′ σ σ′ a b → (s′ ≡ s) × (σ′ ≡ σ)
+refused-changes-none {P} {N} {W} {k = k} other hP h t =
+    elim (t .tells P N W k hP h) [ inl r ↦ (r .session, r .storage) | inr x ↦ absurd (other (x .number)) ]
