@@ -27,7 +27,8 @@ use Rattle.jobtext.specs.declared.Items.the-variants as items
 use Rattle.jobline.specs.declared.Line.{Line}
 use Rattle.jobline.specs.declared.Line.the-variants as line
 use Rattle.jobline.specs.Lines.{line-as, listed, LineRead}
-use Rattle.jobcalls.specs.Told.{first-line, other-lines, LineAt, first-of, outputs-of, parallelism-of, places-of, call-of, taken-by, Run, reads, makes, closes, goes, NextCall, whole-run, runs-from, head-keeps, HeadRead}
+use Rattle.jobcalls.specs.Told.{first-line, other-lines, LineAt, first-of, outputs-of, parallelism-of, places-of, call-of}
+use Rattle.jobcalls.specs.Told.{taken-by, Run, reads, makes, closes, goes, NextCall, whole-run, runs-from, head-keeps, HeadRead}
 use Rattle.jobcalls.specs.declared.First.{First}
 use Rattle.jobcalls.specs.declared.First.the-variants as first
 use Rattle.jobcalls.specs.declared.Act.{Act}
@@ -54,7 +55,8 @@ module _ (s into : List ℕ) (at off e : ℕ) (inside : at ≤ length s) (half :
       let j : e - at ≡ before 10 (drop at s) = omega (arith, found) in
       let f : drop (suc (before 10 (drop at s))) (drop at s) ≡ drop (e + 1) s = drop-drop (suc (before 10 (drop at s))) at s ∙ ap (λ (i : ℕ). drop i s) k in
       let n : lines (drop at s) ≡ take (e - at) (drop at s) ∷ lines (drop (e + 1) s) =
-      lines-more [] (drop at s) lt ∙ ap (λ (x : List (List ℕ)). take (before 10 (drop at s)) (drop at s) ∷ x) (ap lines f) ∙ ap (λ (i : ℕ). take i (drop at s) ∷ lines (drop (e + 1) s)) (sym j)
+      lines-more [] (drop at s) lt ∙ ap (λ (x : List (List ℕ)). take (before 10 (drop at s)) (drop at s) ∷ x) (ap lines f)
+      ∙ ap (λ (i : ℕ). take i (drop at s) ∷ lines (drop (e + 1) s)) (sym j)
       in
       record {
         reads = rw n (r .reads);

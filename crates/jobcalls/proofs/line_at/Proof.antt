@@ -11,7 +11,10 @@ find-requires : tie.Need-find-requires
 find-requires c κs = search needs
 
 returns : tie.Need-returns
-returns c = line-missing (c .before .before .before .before .args .job .now) (c .before .before .before .before .args .into .now) (c .before .before .before .before .args .at) (c .before .before .before .before .args .off) (c .before .find .result) (c .before .before .before .before .pre .0) (c .before .before .before .before .pre .1) (c .before .find .ensures) (c .if1 .taken)
+returns c =
+    let start = c .before .before .before .before in
+    let a = start .args in
+    line-missing (a .job .now) (a .into .now) (a .at) (a .off) (c .before .find .result) (start .pre .0) (start .pre .1) (c .before .find .ensures) (c .if1 .taken)
 
 sub-read-line : tie.Need-sub-read-line
 sub-read-line c = search needs
@@ -20,19 +23,40 @@ part-read-line-start : tie.Need-part-read-line-start
 part-read-line-start c = search needs
 
 part-read-line-end : tie.Need-part-read-line-end
-part-read-line-end c = le-of-lt (line-end (c .before .before .before .before .args .job .now) (c .before .before .before .before .args .into .now) (c .before .before .before .before .args .at) (c .before .before .before .before .args .off) (c .before .find .result) (c .before .before .before .before .pre .0) (c .before .before .before .before .pre .1) (c .before .find .ensures) (c .if1 .left))
+part-read-line-end c =
+    let start = c .before .before .before .before in
+    let a = start .args in
+    le-of-lt (line-end (a .job .now) (a .into .now) (a .at) (a .off) (c .before .find .result) (start .pre .0) (start .pre .1) (c .before .find .ensures) (c .if1 .left))
 
 read-line-requires : tie.Need-read-line-requires
-read-line-requires c κs = simp (length-take, length-drop) (omega (arith, line-end (c .before .before .before .before .before .before .args .job .now) (c .before .before .before .before .before .before .args .into .now) (c .before .before .before .before .before .before .args .at) (c .before .before .before .before .before .before .args .off) (c .before .before .before .find .result) (c .before .before .before .before .before .before .pre .0) (c .before .before .before .before .before .before .pre .1) (c .before .before .before .find .ensures) (c .before .before .if1 .left), c .before .before .before .before .before .before .pre .1, c .before .before .before .find .ensures))
+read-line-requires c κs =
+    let ended = c .before .before in
+    let found = ended .before in
+    let start = found .before .before .before in
+    let a = start .args in
+    let e = line-end (a .job .now) (a .into .now) (a .at) (a .off) (found .find .result) (start .pre .0) (start .pre .1) (found .find .ensures) (ended .if1 .left) in
+    simp (length-take, length-drop) (omega (arith, e, start .pre .1, found .find .ensures))
 
 add-t7 : tie.Need-add-t7
-add-t7 c = omega (arith, line-end (c .before .before .before .before .before .before .before .before .before .args .job .now) (c .before .before .before .before .before .before .before .before .before .args .into .now) (c .before .before .before .before .before .before .before .before .before .args .at) (c .before .before .before .before .before .before .before .before .before .args .off) (c .before .before .before .before .before .before .find .result) (c .before .before .before .before .before .before .before .before .before .pre .0) (c .before .before .before .before .before .before .before .before .before .pre .1) (c .before .before .before .before .before .before .find .ensures) (c .before .before .before .before .before .if1 .left), c .before .before .before .before .before .before .before .before .before .good .0 .0)
+add-t7 c =
+    let ended = c .before .before .before .before .before in
+    let found = ended .before in
+    let start = found .before .before .before in
+    let a = start .args in
+    omega (arith, line-end (a .job .now) (a .into .now) (a .at) (a .off) (found .find .result) (start .pre .0) (start .pre .1) (found .find .ensures) (ended .if1 .left), start .good .0 .0)
 
 same-length : tie.Need-same-length
 same-length c = search needs
 
 returns-2 : tie.Need-returns-2
-returns-2 c = line-found (c .before .before .before .before .before .before .before .before .before .args .job .now) (c .before .before .before .before .before .before .before .before .before .args .into .now) (c .before .before .before .before .before .before .before .before .before .args .at) (c .before .before .before .before .before .before .before .before .before .args .off) (c .before .before .before .before .before .before .find .result) (c .before .before .before .before .before .before .before .before .before .pre .0) (c .before .before .before .before .before .before .before .before .before .pre .1) (c .before .before .before .before .before .before .find .ensures) (c .before .before .read-line .last .1 .0) (c .before .before .read-line .result) (c .before .before .before .before .before .if1 .left) (c .before .before .read-line .ensures)
+returns-2 c =
+    let read = c .before .before in
+    let ended = read .before .before .before in
+    let found = ended .before in
+    let start = found .before .before .before in
+    let a = start .args in
+    line-found (a .job .now) (a .into .now) (a .at) (a .off) (found .find .result) (start .pre .0) (start .pre .1) (found .find .ensures)
+    (read .read-line .last .1 .0) (read .read-line .result) (ended .if1 .left) (read .read-line .ensures)
 
 pub line-at-spec : {M : Type 1} → statement M
 line-at-spec =

@@ -19,7 +19,12 @@ enum-known-f-2 : tie.Need-enum-known-f-2
 enum-known-f-2 c = search needs
 
 line-at-requires-2 : tie.Need-line-at-requires-2
-line-at-requires-2 c κs = (c .before .before .before .before .before .before .before .line-at .ensures .within, second-room _ (c .before .before .before .before .before .before .before .line-at .ensures) (sym (c .before .before .before .before .starting .ensures) ∙ c .before .before .f2 .given .1) (c .before .before .before .before .before .before .before .before .before .before .before .pre .1 .0) (c .before .before .before .before .before .before .before .line-at .kept .1 .1 .0))
+line-at-requires-2 c κs =
+    let told = c .before .before in
+    let begun = told .before .before in
+    let first-line = begun .before .before .before in
+    let start = first-line .before .before .before .before in
+    (first-line .line-at .ensures .within, second-room _ (first-line .line-at .ensures) (sym (begun .starting .ensures) ∙ told .f2 .given .1) (start .pre .1 .0) (first-line .line-at .kept .1 .1 .0))
 
 outputs-requires : tie.Need-outputs-requires
 outputs-requires c κs = search needs
@@ -49,37 +54,69 @@ same-length : tie.Need-same-length
 same-length c = search needs
 
 returns : tie.Need-returns
-returns c = a-set (c .before .before .before .before .before .before .before .before .before .before .args .line) (c .before .before .before .before .before .before .line-at .ensures) _ (sym (c .before .before .before .starting .ensures) ∙ c .before .f .given .1)
+returns c =
+    let begun = c .before .before .before in
+    let first-line = begun .before .before .before in
+    let start = first-line .before .before .before .before in
+    a-set (start .args .line) (first-line .line-at .ensures) _ (sym (begun .starting .ensures) ∙ c .before .f .given .1)
 
 same-length-2 : tie.Need-same-length-2
 same-length-2 c = search needs
 
 returns-2 : tie.Need-returns-2
-returns-2 c = an-add _ (c .before .before .before .before .before .before .before .before .before .before .before .before .before .before .line-at .ensures) (sym (c .before .before .before .before .before .before .before .before .before .before .before .starting .ensures) ∙ c .before .before .before .before .before .before .before .before .before .f2 .given .1) (c .before .before .before .before .before .before .before .before .before .before .before .before .before .before .before .before .before .before .args .line) (c .before .before .before .before .before .before .line-at2 .ensures) _ (sym (c .before .before .before .outputs .ensures) ∙ c .before .o .given .1)
+returns-2 c =
+    let outs = c .before .before .before in
+    let second-line = outs .before .before .before in
+    let told = second-line .before .before .before in
+    let begun = told .before .before in
+    let first-line = begun .before .before .before in
+    let start = first-line .before .before .before .before in
+    an-add _ (first-line .line-at .ensures) (sym (begun .starting .ensures) ∙ told .f2 .given .1) (start .args .line)
+    (second-line .line-at2 .ensures) _ (sym (outs .outputs .ensures) ∙ c .before .o .given .1)
 
 same-length-3 : tie.Need-same-length-3
 same-length-3 c = search needs
 
 returns-3 : tie.Need-returns-3
-returns-3 c = no-second _ (c .before .before .before .before .before .before .before .before .before .before .before .before .before .line-at .ensures) (sym (c .before .before .before .before .before .before .before .before .before .before .starting .ensures) ∙ c .before .before .before .before .before .before .before .before .f2 .given .1) (c .before .before .before .before .before .before .before .before .before .before .before .before .before .before .before .before .before .args .line) (c .before .before .before .before .before .line-at2 .ensures) (sym (c .before .before .outputs .ensures) ∙ c .enum-told .given .1)
+returns-3 c =
+    let outs = c .before .before in
+    let second-line = outs .before .before .before in
+    let told = second-line .before .before .before in
+    let begun = told .before .before in
+    let first-line = begun .before .before .before in
+    let start = first-line .before .before .before .before in
+    no-second _ (first-line .line-at .ensures) (sym (begun .starting .ensures) ∙ told .f2 .given .1) (start .args .line)
+    (second-line .line-at2 .ensures) (sym (outs .outputs .ensures) ∙ c .enum-told .given .1)
 
 same-length-4 : tie.Need-same-length-4
 same-length-4 c = search needs
 
 returns-4 : tie.Need-returns-4
-returns-4 c = a-flush (c .before .before .before .before .before .before .before .before .before .args .line) (c .before .before .before .before .before .line-at .ensures) (sym (c .before .before .starting .ensures) ∙ c .enum-told2 .given .1)
+returns-4 c =
+    let begun = c .before .before in
+    let first-line = begun .before .before .before in
+    let start = first-line .before .before .before .before in
+    a-flush (start .args .line) (first-line .line-at .ensures) (sym (begun .starting .ensures) ∙ c .enum-told2 .given .1)
 
 same-length-5 : tie.Need-same-length-5
 same-length-5 c = search needs
 
 returns-5 : tie.Need-returns-5
-returns-5 c = a-final (c .before .before .before .before .before .before .before .before .before .args .line) (c .before .before .before .before .before .line-at .ensures) (sym (c .before .before .starting .ensures) ∙ c .enum-told3 .given .1)
+returns-5 c =
+    let begun = c .before .before in
+    let first-line = begun .before .before .before in
+    let start = first-line .before .before .before .before in
+    a-final (start .args .line) (first-line .line-at .ensures) (sym (begun .starting .ensures) ∙ c .enum-told3 .given .1)
 
 same-length-6 : tie.Need-same-length-6
 same-length-6 c = search needs
 
 returns-6 : tie.Need-returns-6
-returns-6 c = no-first (c .before .before .before .before .before .before .before .before .before .args .line) (c .before .before .before .before .before .line-at .ensures) (sym (c .before .before .starting .ensures) ∙ c .enum-told4 .given .1)
+returns-6 c =
+    let begun = c .before .before in
+    let first-line = begun .before .before .before in
+    let start = first-line .before .before .before .before in
+    no-first (start .args .line) (first-line .line-at .ensures) (sym (begun .starting .ensures) ∙ c .enum-told4 .given .1)
 
 pub next-call-spec : {M : Type 1} → statement M
 next-call-spec =

@@ -25,7 +25,10 @@ returns : tie.Need-returns
 returns c = no-line-1 (c .before .before .before .before .before .line-at .ensures) (sym (c .before .before .parallelism .ensures) ∙ c .enum-told .given .1)
 
 line-at-requires-2 : tie.Need-line-at-requires-2
-line-at-requires-2 c κs = (c .before .before .before .before .before .before .before .line-at .ensures .within, omega (arith, c .before .before .before .before .before .before .before .before .before .before .before .pre, c .before .before .before .before .before .before .before .line-at .kept .1 .1 .0))
+line-at-requires-2 c κs =
+    let first-line = c .before .before .before .before .before .before .before in
+    let start = first-line .before .before .before .before in
+    (first-line .line-at .ensures .within, omega (arith, start .pre, first-line .line-at .kept .1 .1 .0))
 
 places-requires : tie.Need-places-requires
 places-requires c κs = search needs
@@ -40,13 +43,27 @@ same-length-2 : tie.Need-same-length-2
 same-length-2 c = search needs
 
 returns-2 : tie.Need-returns-2
-returns-2 c = no-line-2 (c .before .before .before .before .before .before .before .before .before .before .before .before .before .line-at .ensures) _ (sym (c .before .before .before .before .before .before .before .before .before .before .parallelism .ensures) ∙ c .before .before .before .before .before .before .before .before .x .given .1) (c .before .before .before .before .before .line-at2 .ensures) (sym (c .before .before .places .ensures) ∙ c .enum-told2 .given .1)
+returns-2 c =
+    let second-number = c .before .before in
+    let second-line = second-number .before .before .before in
+    let told = second-line .before .before .before in
+    let first-number = told .before .before in
+    let first-line = first-number .before .before .before in
+    no-line-2 (first-line .line-at .ensures) _ (sym (first-number .parallelism .ensures) ∙ told .x .given .1)
+    (second-line .line-at2 .ensures) (sym (second-number .places .ensures) ∙ c .enum-told2 .given .1)
 
 same-length-3 : tie.Need-same-length-3
 same-length-3 c = search needs
 
 returns-3 : tie.Need-returns-3
-returns-3 c = the-head (c .before .before .before .before .before .before .before .before .before .before .before .before .before .before .line-at .ensures) _ (sym (c .before .before .before .before .before .before .before .before .before .before .before .parallelism .ensures) ∙ c .before .before .before .before .before .before .before .before .before .x .given .1) (c .before .before .before .before .before .before .line-at2 .ensures) _ (sym (c .before .before .before .places .ensures) ∙ c .before .y .given .1)
+returns-3 c =
+    let second-number = c .before .before .before in
+    let second-line = second-number .before .before .before in
+    let told = second-line .before .before .before in
+    let first-number = told .before .before in
+    let first-line = first-number .before .before .before in
+    the-head (first-line .line-at .ensures) _ (sym (first-number .parallelism .ensures) ∙ told .x .given .1)
+    (second-line .line-at2 .ensures) _ (sym (second-number .places .ensures) ∙ c .before .y .given .1)
 
 pub read-head-spec : {M : Type 1} → statement M
 read-head-spec =
