@@ -40,7 +40,11 @@ ends P n k (b ∷ l) e = absurd (omega arith)
 surplus : (P n : ℕ) (k : Model) (l : List ℕ) → (length l ≡ 0 → ⊥) → closing P n (lines l) (ragged l) k ≡ rejected n 15
 unfolding closing lines
 surplus P n k [] h = absurd (h refl)
-surplus P n k (b ∷ l) h = elim (decLt (before 10 (b ∷ l)) (length (b ∷ l))) [ yes lt ↦ rw (lines-more [] (b ∷ l) lt) | no ge ↦ rw (lines-last [] (b ∷ l) (omega arith), ragged-last b l (omega arith)) ]
+surplus P n k (b ∷ l) h =
+    elim (decLt (before 10 (b ∷ l)) (length (b ∷ l))) [
+      | yes lt ↦ rw (lines-more [] (b ∷ l) lt)
+      | no ge ↦ rw (lines-last [] (b ∷ l) (omega arith), ragged-last b l (omega arith))
+    ]
 
 -- the run from a call on, by its number
 module _ (P N W m : ℕ) (rest : List (List ℕ)) (rag : Bool) (k : Model) where

@@ -20,13 +20,21 @@ enum-known-a-2 : tie.Need-enum-known-a-2
 enum-known-a-2 c = search needs
 
 add-m : tie.Need-add-m
-add-m c = omega (arith, lists-in (c .before .before .before .before .before .before .before .before .before .before .before .before .args .a) (c .before .before .before .before .before .before .before .before .before .before .before .before .args .numbers .now) _ _ (c .before .a2 .given .1) (c .before .before .before .before .before .before .before .before .before .before .before .before .pre .there), c .before .before .before .before .before .before .before .before .before .before .before .before .good .1 .1 .1 .1 .1 .1 .1 .1 .0 .0)
+add-m c =
+    let start = c .before .before .before .before .before .before .before .before .before .before .before .before in
+    omega (arith, lists-in (start .args .a) (start .args .numbers .now) _ _ (c .before .a2 .given .1) (start .pre .there), start .good .1 .1 .1 .1 .1 .1 .1 .1 .0 .0)
 
 slice-aggregate-add : tie.Need-slice-aggregate-add
-slice-aggregate-add c = simp length-take (omega (arith, lists-in (c .before .before .before .before .before .before .before .before .before .before .before .before .before .before .before .before .before .before .before .before .before .args .a) (c .before .before .before .before .before .before .before .before .before .before .before .before .before .before .before .before .before .before .before .before .before .args .numbers .now) _ _ (c .before .before .before .before .before .before .before .before .before .before .a2 .given .1) (c .before .before .before .before .before .before .before .before .before .before .before .before .before .before .before .before .before .before .before .before .before .pre .there)))
+slice-aggregate-add c =
+    let told = c .before .before .before .before .before .before .before .before .before .before in
+    let start = told .before .before .before .before .before .before .before .before .before .before .before in
+    simp length-take (omega (arith, lists-in (start .args .a) (start .args .numbers .now) _ _ (told .a2 .given .1) (start .pre .there)))
 
 mul-add : tie.Need-mul-add
-mul-add c = omega (arith, lists-in (c .before .before .before .before .before .before .before .before .before .before .before .before .before .before .before .before .before .before .before .before .before .args .a) (c .before .before .before .before .before .before .before .before .before .before .before .before .before .before .before .before .before .before .before .before .before .args .numbers .now) _ _ (c .before .before .before .before .before .before .before .before .before .before .a2 .given .1) (c .before .before .before .before .before .before .before .before .before .before .before .before .before .before .before .before .before .before .before .before .before .pre .there), c .before .before .before .before .before .before .before .before .before .before .before .before .before .before .before .before .before .before .before .before .before .good .1 .1 .1 .1 .1 .1 .1 .1 .0 .1)
+mul-add c =
+    let told = c .before .before .before .before .before .before .before .before .before .before in
+    let start = told .before .before .before .before .before .before .before .before .before .before .before in
+    omega (arith, lists-in (start .args .a) (start .args .numbers .now) _ _ (told .a2 .given .1) (start .pre .there), start .good .1 .1 .1 .1 .1 .1 .1 .1 .0 .1)
 
 sub-add : tie.Need-sub-add
 sub-add c = search needs
@@ -35,10 +43,15 @@ part-add-start : tie.Need-part-add-start
 part-add-start c = search needs
 
 part-add-end : tie.Need-part-add-end
-part-add-end c = lists-in (c .before .before .before .before .before .before .before .before .before .before .before .before .before .before .before .before .before .before .before .before .before .args .a) (c .before .before .before .before .before .before .before .before .before .before .before .before .before .before .before .before .before .before .before .before .before .args .numbers .now) _ _ (c .before .before .before .before .before .before .before .before .before .before .a2 .given .1) (c .before .before .before .before .before .before .before .before .before .before .before .before .before .before .before .before .before .before .before .before .before .pre .there)
+part-add-end c =
+    let told = c .before .before .before .before .before .before .before .before .before .before in
+    let start = told .before .before .before .before .before .before .before .before .before .before .before in
+    lists-in (start .args .a) (start .args .numbers .now) _ _ (told .a2 .given .1) (start .pre .there)
 
 add-requires : tie.Need-add-requires
-add-requires c κs = c .before .before .before .before .before .before .before .before .before .before .before .before .before .before .before .before .before .before .before .before .before .before .pre .asks
+add-requires c κs =
+    let start = c .before .before .before .before .before .before .before .before .before .before .before .before .before .before .before .before .before .before .before .before .before .before in
+    start .pre .asks
 
 enum-told : tie.Need-enum-told
 enum-told c = search needs
@@ -80,7 +93,11 @@ same-length-8 : tie.Need-same-length-8
 same-length-8 c = c .before .before .before .before .before .before .before .before .before .before .before .before .before .before .before .before .set .kept .1 .1 .1 .1 .1 .1 .1 .1 .0
 
 returns : tie.Need-returns
-returns c = made-as (c .before .before .before .before .before .before .before .before .before .before .before .before .before .before .before .before .before .before .before .before .before .before .before .before .before .before .before .before .before .before .before .before .before .before .before .before .before .args .a) (c .before .before .before .before .before .before .before .before .before .before .before .before .before .before .before .before .before .before .before .before .before .before .before .before .before .before .before .before .before .before .before .before .before .before .before .before .before .args .numbers .now) _ _ _ _ _ (calls.set _) (ap (λ (y : Act). call-of y (c .before .before .before .before .before .before .before .before .before .before .before .before .before .before .before .before .before .before .before .before .before .before .before .before .before .before .before .before .before .before .before .before .before .before .before .before .before .args .numbers .now)) (c .before .before .before .before .before .before .before .before .before .before .before .before .before .before .before .before .before .before .before .before .before .before .before .before .before .before .a .given .1)) (c .before .before .before .before .before .before .before .before .before .before .before .before .before .before .before .before .set .ensures)
+returns c =
+    let made = c .before .before .before .before .before .before .before .before .before .before .before .before .before .before .before .before in
+    let told = made .before .before .before .before .before .before .before .before .before .before in
+    let start = told .before .before .before .before .before .before .before .before .before .before .before in
+    made-as (start .args .a) (start .args .numbers .now) _ _ _ _ _ (calls.set _) (ap (λ (y : Act). call-of y (start .args .numbers .now)) (told .a .given .1)) (made .set .ensures)
 
 same-length-9 : tie.Need-same-length-9
 same-length-9 c = c .before .before .before .before .before .before .before .before .before .before .before .before .before .before .before .before .add .kept .1 .0
@@ -107,7 +124,11 @@ same-length-16 : tie.Need-same-length-16
 same-length-16 c = c .before .before .before .before .before .before .before .before .before .before .before .before .before .before .before .before .add .kept .1 .1 .1 .1 .1 .1 .1 .1 .0
 
 returns-2 : tie.Need-returns-2
-returns-2 c = made-add (c .before .before .before .before .before .before .before .before .before .before .before .before .before .before .before .before .before .before .before .before .before .before .before .before .before .before .before .before .before .before .before .before .before .before .before .before .before .before .before .args .a) (c .before .before .before .before .before .before .before .before .before .before .before .before .before .before .before .before .before .before .before .before .before .before .before .before .before .before .before .before .before .before .before .before .before .before .before .before .before .before .before .args .numbers .now) _ _ _ _ _ _ _ (c .before .before .before .before .before .before .before .before .before .before .before .before .before .before .before .before .before .before .before .before .before .before .before .before .before .before .before .before .a2 .given .1) (c .before .before .before .before .before .before .before .before .before .before .before .before .before .before .before .before .add .ensures)
+returns-2 c =
+    let made = c .before .before .before .before .before .before .before .before .before .before .before .before .before .before .before .before in
+    let told = made .before .before .before .before .before .before .before .before .before .before .before .before in
+    let start = told .before .before .before .before .before .before .before .before .before .before .before in
+    made-add (start .args .a) (start .args .numbers .now) _ _ _ _ _ _ _ (told .a2 .given .1) (made .add .ensures)
 
 same-length-17 : tie.Need-same-length-17
 same-length-17 c = c .before .before .before .before .before .before .before .before .before .before .before .before .before .before .before .before .flush .kept .1 .0
@@ -134,7 +155,11 @@ same-length-24 : tie.Need-same-length-24
 same-length-24 c = c .before .before .before .before .before .before .before .before .before .before .before .before .before .before .before .before .flush .kept .1 .1 .1 .1 .1 .1 .1 .1 .0
 
 returns-3 : tie.Need-returns-3
-returns-3 c = made-as (c .before .before .before .before .before .before .before .before .before .before .before .before .before .before .before .before .before .before .before .before .before .before .before .before .before .before .before .before .before .before .before .before .before .before .before .before .args .a) (c .before .before .before .before .before .before .before .before .before .before .before .before .before .before .before .before .before .before .before .before .before .before .before .before .before .before .before .before .before .before .before .before .before .before .before .before .args .numbers .now) _ _ _ _ _ calls.flush (ap (λ (y : Act). call-of y (c .before .before .before .before .before .before .before .before .before .before .before .before .before .before .before .before .before .before .before .before .before .before .before .before .before .before .before .before .before .before .before .before .before .before .before .before .args .numbers .now)) (c .before .before .before .before .before .before .before .before .before .before .before .before .before .before .before .before .before .before .before .before .before .before .before .before .before .enum-told .given .1)) (c .before .before .before .before .before .before .before .before .before .before .before .before .before .before .before .before .flush .ensures)
+returns-3 c =
+    let made = c .before .before .before .before .before .before .before .before .before .before .before .before .before .before .before .before in
+    let told = made .before .before .before .before .before .before .before .before .before in
+    let start = told .before .before .before .before .before .before .before .before .before .before .before in
+    made-as (start .args .a) (start .args .numbers .now) _ _ _ _ _ calls.flush (ap (λ (y : Act). call-of y (start .args .numbers .now)) (told .enum-told .given .1)) (made .flush .ensures)
 
 same-length-25 : tie.Need-same-length-25
 same-length-25 c = c .before .before .before .before .before .before .before .before .before .before .before .before .before .before .before .before .before .finish .kept .1 .0
@@ -161,10 +186,16 @@ same-length-32 : tie.Need-same-length-32
 same-length-32 c = c .before .before .before .before .before .before .before .before .before .before .before .before .before .before .before .before .before .finish .kept .1 .1 .1 .1 .1 .1 .1 .1 .0
 
 returns-4 : tie.Need-returns-4
-returns-4 c = made-as (c .before .before .before .before .before .before .before .before .before .before .before .before .before .before .before .before .before .before .before .before .before .before .before .before .before .before .before .before .before .before .before .before .before .before .before .before .before .args .a) (c .before .before .before .before .before .before .before .before .before .before .before .before .before .before .before .before .before .before .before .before .before .before .before .before .before .before .before .before .before .before .before .before .before .before .before .before .before .args .numbers .now) _ _ _ _ _ calls.final (ap (λ (y : Act). call-of y (c .before .before .before .before .before .before .before .before .before .before .before .before .before .before .before .before .before .before .before .before .before .before .before .before .before .before .before .before .before .before .before .before .before .before .before .before .before .args .numbers .now)) (c .before .before .before .before .before .before .before .before .before .before .before .before .before .before .before .before .before .before .before .before .before .before .before .before .before .before .enum-told2 .given .1)) (c .before .before .before .before .before .before .before .before .before .before .before .before .before .before .before .before .before .finish .ensures .called)
+returns-4 c =
+    let made = c .before .before .before .before .before .before .before .before .before .before .before .before .before .before .before .before .before in
+    let told = made .before .before .before .before .before .before .before .before .before in
+    let start = told .before .before .before .before .before .before .before .before .before .before .before in
+    made-as (start .args .a) (start .args .numbers .now) _ _ _ _ _ calls.final (ap (λ (y : Act). call-of y (start .args .numbers .now)) (told .enum-told2 .given .1)) (made .finish .ensures .called)
 
 returns-5 : tie.Need-returns-5
-returns-5 c = made-none (c .before .before .before .before .before .before .before .before .before .before .before .args .a) (c .before .before .before .before .before .before .before .before .before .before .before .args .numbers .now) _ _ _ _ _ (c .enum-told3 .given .1)
+returns-5 c =
+    let start = c .before .before .before .before .before .before .before .before .before .before .before in
+    made-none (start .args .a) (start .args .numbers .now) _ _ _ _ _ (c .enum-told3 .given .1)
 
 pub make-spec : {M : Type 1} → statement M
 make-spec =
