@@ -26,7 +26,8 @@ pub wrote-in : {a b : List ℕ} {n : ℕ} {t : List ℕ} → Wrote a b 0 n t →
 wrote-in {a} {b} {n} {t} w = omega (arith, w .next, sym (length-take n b) ∙ ap length (w .holds))
 
 -- a job that was refused
-pub replied-refused : (job bytes : List ℕ) (n code : ℕ) (x : End) {σ σ′ : Storage} {a b : List ℕ} → Ran job x σ σ′ a b → x ≡ end.Rejected n code → Replied job bytes bytes (reply.Refused n code)
+pub replied-refused : (job bytes : List ℕ) (n code : ℕ) (x : End) {σ σ′ : Storage} {a b : List ℕ} → Ran job x σ σ′ a b → x ≡ end.Rejected n code
+    → Replied job bytes bytes (reply.Refused n code)
 unfolding rule.reply told rule.bytes-after
 replied-refused job bytes n code x {σ} {σ′} {a} {b} r e =
     let r′ = subst (λ (y : End). Ran job y σ σ′ a b) e r in

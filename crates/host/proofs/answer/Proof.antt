@@ -15,7 +15,10 @@ enum-known-r-2 : tie.Need-enum-known-r-2
 enum-known-r-2 c = search needs
 
 put-rejection-requires : tie.Need-put-rejection-requires
-put-rejection-requires c κs = omega (arith, c .before .before .before .before .before .before .reply-to .kept .1 .0, c .before .before .before .before .before .before .before .before .before .before .pre)
+put-rejection-requires c κs =
+    let replied = c .before .before .before .before .before .before in
+    let start = replied .before .before .before .before in
+    omega (arith, replied .reply-to .kept .1 .0, start .pre)
 
 same-length : tie.Need-same-length
 same-length c = search needs
@@ -27,7 +30,14 @@ same-length-2 : tie.Need-same-length-2
 same-length-2 c = search needs
 
 returns-2 : tie.Need-returns-2
-returns-2 c = answer-refused (c .before .before .before .before .before .before .before .before .before .reply-to .ensures) (c .before .before .before .before .before .before .before .before .before .before .before .before .before .pre) _ _ (c .before .before .before .before .before .r2 .given .1) _ _ (omega (arith, wrote-in (c .before .before .put-rejection .ensures), c .before .before .put-rejection .kept .0, c .before .before .before .before .before .before .before .before .before .reply-to .kept .1 .0, c .before .before .before .before .before .before .before .before .before .before .before .before .before .pre)) (c .before .before .put-rejection .ensures)
+returns-2 c =
+    let written = c .before .before in
+    let refused = written .before .before .before in
+    let replied = refused .before .before .before .before in
+    let start = replied .before .before .before .before in
+    let text = written .put-rejection in
+    answer-refused (replied .reply-to .ensures) (start .pre) _ _ (refused .r2 .given .1) _ _
+    (omega (arith, wrote-in (text .ensures), text .kept .0, replied .reply-to .kept .1 .0, start .pre)) (text .ensures)
 
 pub answer-spec : {M : Type 1} → statement M
 answer-spec =

@@ -54,16 +54,33 @@ slice-aggregate-report-4 : tie.Need-slice-aggregate-report-4
 slice-aggregate-report-4 c = search needs
 
 report-requires : tie.Need-report-requires
-report-requires c κs = may-report (c .before .before .before .before .before .before .before .before .before .before .before .before .before .before .before .before .before .before .before .before .before .before .before .before .before .before .before .before .args .text .now) _ _ _ _ _ _ _ _ _ _ _ _ (c .before .before .before .before .before .before .before .before .before .before .before .before .before .before .before .before .run .ensures) (c .before .before .before .before .before .end .given .1) _ (length-replicate {A = ℕ} 65536 0) (c .before .before .before .before .before .before .before .before .before .before .before .before .before .before .before .before .run .kept .1 .0 ∙ length-replicate {A = ℕ} 2048 0)
+report-requires c κs =
+    let told = c .before .before .before .before .before in
+    let ran = told .before .before .before .before .before .before .before .before .before .before .before in
+    let start = ran .before .before .before .before .before .before .before .before .before .before .before .before in
+    may-report (start .args .text .now) _ _ _ _ _ _ _ _ _ _ _ _ (ran .run .ensures) (told .end .given .1) _ (length-replicate {A = ℕ} 65536 0) (ran .run .kept .1 .0 ∙ length-replicate {A = ℕ} 2048 0)
 
 returns : tie.Need-returns
-returns c = replied-17 (c .before .before .before .before .before .before .before .before .before .before .before .before .before .before .before .before .before .before .before .before .before .before .before .before .before .before .before .before .before .before .before .args .text .now) _ _ _ _ _ _ _ _ _ _ _ _ (c .before .before .before .before .before .before .before .before .before .before .before .before .before .before .before .before .before .before .before .run .ensures) (c .before .before .before .before .before .before .before .before .end .given .1) _ _ _ (c .before .before .report .kept .0 ∙ length-replicate {A = ℕ} 65536 0) (c .before .before .report .ensures) (c .before .before .before .before .before .before .before .before .before .before .before .before .before .before .before .before .before .before .before .before .before .before .before .before .before .before .before .before .before .before .before .args .listing .now) (c .if1 .taken)
+returns c =
+    let reported = c .before .before in
+    let told = reported .before .before .before .before .before .before in
+    let ran = told .before .before .before .before .before .before .before .before .before .before .before in
+    let start = ran .before .before .before .before .before .before .before .before .before .before .before .before in
+    let long = reported .report .kept .0 ∙ length-replicate {A = ℕ} 65536 0 in
+    replied-17 (start .args .text .now) _ _ _ _ _ _ _ _ _ _ _ _ (ran .run .ensures) (told .end .given .1) _ _ _ long (reported .report .ensures) (start .args .listing .now) (c .if1 .taken)
 
 slice-aggregate-copy : tie.Need-slice-aggregate-copy
 slice-aggregate-copy c = search needs
 
 copy-requires : tie.Need-copy-requires
-copy-requires c κs = (omega (arith, c .before .before .if1 .left), omega (arith, c .before .before .before .before .report .kept .0 ∙ length-replicate {A = ℕ} 65536 0, n-low (c .before .before .before .before .before .before .before .before .before .before .before .before .before .before .before .before .before .before .before .before .before .before .before .before .before .before .before .before .before .before .before .before .before .args .text .now) _ _ _ _ _ _ _ _ _ _ _ _ (c .before .before .before .before .before .before .before .before .before .before .before .before .before .before .before .before .before .before .before .before .before .run .ensures) (c .before .before .before .before .before .before .before .before .before .before .end .given .1) _ _ _ (c .before .before .before .before .report .kept .0 ∙ length-replicate {A = ℕ} 65536 0) (c .before .before .before .before .report .ensures)))
+copy-requires c κs =
+    let fits = c .before .before in
+    let reported = fits .before .before in
+    let told = reported .before .before .before .before .before .before in
+    let ran = told .before .before .before .before .before .before .before .before .before .before .before in
+    let start = ran .before .before .before .before .before .before .before .before .before .before .before .before in
+    let long = reported .report .kept .0 ∙ length-replicate {A = ℕ} 65536 0 in
+    (omega (arith, fits .if1 .left), omega (arith, long, n-low (start .args .text .now) _ _ _ _ _ _ _ _ _ _ _ _ (ran .run .ensures) (told .end .given .1) _ _ _ long (reported .report .ensures)))
 
 enum-known-end-2 : tie.Need-enum-known-end-2
 enum-known-end-2 c = search needs
@@ -72,10 +89,22 @@ same-length : tie.Need-same-length
 same-length c = search needs
 
 returns-2 : tie.Need-returns-2
-returns-2 c = replied-listed (c .before .before .before .before .before .before .before .before .before .before .before .before .before .before .before .before .before .before .before .before .before .before .before .before .before .before .before .before .before .before .before .before .before .before .before .before .args .text .now) _ _ _ _ _ _ _ _ _ _ _ _ (c .before .before .before .before .before .before .before .before .before .before .before .before .before .before .before .before .before .before .before .before .before .before .before .before .run .ensures) (c .before .before .before .before .before .before .before .before .before .before .before .before .before .end .given .1) _ _ _ (c .before .before .before .before .before .before .before .report .kept .0 ∙ length-replicate {A = ℕ} 65536 0) (c .before .before .before .before .before .before .before .report .ensures) (c .before .before .before .before .before .before .before .before .before .before .before .before .before .before .before .before .before .before .before .before .before .before .before .before .before .before .before .before .before .before .before .before .before .before .before .before .args .listing .now) _ (c .before .before .before .before .before .if1 .left) (c .before .before .copy .ensures) (c .before .before .copy .kept .0)
+returns-2 c =
+    let copied = c .before .before in
+    let fits = copied .before .before .before in
+    let reported = fits .before .before in
+    let told = reported .before .before .before .before .before .before in
+    let ran = told .before .before .before .before .before .before .before .before .before .before .before in
+    let start = ran .before .before .before .before .before .before .before .before .before .before .before .before in
+    let long = reported .report .kept .0 ∙ length-replicate {A = ℕ} 65536 0 in
+    replied-listed (start .args .text .now) _ _ _ _ _ _ _ _ _ _ _ _ (ran .run .ensures) (told .end .given .1) _ _ _ long (reported .report .ensures)
+    (start .args .listing .now) _ (fits .if1 .left) (copied .copy .ensures) (copied .copy .kept .0)
 
 returns-3 : tie.Need-returns-3
-returns-3 c = replied-refused (c .before .before .before .before .before .before .before .before .before .before .before .before .before .before .before .before .before .before .before .before .before .before .before .before .args .text .now) (c .before .before .before .before .before .before .before .before .before .before .before .before .before .before .before .before .before .before .before .before .before .before .before .before .args .listing .now) _ _ _ (c .before .before .before .before .before .before .before .before .before .before .before .before .run .ensures) (c .before .end2 .given .1)
+returns-3 c =
+    let ran = c .before .before .before .before .before .before .before .before .before .before .before .before in
+    let start = ran .before .before .before .before .before .before .before .before .before .before .before .before in
+    replied-refused (start .args .text .now) (start .args .listing .now) _ _ _ (ran .run .ensures) (c .before .end2 .given .1)
 
 pub reply-to-spec : {M : Type 1} → statement M
 reply-to-spec =
