@@ -341,8 +341,8 @@ module _ (job : List ℕ) (short : length job ≤ 65536) where
 pub nothing-written : {job : List ℕ} {n code : ℕ} {σ σ′ : Storage} {a b : List ℕ} → reached job ≡ none → Ran job (end.Rejected n code) σ σ′ a b → σ′ ≡ σ
 nothing-written {job} {n} {code} {σ} {σ′} {a} {b} e r = subst (λ (x : Option Reached). Left x σ σ′) e (r .tells .left)
 
--- a wrong program shut out: a job opened with another V, or that tells another P. Those of its first two lines are the session's, for whose
--- model the storage stands
+-- a wrong program shut out: a job opened with another V, or one that tells another P. The storage stands for the model reached with the P
+-- and V of the job's first two lines, the session's V is that V, and the P told is that P
 pub own-numbers : {job : List ℕ} {w pl p : ℕ} {σ σ′ : Storage} {a b : List ℕ} → Ran job (end.Finished w pl p) σ σ′ a b
     → (r : Reached) × ((reached job ≡ some r) × ((s : Session) × (Rep (r .parallelism) (r .places) (r .model) s σ′ × ((s .guide .v ≡ r .places) × (p ≡ r .parallelism)))))
 own-numbers r =
