@@ -27,7 +27,8 @@ use Rattle.alone.specs.Pushing.{carried}
 abbrev pub first-alone : ℕ → ℕ → Alone
 first-alone p v = record { guide = first-guide p v; pushes = 0 }
 
--- n is the number, x the state, which is of no use where it is refused, t and t′ the tally before and after; spans and order are only measured, in entries of four numbers
+-- n is the number, x the state, t and t′ the tally before and after; spans and order are only measured, in entries of four numbers. Refused,
+-- the state is that of P 0 and V 0, and the tally is left alone
 pub record Opens (p v n : ℕ) (x : Alone) (s o t t′ : List ℕ) : Type 0 where
   pub number-is : n ≡ verdict (check-alone p v (length s / 4) (length o / 4) (length t))
   pub held : n ≡ 0 → Held x s o t′
@@ -35,6 +36,7 @@ pub record Opens (p v n : ℕ) (x : Alone) (s o t t′ : List ℕ) : Type 0 wher
   pub p-is : n ≡ 0 → x .guide .p ≡ p
   pub v-is : n ≡ 0 → x .guide .v ≡ v
   pub written-is : n ≡ 0 → x .guide .written ≡ 0
+  pub unopened : n ≢ 0 → x ≡ first-alone 0 0
   pub rejected : n ≢ 0 → t′ ≡ t
   pub tally-length : length t′ ≡ length t
   pub tally-beyond : (j : ℕ) → p < j → getD t′ j 0 ≡ getD t j 0
@@ -101,8 +103,8 @@ unfolding model alone
 model-fresh p v s o = let g = fresh-view p v s o in cc
 
 module _ (p v n : ℕ) (x : Alone) (s o t : List ℕ) (en : n ≡ verdict (check-alone p v (length s / 4) (length o / 4) (length t))) where
-  pub open-refused : n ≢ 0 → Opens p v n x s o t t
-  open-refused z =
+  pub open-refused : n ≢ 0 → x ≡ first-alone 0 0 → Opens p v n x s o t t
+  open-refused z e =
       record {
         number-is = en;
         held = λ k. absurd (z k);
@@ -110,6 +112,7 @@ module _ (p v n : ℕ) (x : Alone) (s o t : List ℕ) (en : n ≡ verdict (check
         p-is = λ k. absurd (z k);
         v-is = λ k. absurd (z k);
         written-is = λ k. absurd (z k);
+        unopened = λ k. e;
         rejected = λ k. refl;
         tally-length = refl;
         tally-beyond = λ j k. refl;
@@ -128,6 +131,7 @@ module _ (p v n : ℕ) (x : Alone) (s o t : List ℕ) (en : n ≡ verdict (check
         p-is = λ k. ap (λ y. y .guide .p) e;
         v-is = λ k. ap (λ y. y .guide .v) e;
         written-is = λ k. ap (λ y. y .guide .written) e;
+        unopened = λ k. absurd (k refl);
         rejected = λ k. absurd (k refl);
         tally-length = c .long;
         tally-beyond = cleared-beyond p t t′ c;

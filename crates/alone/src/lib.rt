@@ -31,7 +31,7 @@ pub struct Answer {
     pub reply: Reply,
 }
 
-// The number of the refusal or 0, and where it is 0 a fresh guide.
+// The number of the refusal or 0, and a fresh guide: the one asked for where it is 0, else one of P 0 and V 0.
 pub struct Opened {
     pub number: u32,
     pub alone: Alone,
@@ -48,7 +48,7 @@ fn fresh(p: u32, v: u32) -> Alone
     }
 }
 
-// Opens a guide over storage of four numbers an entry; its counts are set to 0. Refused, the guide is of no use.
+// Opens a guide over storage of four numbers an entry; its counts are set to 0. Refused, it is a guide of P 0 and V 0.
 pub fn open(p: u64, v: u64, spans: &[u32], order: &[u32], tally: &mut [u32]) -> Opened
     ensures { λ r. ⌜ Opens p v (r .number) (r .alone) (now (spans .entry)) (now (order .entry)) (now (tally .entry)) (now (tally .exit)) ⌝ }
 {

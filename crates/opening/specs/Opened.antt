@@ -57,11 +57,12 @@ pub record Fresh (P N : ℕ) (σ τ : Storage) : Type 0 where
   pub waiting : Beyond (4 * N) (σ .waiting) (τ .waiting)
   pub pool : τ .pool ≡ σ .pool
 
--- what opening promises: its number is that of the checks; refused, it leaves the storage as it was; accepted, the session is the fresh
--- one and stands, with the storage, for the model at the start
+-- what opening promises: its number is that of the checks; refused, it leaves the storage as it was, and the session is the fresh one of P 0
+-- and V 0; accepted, the session is the fresh one of P and N and stands, with the storage, for the model at the start
 pub record Opens (P N n : ℕ) (s : Session) (σ τ : Storage) : Type 0 where
   pub number : n ≡ verdict (check-open P N (sizes σ))
   pub refused : (n ≡ 0 → ⊥) → τ ≡ σ
+  pub unopened : (n ≡ 0 → ⊥) → s ≡ first-session 0 0
   pub session : n ≡ 0 → s ≡ first-session P N
   pub cleared : n ≡ 0 → Fresh P N σ τ
   pub rep : n ≡ 0 → Rep P N initial s τ
@@ -212,9 +213,10 @@ lengths-of P N sp o t rs m l w pool e =
 
 -- refused, and accepted
 module _ (P N : ℕ) (sp o t rs m l w pool : List ℕ) where
-  pub opens-refused : (n : ℕ) (s : Session) → n ≡ verdict (check-open P N (sizes (storage sp o t rs m l w pool))) → (n ≡ 0 → ⊥) → Opens P N n s (storage sp o t rs m l w pool) (storage sp o t rs m l w pool)
-  opens-refused n s e z =
-      record { number = e; refused = λ x. refl; session = λ x. absurd (z x); cleared = λ x. absurd (z x); rep = λ x. absurd (z x); frame = λ x. absurd (z x) }
+  pub opens-refused : (n : ℕ) (s : Session) → n ≡ verdict (check-open P N (sizes (storage sp o t rs m l w pool))) → (n ≡ 0 → ⊥) → s ≡ first-session 0 0
+      → Opens P N n s (storage sp o t rs m l w pool) (storage sp o t rs m l w pool)
+  opens-refused n s e z es =
+      record { number = e; refused = λ x. refl; unopened = λ x. es; session = λ x. absurd (z x); cleared = λ x. absurd (z x); rep = λ x. absurd (z x); frame = λ x. absurd (z x) }
 
   pub opens-done : (s : Session) (t′ rs′ m′ l′ w′ : List ℕ) → 0 ≡ verdict (check-open P N (sizes (storage sp o t rs m l w pool))) → s ≡ first-session P N → Clears P N t rs m l w t′ rs′ m′ l′ w′
       → Opens P N 0 s (storage sp o t rs m l w pool) (storage sp o t′ rs′ m′ l′ w′ pool)
@@ -222,6 +224,7 @@ module _ (P N : ℕ) (sp o t rs m l w pool : List ℕ) where
       record {
         number = e;
         refused = λ x. absurd (x refl);
+        unopened = λ x. absurd (x refl);
         session = λ x. es;
         cleared = λ x. F;
         rep = λ x. subst (λ (z : Session). Rep P N initial z (storage sp o t′ rs′ m′ l′ w′ pool)) (sym es) (fresh-rep P N (storage sp o t rs m l w pool) (storage sp o t′ rs′ m′ l′ w′ pool) E F);

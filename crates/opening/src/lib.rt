@@ -7,7 +7,7 @@ ghost use Rattle.session.specs.Storage.{storage};
 ghost use Rattle.opening.specs.Opened.{Lengths, Clears, Opens, first-session};
 use session::Session;
 
-// Opening's number, 0 if it was accepted, and the session. Refused, the session is of no use.
+// Opening's number, 0 if it was accepted, and the session. Refused, the session is of parallelism 0 and 0 places.
 pub struct Opened {
     pub number: u64,
     pub session: Session,

@@ -19,6 +19,7 @@ returns : tie.Need-returns
 returns c = let k = c .before .before in
     let a = k .before .before .before .before .args in
     open-refused (a .p) (a .v) (k .check-open .result) (c .fresh .result) (now (a .spans)) (now (a .order)) (now (a .tally)) (k .check-open .ensures) (c .before .if1 .taken)
+    (c .fresh .ensures)
 
 add-clear32 : tie.Need-add-clear32
 add-clear32 c = let k = c .before .before in

@@ -14,7 +14,7 @@ fresh-requires : tie.Need-fresh-requires
 fresh-requires c κs = search needs
 
 returns : tie.Need-returns
-returns c = let a = c .before .before .before .before .before .before .before .before .before .before .before .args in opens-refused (a .p) (a .v) (now (a .spans)) (now (a .order)) (now (a .tally)) (now (a .rows)) (now (a .marks)) (now (a .locs)) (now (a .waiting)) (now (a .pool)) (c .before .before .check-open .result) (c .fresh .result) (c .before .before .check-open .ensures) (c .before .if1 .taken)
+returns c = let a = c .before .before .before .before .before .before .before .before .before .before .before .args in opens-refused (a .p) (a .v) (now (a .spans)) (now (a .order)) (now (a .tally)) (now (a .rows)) (now (a .marks)) (now (a .locs)) (now (a .waiting)) (now (a .pool)) (c .before .before .check-open .result) (c .fresh .result) (c .before .before .check-open .ensures) (c .before .if1 .taken) (c .fresh .ensures)
 
 clear-requires : tie.Need-clear-requires
 clear-requires c κs = let a = c .before .before .before .before .before .before .before .before .before .before .before .before .before .before .before .args in lengths-of (a .p) (a .v) (now (a .spans)) (now (a .order)) (now (a .tally)) (now (a .rows)) (now (a .marks)) (now (a .locs)) (now (a .waiting)) (now (a .pool)) (sym (c .before .before .before .before .before .if1 .left) ∙ c .before .before .before .before .before .before .check-open .ensures)
