@@ -9,7 +9,7 @@ use borrow.Author.Tests.{leb-false}
 use Rattle.rules.specs.Guide.{flush as flush-guide}
 use Rattle.rules.specs.Checks.{verdict}
 use Rattle.rules.specs.Alone.{flush, reply, requests, check-flush-alone, worn, serve, serve-step}
-use Rattle.laws.specs.Accepted.{verdict-head}
+use Rattle.laws.specs.Accepted.{verdict-head, accepted-is}
 use Rattle.laws.specs.Alone.{serve-step-sound}
 use Rattle.buffer.specs.View.{view}
 use Rattle.placing.specs.Done.{Done}
@@ -18,7 +18,7 @@ use Rattle.alone.specs.declared.Alone.{Alone}
 use Rattle.alone.specs.declared.Reply.the-variants.{Released, Rejected}
 use Rattle.alone.specs.Held.{model, Held, number, given}
 use Rattle.alone.specs.Served.{Served, given-by}
-use Rattle.alone.specs.Pushing.{accepted-is, carried, refused, last-is}
+use Rattle.alone.specs.Pushing.{carried, refused, last-is}
 
 module _ (x : Alone) (s o t : List ℕ) (h : Held x s o t) where
   abbrev last : ℕ
@@ -42,7 +42,9 @@ module _ (x : Alone) (s o t : List ℕ) (h : Held x s o t) where
   flush-served x′ o′ t′ z c d =
       let r : reply (x .guide .v) flush (model x s o) ≡ 0 = sym reply-is ∙ z in
       let stepped : model x′ s o′ ≡ serve-step (x .guide .p) (x .guide .v) flush (model x s o) =
-      (let f = d .is in let y : model x′ s o′ ≡ serve (x .guide .p) flush (model x s o) = cc in y ∙ sym (accepted-is (reply (x .guide .v) flush (model x s o)) (model x s o) (serve (x .guide .p) flush (model x s o)) r)) in
+      (let f = d .is in
+      let y : model x′ s o′ ≡ serve (x .guide .p) flush (model x s o) = cc in
+      y ∙ sym (accepted-is (reply (x .guide .v) flush (model x s o)) (model x s o) (serve (x .guide .p) flush (model x s o)) r)) in
       record {
         held = record { stands = d .stands; sound = carried (d .same-p) (d .same-v) stepped (serve-step-sound (x .guide .p) (x .guide .v) (h .stands .laid .one) flush (model x s o) (h .sound)) };
         is = stepped;

@@ -11,10 +11,9 @@ use lib.Dec.{leb}
 use borrow.Author.Tests.{leb-false, ne-eqb, le-leb, le-ltb}
 use Rattle.rules.specs.Guide.{Loc, held}
 use Rattle.rules.specs.Checks.{Check, verdict}
-use Rattle.rules.specs.Calls.{unless-refused}
 use Rattle.rules.specs.Alone.{Alone as AloneModel, Request, push, reply, requests, check-push, worn, stray, holds, serve, serve-step, location}
 use Rattle.laws.specs.History.{lt-or-le}
-use Rattle.laws.specs.Accepted.{verdict-head, or-false}
+use Rattle.laws.specs.Accepted.{verdict-head, or-false, accepted-is, refused-is}
 use Rattle.laws.specs.Alone.{AloneSound, serve-step-sound}
 use Rattle.buffer.specs.View.{view}
 use Rattle.placing.specs.Frame.{frame-refl}
@@ -30,14 +29,6 @@ use Rattle.alone.specs.Served.{Served, given-by}
 -- the request that the code's arguments make
 unfoldable pub pushing : Bool → ℕ → ℕ → ℕ → ℕ → ℕ → Request
 pushing has span pos value added accepted = push (after-of has span pos) (record { value = value; added = added; accepted = accepted })
-
-pub accepted-is : {A : Type 0} (n : ℕ) (x y : A) → n ≡ 0 → unless-refused n x y ≡ y
-unfolding unless-refused
-accepted-is n x y e = rw (e, unless-refused)
-
-pub refused-is : {A : Type 0} (n : ℕ) (x y : A) → n ≢ 0 → unless-refused n x y ≡ x
-unfolding unless-refused
-refused-is n x y e = rw (ne-eqb n 0 e, unless-refused)
 
 -- invariants by other names of what they are of
 pub carried : {P Q N M : ℕ} {a b : AloneModel} → Q ≡ P → M ≡ N → b ≡ a → AloneSound P N a → AloneSound Q M b
@@ -138,7 +129,9 @@ module _ (x : Alone) (s o t : List ℕ) (h : Held x s o t) (has : Bool) (span po
     unfolding given-by pushing
     push-refused n e z =
         let r = e ∙ reply-is value added accepted in
-        refused q x s o t n h r z (sym (refused-is (reply (x .guide .v) q (model x s o)) none (some (location (x .guide .p) (after-of has span pos) (record { value = value; added = added; accepted = accepted }) (model x s o))) (λ k. z (r ∙ k))))
+        refused q x s o t n h r z
+        (sym (refused-is (reply (x .guide .v) q (model x s o)) none
+        (some (location (x .guide .p) (after-of has span pos) (record { value = value; added = added; accepted = accepted }) (model x s o))) (λ k. z (r ∙ k))))
 
     pub push-served : (x′ : Alone) (s′ o′ t′ : List ℕ) (span′ pos′ : ℕ) → verdict numbers ≡ 0 → x′ .pushes ≡ x .pushes + 1
         → Pushes (x .guide) (x′ .guide) (after-of has span pos) (record { value = value; added = added; accepted = accepted }) s o t s′ o′ t′ span′ pos′
@@ -148,12 +141,18 @@ module _ (x : Alone) (s o t : List ℕ) (h : Held x s o t) (has : Bool) (span po
         let r : reply (x .guide .v) q (model x s o) ≡ 0 = sym (reply-is value added accepted) ∙ z in
         let d = k .done in
         let stepped : model x′ s′ o′ ≡ serve-step (x .guide .p) (x .guide .v) q (model x s o) =
-        (let f = d .is in let n : x′ .pushes ≡ suc (x .pushes) = omega arith in let y : model x′ s′ o′ ≡ serve (x .guide .p) q (model x s o) = cc in y ∙ sym (accepted-is (reply (x .guide .v) q (model x s o)) (model x s o) (serve (x .guide .p) q (model x s o)) r)) in
+        (let f = d .is in
+        let n : x′ .pushes ≡ suc (x .pushes) = omega arith in
+        let y : model x′ s′ o′ ≡ serve (x .guide .p) q (model x s o) = cc in
+        y ∙ sym (accepted-is (reply (x .guide .v) q (model x s o)) (model x s o) (serve (x .guide .p) q (model x s o)) r)) in
         record {
           held = record { stands = d .stands; sound = carried (d .same-p) (d .same-v) stepped (serve-step-sound (x .guide .p) (x .guide .v) (h .stands .laid .one) q (model x s o) (h .sound)) };
           is = stepped;
           number-is = sym r;
-          given-is = some-loc (k .at-span) (k .at-pos) ∙ sym (accepted-is (reply (x .guide .v) q (model x s o)) none (some (location (x .guide .p) (after-of has span pos) (record { value = value; added = added; accepted = accepted }) (model x s o))) r);
+          given-is =
+              some-loc (k .at-span) (k .at-pos)
+              ∙ sym (accepted-is (reply (x .guide .v) q (model x s o)) none
+              (some (location (x .guide .p) (after-of has span pos) (record { value = value; added = added; accepted = accepted }) (model x s o))) r);
           same-p = d .same-p;
           same-v = d .same-v;
           rejected = λ y. absurd (y refl);

@@ -1,15 +1,14 @@
 -- The 37 numbers that the code writes for an answer are those of the definition. Assumes nothing.
 use mathlib.Core.Path.{_≡_, refl, sym, ap, _∙_}
-use mathlib.Core.List.{List, [], _∷_, _++_, map}
+use mathlib.Core.List.{List, [], _∷_, _++_}
 use mathlib.Core.Option.{Option, some, none}
-use Prim.Native.Nat.{ℕ, suc, _+_, _*_}
+use Prim.Native.Nat.{ℕ, suc, _+_}
 use native.Mathlib.Omega.{arith}
-use lib.ListN.{length, getD, length-map, length-append}
+use lib.ListN.{length, getD, length-append}
 use Rattle.rules.specs.Guide.{Loc}
 use Rattle.rules.specs.Alone.{Request, reply, serve-step}
-use Rattle.entries.specs.Entries.{row, item-of}
-use Rattle.buffer.specs.View.{view, spans-of}
-use Rattle.buffer.specs.Rows.{row-length}
+use Rattle.buffer.specs.View.{view}
+use Rattle.buffer.specs.Rows.{spans-lengths}
 use Rattle.placing.specs.Done.{order-view}
 use Rattle.alone.specs.declared.Alone.{Alone}
 use Rattle.alone.specs.declared.Reply.{Reply}
@@ -41,14 +40,9 @@ block-of x r = number r ∷ (located (given r) ++ (x .guide .written ∷ (getD (
 pub block-is : (x : Alone) (r : Reply) (n span pos : ℕ) → Head r n span pos
     → (n ∷ (span ∷ (pos ∷ (x .guide .written ∷ (getD (x .guide .window .ids) 0 0 ∷ []))))) ++ x .guide .window .lens ≡ block-of x r
 unfolding block-of
-block-is x r n span pos h = ap (λ l. n ∷ (l ++ (x .guide .written ∷ (getD (x .guide .window .ids) 0 0 ∷ (x .guide .window .lens))))) (h .located-is) ∙ ap (λ m. m ∷ (located (given r) ++ (x .guide .written ∷ (getD (x .guide .window .ids) 0 0 ∷ (x .guide .window .lens))))) (h .number-is)
-
-lens-are : (p : ℕ) (s rs ls : List ℕ) → length rs ≡ length ls → map (λ x. length x) (spans-of p s rs ls) ≡ ls
-unfolding spans-of
-lens-are p s [] [] h = refl
-lens-are p s [] (l ∷ ls) h = absurd (omega arith)
-lens-are p s (r ∷ rs) [] h = absurd (omega arith)
-lens-are p s (r ∷ rs) (l ∷ ls) h = rw (length-map (row s (r * (p + 1)) l) item-of, row-length s (r * (p + 1)) l, lens-are p s rs ls (omega arith))
+block-is x r n span pos h =
+    ap (λ l. n ∷ (l ++ (x .guide .written ∷ (getD (x .guide .window .ids) 0 0 ∷ (x .guide .window .lens))))) (h .located-is)
+    ∙ ap (λ m. m ∷ (located (given r) ++ (x .guide .written ∷ (getD (x .guide .window .ids) 0 0 ∷ (x .guide .window .lens))))) (h .number-is)
 
 pub block-answer : (q : Request) (x y : Alone) (s o t s′ o′ t′ : List ℕ) (r : Reply) → Served q x y s o t s′ o′ t′ r
     → block-of y r ≡ answer-to (reply (x .guide .v) q (model x s o)) (given-by (x .guide .p) (x .guide .v) q (model x s o)) ((serve-step (x .guide .p) (x .guide .v) q (model x s o)) .guide)
@@ -57,7 +51,7 @@ block-answer q x y s o t s′ o′ t′ r c =
     let g = ap (λ a. a .guide) (c .is) in
     let k = c .held .stands .laid in
     let w = order-view (y .guide) s′ o′ in
-    let l = lens-are (y .guide .p) s′ (y .guide .window .rows) (y .guide .window .lens) (k .rows-many ∙ sym (k .lens-many)) in
+    let l = spans-lengths (y .guide .p) s′ (y .guide .window .rows) (y .guide .window .lens) (k .rows-many ∙ sym (k .lens-many)) in
     ap (λ z. number r ∷ (located (given r) ++ (z ∷ (getD (y .guide .window .ids) 0 0 ∷ (y .guide .window .lens))))) (sym w)
     ∙ ap (λ z. number r ∷ (located (given r) ++ (length ((view (y .guide) s′ o′) .order) ∷ (getD (y .guide .window .ids) 0 0 ∷ z)))) (sym l)
     ∙ ap (λ b. answer-to (number r) (given r) b) g

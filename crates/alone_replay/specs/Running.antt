@@ -3,7 +3,7 @@
 use mathlib.Core.Path.{_≡_, refl, sym, ap, _∙_}
 use mathlib.Core.List.{List, [], _∷_, _++_, append-assoc, append-nil}
 use mathlib.Core.Bool.{true, false, _||_}
-use mathlib.Core.Logic.{_≢_, _⊎_, inl, inr}
+use mathlib.Core.Logic.{_≢_}
 use Prim.Native.Nat.{ℕ, suc, _+_, _*_, _-_, _/_, _≤_, _<_}
 use native.Mathlib.Nat.{div-mul-le-self, sub-zero}
 use native.Mathlib.Omega.{arith}
@@ -13,8 +13,7 @@ use lib.Seq.{drop-drop}
 use borrow.Author.Tests.{lt-ltb, le-ltb}
 use Rattle.rules.specs.Checks.{Check, verdict, any, short, spans-needed, tally-needed, check-range}
 use Rattle.rules.specs.Alone.{Alone as AloneModel, alone, check-alone, Request, reply, serve-step, serve-all}
-use Rattle.laws.specs.Accepted.{verdict-head}
-use Rattle.laws.specs.ModelBase.{bool-cases}
+use Rattle.laws.specs.Accepted.{verdict-head, verdict-first}
 use Rattle.alone.specs.declared.Alone.{Alone}
 use Rattle.alone.specs.declared.Reply.{Reply}
 use Rattle.alone.specs.Held.{model, Held, written-is, order-is, tally-is}
@@ -40,7 +39,8 @@ pub record Running (p v n₀ : ℕ) (a : AloneModel) (s₀ o₀ t₀ q w : List 
   pub frame : Frame p n₀ (y .guide .written) s₀ o₀ t₀ s o t
 
 pub run-begins : (x : Alone) (q w s o t : List ℕ) (n : ℕ) → Held x s o t → Running (x .guide .p) (x .guide .v) (x .guide .written) (model x s o) s o t q w n 0 x s o t w
-run-begins x q w s o t n h = record { held = h; p-is = refl; v-is = refl; rest = rw sub-zero; answers = rw sub-zero; beyond = refl; long = refl; frame = frame-refl (x .guide .p) (x .guide .written) s o t }
+run-begins x q w s o t n h =
+    record { held = h; p-is = refl; v-is = refl; rest = rw sub-zero; answers = rw sub-zero; beyond = refl; long = refl; frame = frame-refl (x .guide .p) (x .guide .written) s o t }
 
 served-is : {p v : ℕ} {q : Request} {y z : Alone} {s o t s′ o′ t′ : List ℕ} {r : Reply} → y .guide .p ≡ p → y .guide .v ≡ v → Served q y z s o t s′ o′ t′ r
     → (serve-step p v q (model y s o) ≡ model z s′ o′) × (answer-to (reply v q (model y s o)) (given-by p v q (model y s o)) ((serve-step p v q (model y s o)) .guide) ≡ block-of z r)
@@ -135,21 +135,13 @@ ran {P} {N} {n} {x} {rs} {s = s} {o = o} {t = t} {t₀ = t₀} {w = w} {s′ = s
     }
 
 -- the number of a replay
-verdict-first : (cs ds : List Check) → verdict cs ≢ 0 → verdict (cs ++ ds) ≡ verdict cs
-unfolding verdict
-verdict-first [] ds h = absurd (h refl)
-verdict-first (c ∷ cs) ds h = go (bool-cases (c .fails)) (λ z. verdict-first cs ds z)
-  where
-    go : (c .fails ≡ true) ⊎ (c .fails ≡ false) → (verdict cs ≢ 0 → verdict (cs ++ ds) ≡ verdict cs) → verdict (c ∷ (cs ++ ds)) ≡ verdict (c ∷ cs)
-    go (inl e) f = rw (e, verdict)
-    go (inr e) f = rw (e, verdict) (f (λ z. h (rw (e, verdict) z)))
-
 module _ (P N : ℕ) (q s o t w : List ℕ) where
   abbrev pub opening-number : ℕ
   opening-number = verdict (check-alone P N (length s / 4) (length o / 4) (length t))
 
   passed-checks : opening-number ≡ 0
-      → ((ltb P 1 || ltb 64999 P) ≡ false) × ((ltb N 1 || ltb 16777216 N) ≡ false) × (any short ((length s / 4, spans-needed P) ∷ (length o / 4, N) ∷ (length t, tally-needed P) ∷ []) ≡ false)
+      → ((ltb P 1 || ltb 64999 P) ≡ false) × ((ltb N 1 || ltb 16777216 N) ≡ false)
+      × (any short ((length s / 4, spans-needed P) ∷ (length o / 4, N) ∷ (length t, tally-needed P) ∷ []) ≡ false)
   unfolding check-alone check-range
   passed-checks z =
       let x = verdict-head _ _ z (omega arith) in

@@ -35,6 +35,10 @@ appended-row o n (e ∷ es) h =
     let x : n + suc (length es) ≡ suc n + length es = omega arith in
     ap (λ t. row (appended o1 (suc n) es) 0 t) x ∙ appended-row o1 (suc n) es (omega arith) ∙ ap (λ t. t ++ es) g ∙ append-assoc (row o 0 n) (e ∷ []) es
 
+pub order-count : (o : List ℕ) (n : ℕ) → length (order-of o n) ≡ n
+unfolding order-of
+order-count o n = length-map (row o 0 n) entry-of ∙ row-length o 0 n
+
 -- the order after the release of a span
 pub order-released : (o : List ℕ) (n p a b : ℕ) (es : List Entry) → length es ≡ a → 4 * (n + a) ≤ length o
     → order-of (appended o n (annotated p a b 0 es)) (n + a) ≡ order-of o n ++ annotate (parallelism p a b) 0 (map item-of es)

@@ -58,7 +58,9 @@ module _ (p : ℕ) (s : List ℕ) (R l : ℕ) (e : Entry) (hl : l ≤ p) (fits :
   others (x ∷ rs) (m ∷ ls) a b = rw (elsewhere x m (a .0) (b .0), others rs ls (a .1) (b .1))
 
   here : map item-of (row s′ (R * (p + 1)) (l + 1)) ≡ map item-of (row s (R * (p + 1)) l) ++ (item-of e ∷ [])
-  here = rw (row-suc s′ (R * (p + 1)) l, entry-same s (R * (p + 1) + l) e fits, row-other s (R * (p + 1) + l) e fits (R * (p + 1)) l (λ q a b. omega arith)) (map-snoc item-of (row s (R * (p + 1)) l) e)
+  here =
+      rw (row-suc s′ (R * (p + 1)) l, entry-same s (R * (p + 1) + l) e fits, row-other s (R * (p + 1) + l) e fits (R * (p + 1)) l (λ q a b. omega arith))
+      (map-snoc item-of (row s (R * (p + 1)) l) e)
 
 -- one entry more in span i
 pub spans-put : (p : ℕ) (s : List ℕ) (e : Entry) (rs ls : List ℕ) (i : ℕ) → Distinct rs → Most (p + 1) ls → length rs ≡ length ls → i < length rs → getD ls i 0 ≤ p
@@ -160,6 +162,14 @@ spans-length p s [] [] h = refl
 spans-length p s [] (l ∷ ls) h = absurd (omega arith)
 spans-length p s (r ∷ rs) [] h = absurd (omega arith)
 spans-length p s (r ∷ rs) (l ∷ ls) h = ap suc (spans-length p s rs ls (omega arith))
+
+-- the spans' lengths are the window's
+pub spans-lengths : (p : ℕ) (s rs ls : List ℕ) → length rs ≡ length ls → map (λ x. length x) (spans-of p s rs ls) ≡ ls
+unfolding spans-of
+spans-lengths p s [] [] h = refl
+spans-lengths p s [] (l ∷ ls) h = absurd (omega arith)
+spans-lengths p s (r ∷ rs) [] h = absurd (omega arith)
+spans-lengths p s (r ∷ rs) (l ∷ ls) h = rw (length-map (row s (r * (p + 1)) l) item-of, row-length s (r * (p + 1)) l, spans-lengths p s rs ls (omega arith))
 
 pub upto-length : (n m : ℕ) → length (upto n m) ≡ m
 unfolding upto

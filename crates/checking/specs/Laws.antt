@@ -12,7 +12,7 @@ use Rattle.rules.specs.Model.{Model}
 use Rattle.rules.specs.Checks.{Check, verdict, any, repeats, taken, pooled, check-closed, check-places, check-set, check-add, check-flush, check-final}
 use Rattle.rules.specs.Calls.{set, add, flush, final, checks, answer}
 use Rattle.laws.specs.ModelBase.{In, bool-cases}
-use Rattle.laws.specs.Accepted.{verdict-head, any-false, or-false}
+use Rattle.laws.specs.Accepted.{verdict-head, verdict-first, any-false, or-false}
 use Rattle.lists.specs.Part.{Below, below-at, at-below}
 use Rattle.lists.specs.Arguments.{any-below, below-any}
 use Rattle.lists.specs.Scan.{any-append}
@@ -48,7 +48,8 @@ module _ (w : List ℕ) (v x : ℕ) where
 
 -- the lists of add
 -- the verdict by the four tests
-lists-verdict : (closed : Bool) (N : ℕ) (ins outs : List ℕ) (b c d : Bool) → (ltb 65535 (length ins) || ltb 65535 (length outs)) ≡ b → any (λ y. leb (2 ^ 62) y) (ins ++ outs) ≡ c → any (λ y. leb N y) (ins ++ outs) ≡ d
+lists-verdict : (closed : Bool) (N : ℕ) (ins outs : List ℕ) (b c d : Bool)
+    → (ltb 65535 (length ins) || ltb 65535 (length outs)) ≡ b → any (λ y. leb (2 ^ 62) y) (ins ++ outs) ≡ c → any (λ y. leb N y) (ins ++ outs) ≡ d
     → verdict (record { fails = closed; number = 7 } ∷ (record { fails = b; number = 3 } ∷ (record { fails = c; number = 4 } ∷ (record { fails = d; number = 5 } ∷ [])))) ≡ verdict (list-checks closed N ins outs)
 unfolding list-checks check-places
 lists-verdict closed N ins outs b c d x y z = rw (x, y, z)
@@ -152,21 +153,12 @@ module _ (w outs : List ℕ) (v added used inputs room : ℕ) (m : MayCheck w ou
         unfolding verdict
         state-good h = record { is = λ t f. state-verdict v t outs added used inputs room false false false false a (told false b t f) (lt-leb v added c) (le-ltb room (used + inputs + length outs) (omega (arith, m .fits))); same = same }
 
--- a list of checks after another
-verdict-first : (xs ys : List Check) → (verdict xs ≡ 0 → ⊥) → verdict (xs ++ ys) ≡ verdict xs
-unfolding verdict
-verdict-first [] ys h = absurd (h refl)
-verdict-first (c ∷ xs) ys h = go (bool-cases (c .fails)) (λ z. verdict-first xs ys z)
-  where
-    go : (c .fails ≡ true) ⊎ (c .fails ≡ false) → ((verdict xs ≡ 0 → ⊥) → verdict (xs ++ ys) ≡ verdict xs) → verdict ((c ∷ xs) ++ ys) ≡ verdict (c ∷ xs)
-    go (inl e) r = rw (e, verdict)
-    go (inr e) r = rw (e, verdict) (r (λ z. h (rw (e, verdict) z)))
-
 -- no check has the number 0
 abbrev Numbered : List Check → Type 0
 Numbered [] = Unit {0}
 Numbered (c ∷ cs) = (c .number ≢ 0) × Numbered cs
 
+-- a list of checks after one that passes
 pub verdict-rest : (xs ys : List Check) → Numbered xs → verdict xs ≡ 0 → verdict (xs ++ ys) ≡ verdict ys
 unfolding verdict
 verdict-rest [] ys n h = refl
@@ -239,7 +231,8 @@ pub answer-set : (N W x : ℕ) (k : Model) → verdict (set-checks (k .closed) N
 unfolding answer checks check-set check-closed set-checks
 answer-set N W x k = refl
 
-pub answer-add : (N W : ℕ) (ins outs : List ℕ) (k : Model) → verdict (list-checks (k .closed) N ins outs ++ state-checks N (taken k) outs (length (k .adds)) (pooled (k .adds)) (length ins) W) ≡ answer N W (add ins outs) k
+pub answer-add : (N W : ℕ) (ins outs : List ℕ) (k : Model)
+    → verdict (list-checks (k .closed) N ins outs ++ state-checks N (taken k) outs (length (k .adds)) (pooled (k .adds)) (length ins) W) ≡ answer N W (add ins outs) k
 unfolding answer checks check-add check-closed list-checks state-checks check-places
 answer-add N W ins outs k = refl
 

@@ -8,9 +8,9 @@ use Prim.Native.Nat.{ℕ, _+_, _≤_, _<_}
 use native.Mathlib.Omega.{arith}
 use lib.ListN.{length}
 use lib.Dec.{leb, ltb}
-use borrow.Author.Tests.{ltb-false, leb-false}
+use borrow.Author.Tests.{ltb-false, leb-false, ne-eqb}
 use Rattle.rules.specs.Model.{Model}
-use Rattle.rules.specs.Calls.{set, add, flush, final, checks, answer}
+use Rattle.rules.specs.Calls.{set, add, flush, final, checks, answer, unless-refused}
 use Rattle.rules.specs.Checks.{Check, verdict, any, repeats, taken, pooled, check-set, check-add, check-flush, check-final, check-closed, check-places}
 use Rattle.laws.specs.ModelBase.{In, bool-cases}
 
@@ -22,6 +22,25 @@ verdict-head c cs h n = go (bool-cases (c .fails))
     go : (c .fails ≡ true) ⊎ (c .fails ≡ false) → (c .fails ≡ false) × (verdict cs ≡ 0)
     go (inl e) = absurd (n (rw (e, verdict) at h))
     go (inr e) = (e, rw (e, verdict) at h)
+
+-- what a list of checks gives, where it does not pass, is what it gives with others after it
+pub verdict-first : (cs ds : List Check) → verdict cs ≢ 0 → verdict (cs ++ ds) ≡ verdict cs
+unfolding verdict
+verdict-first [] ds h = absurd (h refl)
+verdict-first (c ∷ cs) ds h = go (bool-cases (c .fails)) (λ z. verdict-first cs ds z)
+  where
+    go : (c .fails ≡ true) ⊎ (c .fails ≡ false) → (verdict cs ≢ 0 → verdict (cs ++ ds) ≡ verdict cs) → verdict (c ∷ (cs ++ ds)) ≡ verdict (c ∷ cs)
+    go (inl e) f = rw (e, verdict)
+    go (inr e) f = rw (e, verdict) (f (λ z. h (rw (e, verdict) z)))
+
+-- the state after an accepted and after a refused call
+pub accepted-is : {A : Type 0} (n : ℕ) (x y : A) → n ≡ 0 → unless-refused n x y ≡ y
+unfolding unless-refused
+accepted-is n x y e = rw (e, unless-refused)
+
+pub refused-is : {A : Type 0} (n : ℕ) (x y : A) → n ≢ 0 → unless-refused n x y ≡ x
+unfolding unless-refused
+refused-is n x y e = rw (ne-eqb n 0 e, unless-refused)
 
 -- a test that fails on a whole list fails on each
 pub any-false : (t : ℕ → Bool) (l : List ℕ) (i : ℕ) → any t l ≡ false → In i l → t i ≡ false

@@ -8,8 +8,7 @@ use native.Mathlib.Omega.{arith}
 use native.Mathlib.Decide.{decLt}
 use lib.ListN.{length, getD}
 use lib.Dec.{ltb}
-use borrow.Author.Tests.{lt-ltb, le-ltb, ne-eqb}
-use Rattle.rules.specs.Calls.{unless-refused}
+use borrow.Author.Tests.{lt-ltb, le-ltb}
 use Rattle.rules.specs.Checks.{verdict}
 use Rattle.order_entries.specs.Flat.{Readable}
 use Rattle.order_entries.specs.Copied.{wide-entry, check-new}
@@ -53,15 +52,6 @@ pub record Ready (room : ℕ) (f : List ℕ) (from to : ℕ) : Type 0 where
   pub order : from ≤ to
   pub within : to ≤ room
   pub readable : (k : ℕ) → from ≤ k → k < to → Readable f k
-
--- the state after an accepted and after a refused call
-pub accepted-is : {A : Type 0} (n : ℕ) (x y : A) → n ≡ 0 → unless-refused n x y ≡ y
-unfolding unless-refused
-accepted-is n x y e = rw (e, unless-refused)
-
-pub refused-is : {A : Type 0} (n : ℕ) (x y : A) → (n ≡ 0 → ⊥) → unless-refused n x y ≡ x
-unfolding unless-refused
-refused-is n x y e = rw (ne-eqb n 0 e, unless-refused)
 
 module _ (room : ℕ) (f : List ℕ) (from to : ℕ) where
   pub past : to < from → 2 ≡ check-new room f from to

@@ -10,9 +10,10 @@ use lib.ListN.{length, take, drop, set, getD, length-append, length-drop}
 use lib.Seq.{drop-cons, length-take-le, set-at}
 use Rattle.order_entries.specs.declared.OrderInfo.{OrderInfo}
 use Rattle.rules.specs.Calls.{unless-refused}
+use Rattle.laws.specs.Accepted.{accepted-is, refused-is}
 use Rattle.order_entries.specs.Flat.{Readable, entry-of}
 use Rattle.order_entries.specs.Copied.{entries, copied, check-new}
-use Rattle.order_entries.specs.Checked.{Ready, ready, accepted-is, refused-is}
+use Rattle.order_entries.specs.Checked.{Ready, ready}
 
 entries-length : (f : List ℕ) (k n : ℕ) → length (entries f k n) ≡ n
 unfolding entries

@@ -9,13 +9,14 @@ use lib.ListN.{length, take, drop}
 use lib.Seq.{take-at}
 use Rattle.rules.specs.Guide.{Entry}
 use Rattle.rules.specs.Calls.{unless-refused}
+use Rattle.laws.specs.Accepted.{accepted-is}
 use Rattle.entries.specs.Entries.{row, entry-of as stored-entry, item-of}
 use Rattle.entries.specs.Stored.{row-add}
 use Rattle.buffer.specs.View.{order-of}
 use Rattle.order_entries.specs.declared.OrderInfo.{OrderInfo}
 use Rattle.order_entries.specs.Flat.{entry-of}
 use Rattle.order_entries.specs.Copied.{entries, copied, check-new}
-use Rattle.order_entries.specs.Checked.{ready, accepted-is}
+use Rattle.order_entries.specs.Checked.{ready}
 use Rattle.order_entries.specs.Loop.{before, copied-length}
 
 -- the order's entry that a struct stands for

@@ -5,7 +5,7 @@ use mathlib.Core.List.{List, [], _∷_, _++_, map}
 use mathlib.Core.Logic.{inl, inr}
 use Prim.Native.Nat.{ℕ, zero, suc, _+_, _*_, _≤_, _<_}
 use native.Mathlib.Omega.{arith}
-use lib.ListN.{length, getD, take, drop, length-map, replicate, getD-replicate}
+use lib.ListN.{length, getD, take, drop, replicate, getD-replicate}
 use lib.Seq.{drop-at, getD-take}
 use Rattle.rules.specs.Guide.{parallelism, tallied, tally}
 use Rattle.laws.specs.Width.{width-flat, width-le}
@@ -15,7 +15,7 @@ use Rattle.entries.specs.Stored.{row-add, over-elsewhere, appended-elsewhere, o
 use Rattle.buffer.specs.declared.Guide.{Guide}
 use Rattle.buffer.specs.View.{order-of, Laid}
 use Rattle.buffer.specs.Rows.{most-at, row-length, row-ends}
-use Rattle.buffer.specs.Order.{appended-row, map-append, annotated-length, appended-length}
+use Rattle.buffer.specs.Order.{appended-row, map-append, order-count, annotated-length, appended-length}
 use Rattle.buffer.specs.Moves.{slot-of, slot-fits, longer, released-guide, released-order, put-spans, put-laid, release-laid}
 use Rattle.tally.specs.Counting.{Countable}
 use Rattle.tally.specs.Tallied.{Within, tallied-append, tallied-length, tallied-le, tallied-beyond, tallied-front}
@@ -34,7 +34,10 @@ appended-tail o n es h =
     let o1 = appended o n es in
     let a = length es in
     let z : 0 + n ≡ n = omega arith in
-    sym (drop-at (row o1 0 n) (row o1 n a) n (row-length o1 0 n)) ∙ ap (λ t. drop n t) (sym (row-add o1 0 n a ∙ ap (λ t. row o1 0 n ++ row o1 t a) z)) ∙ ap (λ t. drop n t) (appended-row o n es h) ∙ drop-at (row o 0 n) es n (row-length o 0 n)
+    sym (drop-at (row o1 0 n) (row o1 n a) n (row-length o1 0 n))
+    ∙ ap (λ t. drop n t) (sym (row-add o1 0 n a ∙ ap (λ t. row o1 0 n ++ row o1 t a) z))
+    ∙ ap (λ t. drop n t) (appended-row o n es h)
+    ∙ drop-at (row o 0 n) es n (row-length o 0 n)
 
 -- the parallelism of what a release appends is at most p
 annotated-within : (p a b q : ℕ) (es : List Entry) → 1 ≤ p → q + length es ≤ a → a ≤ p + 1 → Within p (map entry-of (annotated p a b q es))
@@ -105,20 +108,23 @@ module _ (g : Guide) (s o t : List ℕ) (k : Stands g s o t) where
     order-is : order-of o′ (g .written + a) ≡ order-of o (g .written) ++ map entry-of new
     unfolding order-of released-order
     order-is =
-        ap (λ n. map entry-of (row (appended o (g .written) new) 0 (g .written + n))) (sym new-length) ∙ ap (λ l. map entry-of l) (appended-row o (g .written) new fits) ∙ map-append entry-of (row o 0 (g .written)) new
-
-    order-count : length (order-of o (g .written)) ≡ g .written
-    unfolding order-of
-    order-count = length-map (row o 0 (g .written)) entry-of ∙ row-length o 0 (g .written)
+        ap (λ n. map entry-of (row (appended o (g .written) new) 0 (g .written + n))) (sym new-length)
+        ∙ ap (λ l. map entry-of l) (appended-row o (g .written) new fits)
+        ∙ map-append entry-of (row o 0 (g .written)) new
 
     within : Within (g .p) (map entry-of new)
-    within = annotated-within (g .p) a (getD (g .window .lens) 1 0) 0 es (k .laid .one) (omega (arith, row-length s (getD (g .window .rows) 0 0 * (g .p + 1)) a)) (most-at (g .p + 1) (g .window .lens) 0 (k .laid .short))
+    within =
+        annotated-within (g .p) a (getD (g .window .lens) 1 0) 0 es (k .laid .one)
+        (omega (arith, row-length s (getD (g .window .rows) 0 0 * (g .p + 1)) a))
+        (most-at (g .p + 1) (g .window .lens) 0 (k .laid .short))
 
     -- a count is at most the number of the order's entries
     count-small : (x : ℕ) → x ≤ g .p → getD t x 0 ≤ g .written
     unfolding tally
     count-small x z =
-        omega (arith, getD-take (g .p + 1) t x 0 (omega arith), ap (λ l. getD l x 0) (k .tally-is), tallied-le x (replicate (g .p + 1) 0) (order-of o (g .written)), getD-replicate {A = ℕ} (g .p + 1) x 0 0 (omega arith), order-count)
+        let none = getD-replicate {A = ℕ} (g .p + 1) x 0 0 (omega arith) in
+        let counted = tallied-le x (replicate (g .p + 1) 0) (order-of o (g .written)) in
+        omega (arith, getD-take (g .p + 1) t x 0 (omega arith), ap (λ l. getD l x 0) (k .tally-is), counted, none, order-count o (g .written))
 
     pub countable : Countable (g .p) o′ (g .written) a t
     countable =

@@ -4,11 +4,11 @@ use mathlib.Core.Path.{_≡_, refl, sym, ap, _∙_, subst}
 use mathlib.Core.List.{List, [], _∷_, _++_, map}
 use mathlib.Core.Bool.{Bool, true, false}
 use mathlib.Core.Logic.{_≢_}
-use Prim.Native.Nat.{ℕ, zero, suc, _+_, _*_, _-_, _≤_, _<_}
+use Prim.Native.Nat.{ℕ, zero, suc, _+_, _*_, _≤_, _<_}
 use native.Mathlib.Nat.{add-zero, zero-add}
 use native.Mathlib.Omega.{arith}
 use lib.Dec.{eqb}
-use lib.ListN.{length, getD, set, length-set, length-map}
+use lib.ListN.{length, getD, set, length-set}
 use lib.Seq.{getD-set-same, getD-set-other}
 use borrow.Author.Tests.{eqb-true, eqb-false}
 use Rattle.rules.specs.Guide.{Entry as OrderEntry}
@@ -17,8 +17,7 @@ use Rattle.entries.specs.declared.Entry.{Entry}
 use Rattle.entries.specs.Entries.{row, entry-at, item-of, entry-of}
 use Rattle.entries.specs.Stored.{row-add}
 use Rattle.buffer.specs.View.{order-of}
-use Rattle.buffer.specs.Rows.{row-length}
-use Rattle.buffer.specs.Order.{map-append}
+use Rattle.buffer.specs.Order.{map-append, order-count}
 use Rattle.records.specs.Filling.{fill-one, filled, Fillable, fill-one-length, filled-length}
 
 -- row r of lent rows: five numbers
@@ -34,9 +33,9 @@ Filled v rs ws os = (r : ℕ) → r < v → row-at rs r ≡ row-after r (unfille
 abbrev filled-by : ℕ → ℕ → OrderEntry → Row → Row
 filled-by r n e a = elim (eqb (e .item .added) r) [ true ↦ fill n e a | false ↦ a ]
 
-chosen : (b : Bool) (x y z : Row) → (b ≡ true → z ≡ x) → (b ≡ false → z ≡ y) → z ≡ elim b [ true ↦ x | false ↦ y ]
-chosen true x y z f g = f refl
-chosen false x y z f g = g refl
+by-cases : (b : Bool) (x y z : Row) → (b ≡ true → z ≡ x) → (b ≡ false → z ≡ y) → z ≡ elim b [ true ↦ x | false ↦ y ]
+by-cases true x y z f g = f refl
+by-cases false x y z f g = g refl
 
 after-append : (r : ℕ) (a : Row) (n : ℕ) (ws bs : List OrderEntry) → row-after r a n (ws ++ bs) ≡ row-after r (row-after r a n ws) (n + length ws) bs
 unfolding row-after
@@ -58,15 +57,28 @@ module _ (rs : List ℕ) (n : ℕ) (e : Entry) (h : 5 * (e .added) + 5 ≤ lengt
 
   pub fill-other : (i : ℕ) → i ≢ 5 * a → i ≢ 5 * a + 1 → i ≢ 5 * a + 3 → i ≢ 5 * a + 4 → getD (fill-one rs n e) i 0 ≡ getD rs i 0
   unfolding fill-one
-  fill-other i x y z w = getD-set-other s3 (5 * a + 4) i (e .parallelism) 0 w ∙ getD-set-other s2 (5 * a + 3) i n 0 z ∙ getD-set-other s1 (5 * a + 1) i (e .accepted) 0 y ∙ getD-set-other rs (5 * a) i (e .added) 0 x
+  fill-other i x y z w =
+      getD-set-other s3 (5 * a + 4) i (e .parallelism) 0 w
+      ∙ getD-set-other s2 (5 * a + 3) i n 0 z
+      ∙ getD-set-other s1 (5 * a + 1) i (e .accepted) 0 y
+      ∙ getD-set-other rs (5 * a) i (e .added) 0 x
 
   read-same : row-at (fill-one rs n e) a ≡ fill n (entry-of e) (row-at rs a)
   unfolding row-at fill-one fill entry-of item-of
   read-same =
-      let f0 : getD (fill-one rs n e) (5 * a) 0 ≡ e .added = getD-set-other s3 (5 * a + 4) (5 * a) (e .parallelism) 0 (omega arith) ∙ getD-set-other s2 (5 * a + 3) (5 * a) n 0 (omega arith) ∙ getD-set-other s1 (5 * a + 1) (5 * a) (e .accepted) 0 (omega arith) ∙ getD-set-same rs (5 * a) (e .added) 0 (omega arith) in
-      let f1 : getD (fill-one rs n e) (5 * a + 1) 0 ≡ e .accepted = getD-set-other s3 (5 * a + 4) (5 * a + 1) (e .parallelism) 0 (omega arith) ∙ getD-set-other s2 (5 * a + 3) (5 * a + 1) n 0 (omega arith) ∙ getD-set-same s1 (5 * a + 1) (e .accepted) 0 (simp length-set (omega arith)) in
+      let f0 : getD (fill-one rs n e) (5 * a) 0 ≡ e .added =
+      getD-set-other s3 (5 * a + 4) (5 * a) (e .parallelism) 0 (omega arith)
+      ∙ getD-set-other s2 (5 * a + 3) (5 * a) n 0 (omega arith)
+      ∙ getD-set-other s1 (5 * a + 1) (5 * a) (e .accepted) 0 (omega arith)
+      ∙ getD-set-same rs (5 * a) (e .added) 0 (omega arith) in
+      let f1 : getD (fill-one rs n e) (5 * a + 1) 0 ≡ e .accepted =
+      getD-set-other s3 (5 * a + 4) (5 * a + 1) (e .parallelism) 0 (omega arith)
+      ∙ getD-set-other s2 (5 * a + 3) (5 * a + 1) n 0 (omega arith)
+      ∙ getD-set-same s1 (5 * a + 1) (e .accepted) 0 (simp length-set (omega arith)) in
       let f2 : getD (fill-one rs n e) (5 * a + 2) 0 ≡ getD rs (5 * a + 2) 0 = fill-other (5 * a + 2) (omega arith) (omega arith) (omega arith) (omega arith) in
-      let f3 : getD (fill-one rs n e) (5 * a + 3) 0 ≡ n = getD-set-other s3 (5 * a + 4) (5 * a + 3) (e .parallelism) 0 (omega arith) ∙ getD-set-same s2 (5 * a + 3) n 0 (simp length-set (omega arith)) in
+      let f3 : getD (fill-one rs n e) (5 * a + 3) 0 ≡ n =
+      getD-set-other s3 (5 * a + 4) (5 * a + 3) (e .parallelism) 0 (omega arith)
+      ∙ getD-set-same s2 (5 * a + 3) n 0 (simp length-set (omega arith)) in
       let f4 : getD (fill-one rs n e) (5 * a + 4) 0 ≡ e .parallelism = getD-set-same s3 (5 * a + 4) (e .parallelism) 0 (simp length-set (omega arith)) in
       rw (f0, f1, f2, f3, f4)
 
@@ -83,7 +95,7 @@ module _ (rs : List ℕ) (n : ℕ) (e : Entry) (h : 5 * (e .added) + 5 ≤ lengt
   read-filled-one : (r : ℕ) → row-at (fill-one rs n e) r ≡ filled-by r n (entry-of e) (row-at rs r)
   unfolding entry-of item-of
   read-filled-one r =
-      chosen (eqb a r) (fill n (entry-of e) (row-at rs r)) (row-at rs r) (row-at (fill-one rs n e) r)
+      by-cases (eqb a r) (fill n (entry-of e) (row-at rs r)) (row-at rs r) (row-at (fill-one rs n e) r)
       (λ t. subst (λ (z : ℕ). row-at (fill-one rs n e) z ≡ fill n (entry-of e) (row-at rs z)) (eqb-true a r t) read-same)
       (λ t. read-other r (λ q. eqb-false a r t (sym q)))
 
@@ -96,7 +108,8 @@ read-filled : (v r n : ℕ) (rs : List ℕ) (es : List Entry) → Known v (map e
 unfolding filled row-after Known item-of entry-of
 read-filled v r n rs [] k h = refl
 read-filled v r n rs (e ∷ es) k h =
-    read-filled v r (suc n) (fill-one rs n e) es (k .1) (omega (arith, fill-one-length rs n e)) ∙ ap (λ (z : Row). row-after r z (suc n) (map entry-of es)) (read-filled-one rs n e (omega (arith, k .0)) r)
+    read-filled v r (suc n) (fill-one rs n e) es (k .1) (omega (arith, fill-one-length rs n e))
+    ∙ ap (λ (z : Row). row-after r z (suc n) (map entry-of es)) (read-filled-one rs n e (omega (arith, k .0)) r)
 
 pub known-at : (v : ℕ) (o : List ℕ) (n a q : ℕ) → Known v (map entry-of (row o n a)) → q < a → (entry-at o (n + q)) .added < v
 unfolding Known item-of entry-of
@@ -136,16 +149,16 @@ module _ (v n a : ℕ) (o rs : List ℕ) (long : 5 * v ≤ length rs) (known : K
   unfolding order-of
   order-grown = ap (λ l. map entry-of l) (row-add o 0 n a ∙ ap (λ z. row o 0 n ++ row o z a) (zero-add n)) ∙ map-append entry-of (row o 0 n) (row o n a)
 
-  order-count : length (order-of o n) ≡ n
-  unfolding order-of
-  order-count = length-map (row o 0 n) entry-of ∙ row-length o 0 n
-
   pub fills : (ws : List ℕ) → Filled v rs ws (order-of o n) → Filled v (filled rs n (row o n a)) ws (order-of o (n + a))
   fills ws f r h =
       let z : Row = unfilled (getD ws r 0) in
+      let new : List OrderEntry = map entry-of (row o n a) in
+      let index : 0 + length (order-of o n) ≡ n = zero-add (length (order-of o n)) ∙ order-count o n in
       read-filled v r n rs (row o n a) known long
-      ∙ ap (λ (y : Row). row-after r y n (map entry-of (row o n a))) (f r h)
-      ∙ sym (ap (λ (l : List OrderEntry). row-after r z 0 l) order-grown ∙ after-append r z 0 (order-of o n) (map entry-of (row o n a)) ∙ ap (λ (y : ℕ). row-after r (row-after r z 0 (order-of o n)) y (map entry-of (row o n a))) (zero-add (length (order-of o n)) ∙ order-count))
+      ∙ ap (λ (y : Row). row-after r y n new) (f r h)
+      ∙ sym (ap (λ (l : List OrderEntry). row-after r z 0 l) order-grown
+      ∙ after-append r z 0 (order-of o n) new
+      ∙ ap (λ (y : ℕ). row-after r (row-after r z 0 (order-of o n)) y new) index)
 
   pub fill-frame : RowsFrame v rs (filled rs n (row o n a))
   fill-frame =

@@ -13,10 +13,8 @@ use Rattle.rules.specs.Model.{initial}
 use Rattle.rules.specs.Checks.{Check, verdict, too-short, check-open, check-range}
 use Rattle.rules.specs.Calls.{Call, run, answers}
 use Rattle.rules.specs.Encoding.{decode}
-use Rattle.laws.specs.Accepted.{verdict-head}
-use Rattle.laws.specs.ModelBase.{bool-cases}
+use Rattle.laws.specs.Accepted.{verdict-head, verdict-first}
 use Rattle.laws.specs.Demand.{Demand}
-use mathlib.Core.Logic.{_⊎_, inl, inr}
 use Rattle.encoding.specs.Ends.{Counts}
 use Rattle.guide.specs.Fresh.{first-guide}
 use Rattle.session.specs.declared.Session.{Session}
@@ -83,15 +81,6 @@ unfolding first-guide
 first-written p v = refl
 
 -- the number of a replay
-verdict-first : (cs ds : List Check) → (verdict cs ≡ 0 → ⊥) → verdict (cs ++ ds) ≡ verdict cs
-unfolding verdict
-verdict-first [] ds h = absurd (h refl)
-verdict-first (c ∷ cs) ds h = go (bool-cases (c .fails)) (λ z. verdict-first cs ds z)
-  where
-    go : (c .fails ≡ true) ⊎ (c .fails ≡ false) → ((verdict cs ≡ 0 → ⊥) → verdict (cs ++ ds) ≡ verdict cs) → verdict (c ∷ (cs ++ ds)) ≡ verdict (c ∷ cs)
-    go (inl e) f = rw (e, verdict)
-    go (inr e) f = rw (e, verdict) (f (λ z. h (rw (e, verdict) z)))
-
 module _ (P N : ℕ) (σ : Storage) where
   abbrev Passed : Type 0
   Passed = ((ltb P 1 || ltb 64999 P) ≡ false) × (((ltb N 1 || ltb 16777216 N) ≡ false) × (too-short P N (sizes σ) ≡ false))
@@ -154,7 +143,8 @@ module _ {P N : ℕ} {l : List ℕ} {σ : Storage} {out : List ℕ} {well : Bool
     pub may-run : {n : ℕ} {s : Session} {τ : Storage} → 0 ≡ verdict (check-open P N (sizes σ)) → many ≤ length out → Opens P N n s σ τ → MayRun l s τ out
     may-run e h O = record { P = P; N = N; all = C .formed w .0; starts = starts-of e h O }
 
-    pub replay-done : {n : ℕ} {s s′ : Session} {τ υ : Storage} {out′ : List ℕ} → 0 ≡ verdict (check-open P N (sizes σ)) → many ≤ length out → Opens P N n s σ τ → τ .pool ≡ σ .pool → Runs l s τ out s′ υ out′
+    pub replay-done : {n : ℕ} {s s′ : Session} {τ υ : Storage} {out′ : List ℕ} → 0 ≡ verdict (check-open P N (sizes σ)) → many ≤ length out
+        → Opens P N n s σ τ → τ .pool ≡ σ .pool → Runs l s τ out s′ υ out′
         → Replays P N l 0 s′ σ υ out out′
     unfolding replay-number verdict
     replay-done {n} {s} {s′} {τ} {υ} {out′} e h O ep R =

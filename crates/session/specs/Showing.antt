@@ -1,16 +1,16 @@
 -- A session and storage that stand for a model show it. Assumes nothing.
-use mathlib.Core.Path.{_≡_, refl, sym, ap, _∙_}
-use mathlib.Core.List.{List, [], _∷_, map}
+use mathlib.Core.Path.{_≡_, sym, ap, _∙_}
+use mathlib.Core.List.{List, [], map}
 use Prim.Native.Nat.{ℕ, _+_, _*_, _<_}
 use native.Mathlib.Omega.{arith}
-use lib.ListN.{length, getD, take, length-map}
+use lib.ListN.{length, getD}
 use Rattle.rules.specs.Guide.{Item, Guide as GuideModel}
-use Rattle.rules.specs.Model.{Model, Reg, reg-of}
+use Rattle.rules.specs.Model.{Model, reg-of}
 use Rattle.rules.specs.Checks.{pooled}
 use Rattle.rules.specs.Record.{location-of}
-use Rattle.entries.specs.Entries.{row, item-of, entry-of}
 use Rattle.buffer.specs.View.{view, order-of, spans-of, upto}
-use Rattle.buffer.specs.Rows.{row-length, spans-at}
+use Rattle.buffer.specs.Rows.{spans-lengths, spans-at}
+use Rattle.buffer.specs.Order.{order-count}
 use Rattle.registrar.specs.Unique.{pending-read}
 use Rattle.lists.specs.ListLaws.{Parts}
 use Rattle.lists.specs.Arguments.{parts-of}
@@ -20,15 +20,6 @@ use Rattle.session.specs.Rep.{Rep}
 use Rattle.session.specs.Parts.{tally-is}
 use Rattle.session.specs.Shows.{span-in, lists-in, Shows}
 
--- the spans' lengths are the window's
-lengths-of : (p : ℕ) (s rs ls : List ℕ) → length rs ≡ length ls → map length (spans-of p s rs ls) ≡ ls
-unfolding spans-of
-lengths-of p s [] [] h = refl
-lengths-of p s [] (l ∷ ls) h = absurd (omega arith)
-lengths-of p s (r ∷ rs) [] h = absurd (omega arith)
-lengths-of p s (r ∷ rs) (l ∷ ls) h =
-    rw (length-map (row s (r * (p + 1)) l) item-of, row-length s (r * (p + 1)) l) (ap (λ (x : List ℕ). l ∷ x) (lengths-of p s rs ls (omega arith)))
-
 module _ (P N : ℕ) (k : Model) (s : Session) (σ : Storage) (R : Rep P N k s σ) where
   guide-is : view (s .guide) (σ .spans) (σ .order) ≡ k .guide
   guide-is = R .core .guided .view-is
@@ -36,10 +27,6 @@ module _ (P N : ℕ) (k : Model) (s : Session) (σ : Storage) (R : Rep P N k s �
   order-is : order-of (σ .order) (s .guide .written) ≡ k .guide .order
   unfolding view
   order-is = ap (λ (g : GuideModel). g .order) guide-is
-
-  order-count : (o : List ℕ) (n : ℕ) → length (order-of o n) ≡ n
-  unfolding order-of
-  order-count o n = length-map (row o 0 n) entry-of ∙ row-length o 0 n
 
   first-is : getD (s .guide .window .ids) 0 0 ≡ k .guide .first
   unfolding view
@@ -75,7 +62,7 @@ module _ (P N : ℕ) (k : Model) (s : Session) (σ : Storage) (R : Rep P N k s �
         marks = R .core .tracked .places .at;
         locations = R .core .tracked .places .place-of;
         numbers = R .core .guided .stands .laid .numbered ∙ ap (λ (n : ℕ). upto n 32) first-is;
-        lengths = sym (lengths-of P (σ .spans) (s .guide .window .rows) (s .guide .window .lens) same-many) ∙ ap (λ (x : List (List Item)). map length x) spans-are;
+        lengths = sym (spans-lengths P (σ .spans) (s .guide .window .rows) (s .guide .window .lens) same-many) ∙ ap (λ (x : List (List Item)). map length x) spans-are;
         spans = λ i h.
             sym (spans-at P (σ .spans) (s .guide .window .rows) (s .guide .window .lens) i same-many) ∙ ap (λ (x : List (List Item)). getD x i []) spans-are;
         unassigned = none-assigned;

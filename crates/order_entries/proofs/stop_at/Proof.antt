@@ -1,6 +1,6 @@
 -- `order_entries::stop_at` meets its contract: the test's two cases. Assumes nothing.
 use mathlib.Core.Path.{sym}
-use Rattle.order_entries.specs.Checked.{accepted-is, refused-is}
+use Rattle.laws.specs.Accepted.{accepted-is, refused-is}
 use Rattle.order_entries.proofs.stop_at.Statement.{statement}
 use Rattle.order_entries.proofs.stop_at.Tie as tie
 
