@@ -61,7 +61,8 @@ named : {A : Type 0} (P Q N M : ℕ) (a b : AloneModel) → P ≡ Q → N ≡ M 
 named P Q N M a b e g h f = rw (e, g, h)
 
 -- what an opening left is a fresh guide of `rules`
-opened : {A : Type 0} (p v : ℕ) {x : Alone} {s o t t₀ : List ℕ} → Opens p v 0 x s o t₀ t → (f : ℕ → ℕ → AloneModel → A) → f (x .guide .p) (x .guide .v) (model x s o) ≡ f p v alone
+opened : {A : Type 0} (p v : ℕ) {x : Alone} {s o t t₀ : List ℕ} → Opens p v 0 x s o t₀ t
+    → (f : ℕ → ℕ → AloneModel → A) → f (x .guide .p) (x .guide .v) (model x s o) ≡ f p v alone
 opened p v {x} {s} {o} a f = named (x .guide .p) p (x .guide .v) v (model x s o) alone (a .p-is refl) (a .v-is refl) (a .is refl) f
 
 -- the requests qs of a guide opened with P and N over s, o, t were answered by rs and left y, s′, o′, t′

@@ -122,7 +122,9 @@ module _ (p v n : ℕ) (x : Alone) (s o t : List ℕ) (en : n ≡ verdict (check
   unfolding first-guide
   open-served t′ z e c =
       let q = passed p v (length s / 4) (length o / 4) (length t) (sym en ∙ z) in
-      let st = fresh-stands p v s o t′ (q .one) (q .few) (q .small) (quarter (32 * (p + 1)) (length s) (q .spans)) (quarter v (length o) (q .order)) (omega (arith, q .tally, c .long)) (cleared-front p t t′ (q .tally) c) in
+      let st = fresh-stands p v s o t′ (q .one) (q .few) (q .small)
+      (quarter (32 * (p + 1)) (length s) (q .spans)) (quarter v (length o) (q .order))
+      (omega (arith, q .tally, c .long)) (cleared-front p t t′ (q .tally) c) in
       let m = model-fresh p v s o in
       record {
         number-is = sym z ∙ en;

@@ -176,7 +176,8 @@ module _ (g : Guide) (added : ℕ) (sp o t rs : List ℕ) where
                   rows =
                       let os : List OrderEntry = (flush-guide P (k .guide)) .order in
                       let old : Filled N rs₁ (k .recorded .written) os = subst (λ (y : List ℕ). Filled N y (k .recorded .written) os) (sym er) (x .1 .0) in
-                      rewritten N rs₁ rs′ (k .recorded .written) (set (k .recorded .written) (length (k .recorded .written) - 1) (length os)) os old (λ j z. ap (λ (y : List ℕ). getD y j 0) en ∙ noted-other rs₁ added (h .written) j (λ r e. z r))
+                      rewritten N rs₁ rs′ (k .recorded .written) (set (k .recorded .written) (length (k .recorded .written) - 1) (length os)) os old
+                      (λ j z. ap (λ (y : List ℕ). getD y j 0) en ∙ noted-other rs₁ added (h .written) j (λ r e. z r))
                       (λ r q. ap (λ (y : List ℕ). getD y (5 * r + 2) 0) en
                       ∙ noted-written N rs₁ (k .recorded .written) added (h .written) (omega (arith, ap length er, x .1 .1 .long, C .rowed .long)) (omega (arith, F .many, ea)) (ew ∙ sym ea)
                       (written-of N rs₁ (k .recorded .written) os old) r q

@@ -114,7 +114,8 @@ module _ (P N W : ℕ) where
   closed-from [] k o e = absurd (false≢true (sym o ∙ e))
   closed-from (c ∷ cs) k o e = go (bool-cases ((step P N W c k) .closed)) (λ z. closed-from cs (step P N W c k) z e)
     where
-      go : ((step P N W c k) .closed ≡ true) ⊎ ((step P N W c k) .closed ≡ false) → ((step P N W c k) .closed ≡ false → FinalAccepted P N W cs (step P N W c k)) → FinalAccepted P N W (c ∷ cs) k
+      go : ((step P N W c k) .closed ≡ true) ⊎ ((step P N W c k) .closed ≡ false)
+          → ((step P N W c k) .closed ≡ false → FinalAccepted P N W cs (step P N W c k)) → FinalAccepted P N W (c ∷ cs) k
       go (inl z) f = let x = closing-step c k o z in ([], cs, ap (λ (d : Call). d ∷ cs) (sym (x .0)), x .1)
       go (inr z) f = let x = f z in (c ∷ x .0, x .1, ap (λ (l : List Call). c ∷ l) (x .2), x .3)
 

@@ -144,7 +144,9 @@ module _ (P N : ℕ) (σ τ : Storage) (E : Enough P N σ) (F : Fresh P N σ τ)
             rows = blank-rows N (τ .rows) (λ j h. F .rows .zero j (omega arith) h);
           };
           tracked = record {
-            places = places-open N (τ .marks) (τ .locations) (omega (arith, F .marks .long, E .marks)) (omega (arith, F .locations .long, E .locations)) (λ x h. F .marks .zero x (omega arith) h) (λ x h. F .locations .zero x (omega arith) h);
+            places =
+                places-open N (τ .marks) (τ .locations) (omega (arith, F .marks .long, E .marks)) (omega (arith, F .locations .long, E .locations))
+                (λ x h. F .marks .zero x (omega arith) h) (λ x h. F .locations .zero x (omega arith) h);
             lead-is = sym (zero-run N);
           };
           stored = record { lists = lists-open N (τ .waiting) (τ .pool) long; flags = flags-open N (τ .waiting) long (F .flags) };
@@ -193,7 +195,8 @@ pub record Clears (p v : ℕ) (t rs m l w t′ rs′ m′ l′ w′ : List ℕ) 
   pub waiting : Beyond (4 * v) w w′
 
 -- the waiting storage is cleared in two parts
-pub clears : (p v : ℕ) (t rs m l w t′ rs′ m′ l′ w₁ w′ : List ℕ) → Cleared 0 (p + 1) t t′ → Cleared 0 (5 * v) rs rs′ → Cleared 0 v m m′ → Cleared 0 v l l′ → Cleared 0 v w w₁ → Cleared (3 * v) (4 * v) w₁ w′
+pub clears : (p v : ℕ) (t rs m l w t′ rs′ m′ l′ w₁ w′ : List ℕ)
+    → Cleared 0 (p + 1) t t′ → Cleared 0 (5 * v) rs rs′ → Cleared 0 v m m′ → Cleared 0 v l l′ → Cleared 0 v w w₁ → Cleared (3 * v) (4 * v) w₁ w′
     → Clears p v t rs m l w t′ rs′ m′ l′ w′
 clears p v t rs m l w t′ rs′ m′ l′ w₁ w′ ct cr cm cl cw cz =
     record {

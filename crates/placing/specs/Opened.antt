@@ -40,7 +40,8 @@ module _ (g h : Guide) (s o o′ t t′ : List ℕ) (n : ℕ) (k : Laid g s) (hn
   pub opened-slot : 4 * (getD (h .window .rows) 31 0 * (g .p + 1)) + 4 ≤ length s
   opened-slot = omega (arith, slot-fits (with-window g (h .window) (h .written)) s (here .stands .laid) 31 (omega (arith, opened-empty)), opened-empty)
 
-  pub open-put : (s′ : List ℕ) (e : Entry) → s′ ≡ over s (4 * (getD (h .window .rows) 31 0 * (g .p + 1))) (numbers (held-entry e)) → Done g (begun g h) s o t s′ o′ t′ (put 31 (item-of e) b)
+  pub open-put : (s′ : List ℕ) (e : Entry) → s′ ≡ over s (4 * (getD (h .window .rows) 31 0 * (g .p + 1))) (numbers (held-entry e))
+      → Done g (begun g h) s o t s′ o′ t′ (put 31 (item-of e) b)
   unfolding longer put-spans
   open-put s′ e es =
       let h′ = with-window g (h .window) (h .written) in

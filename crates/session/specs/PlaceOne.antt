@@ -80,7 +80,8 @@ module _ (c r : ℕ) (g : Guide) (lead added used : ℕ) (σ : Storage) where
       }
 
   module _ (f : After) (D : Finds (σ .locations) (σ .waiting) (σ .pool) (g .v) added used r f) where
-    found-for : (P N W : ℕ) (k : Model) (st : List ℕ) → Core P N k g lead σ → Sound P N W k (r ∷ st) → added ≡ length (k .adds) → used ≡ pooled (k .adds) → Found (σ .locations) (σ .pool) (reg-of k r) f
+    found-for : (P N W : ℕ) (k : Model) (st : List ℕ) → Core P N k g lead σ → Sound P N W k (r ∷ st)
+        → added ≡ length (k .adds) → used ≡ pooled (k .adds) → Found (σ .locations) (σ .pool) (reg-of k r) f
     found-for P N W k st C S ea eu = D .found k (lists-at P N W k st C S eu) (may P N W k st C S .mine) ea
 
     pub asks-push : MayPlace c g lead added used σ r
@@ -127,7 +128,8 @@ module _ (c r : ℕ) (g : Guide) (lead added used : ℕ) (σ : Storage) where
             (order-registered P N (rest N (place-one P c r k)) (fits-of P N W (P-one P N W k st C S) (rest N (place-one P c r k)) (push (off N (place-one P c r k)) st)
             (sound-placing P N W (P-one P N W k st C S) c r st k ended S) (N-small P N W k st C S)))
 
-        rows-here : Fillable o n new (σ .rows) × (Filled N (filled (σ .rows) n (row o n new)) (k .recorded .written) ((place-one P c r k) .guide .order) × RowsFrame N (σ .rows) (filled (σ .rows) n (row o n new)))
+        rows-here : Fillable o n new (σ .rows)
+            × (Filled N (filled (σ .rows) n (row o n new)) (k .recorded .written) ((place-one P c r k) .guide .order) × RowsFrame N (σ .rows) (filled (σ .rows) n (row o n new)))
         unfolding view row-of
         rows-here = (
           rows-fillable N n new (σ .order) o (σ .rows) (C .rowed .long) (U .done .frame .order-kept) known,
@@ -142,7 +144,8 @@ module _ (c r : ℕ) (g : Guide) (lead added used : ℕ) (σ : Storage) where
         written-fits : h .written ≤ N
         unfolding rest keep
         written-fits =
-            let x = fits-of P N W (P-one P N W k st C S) (rest N (place-one P c r k)) (push (off N (place-one P c r k)) st) (sound-placing P N W (P-one P N W k st C S) c r st k ended S) (N-small P N W k st C S) in
+            let x = fits-of P N W (P-one P N W k st C S) (rest N (place-one P c r k)) (push (off N (place-one P c r k)) st)
+            (sound-placing P N W (P-one P N W k st C S) c r st k ended S) (N-small P N W k st C S) in
             omega (
               arith,
               x .room,
@@ -178,8 +181,13 @@ module _ (c r : ℕ) (g : Guide) (lead added used : ℕ) (σ : Storage) where
               before = U .done .frame .order-kept;
               tally = record { long = U .done .frame .tally-length; same = λ j q. U .done .frame .tally-beyond j (omega arith) };
               rows = record { long = rows-are .long; same = rows-are .beyond };
-              marks = beyond-drop (g .v) (g .v) (σ .marks) m (omega arith) (ap length (Z .stamps .marks-are) ∙ stamped-length (σ .marks) xs 32768) (ap (λ (x : List ℕ). drop (g .v) x) (Z .stamps .marks-are) ∙ stamped-beyond (g .v) (σ .marks) xs 32768 xs-below);
-              locations = beyond-drop (g .v) (g .v) (σ .locations) l (omega arith) (ap length (Z .stamps .locs-are) ∙ stamped-length (σ .locations) xs (span * 4294967296 + pos)) (ap (λ (x : List ℕ). drop (g .v) x) (Z .stamps .locs-are) ∙ stamped-beyond (g .v) (σ .locations) xs (span * 4294967296 + pos) xs-below);
+              marks =
+                  beyond-drop (g .v) (g .v) (σ .marks) m (omega arith) (ap length (Z .stamps .marks-are) ∙ stamped-length (σ .marks) xs 32768)
+                  (ap (λ (x : List ℕ). drop (g .v) x) (Z .stamps .marks-are) ∙ stamped-beyond (g .v) (σ .marks) xs 32768 xs-below);
+              locations =
+                  beyond-drop (g .v) (g .v) (σ .locations) l (omega arith)
+                  (ap length (Z .stamps .locs-are) ∙ stamped-length (σ .locations) xs (span * 4294967296 + pos))
+                  (ap (λ (x : List ℕ). drop (g .v) x) (Z .stamps .locs-are) ∙ stamped-beyond (g .v) (σ .locations) xs (span * 4294967296 + pos) xs-below);
               waiting = beyond-refl _ (σ .waiting);
               pool = refl;
             };
@@ -194,7 +202,8 @@ module _ (c r : ℕ) (g : Guide) (lead added used : ℕ) (σ : Storage) where
           xs-below : Below (g .v) xs
           xs-below =
               subst (λ (v : ℕ). Below v xs) (sym (a .core .guided .v-is))
-              (outs-below (a .P) (a .N) (a .k) g lead σ r (a .core) (may (a .P) (a .N) (a .W) (a .k) (a .st) (a .core) (a .sound)) f (F (a .P) (a .N) (a .W) (a .k) (a .st) (a .core) (a .sound) (a .ended) (a .added-is) (a .used-is)))
+              (outs-below (a .P) (a .N) (a .k) g lead σ r (a .core) (may (a .P) (a .N) (a .W) (a .k) (a .st) (a .core) (a .sound)) f
+              (F (a .P) (a .N) (a .W) (a .k) (a .st) (a .core) (a .sound) (a .ended) (a .added-is) (a .used-is)))
 
           rows-are : RowsFrame (g .v) (σ .rows) rs
           rows-are =
