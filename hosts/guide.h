@@ -1,5 +1,5 @@
 /* Host code, not proved: the declaration of the proved call of crate `alone_replay`.
-   A whole list of requests to the guide alone, freshly opened. `rt staticlib alone_replay` proves it
+   A whole list of requests to the guide alone, freshly opened. `tools/archives alone_replay` proves it
    and writes target/staticlib/libalone_replay.a. docs/GUIDE.md describes requests and answers. */
 #ifndef GUIDE_H
 #define GUIDE_H

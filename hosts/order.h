@@ -1,5 +1,5 @@
 /* Host code, not proved: the declaration of the proved call of crate `host`.
-   A job's bytes in, its listing's bytes out. `rt staticlib host` proves it and writes
+   A job's bytes in, its listing's bytes out. `tools/archives host` proves it and writes
    target/staticlib/libhost.a; hosts/order_example.c shows a call, docs/JOB.md describes jobs and
    listings. What the call promises is rules/specs/Listing.antt: `reply`, `result` and `bytes-after`. */
 #ifndef ORDER_H

@@ -1,6 +1,6 @@
 /* Host code, not proved: one call of order_job, the job on standard input, its listing on standard output.
 
-       rt staticlib host
+       tools/archives host
        gcc -Ihosts hosts/order_example.c target/staticlib/libhost.a -o order_example
        ./order_example <crates/order/stdin
 

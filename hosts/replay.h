@@ -1,6 +1,6 @@
 /* Host code, not proved: the declaration of the proved call of crate `replay`.
    A whole list of calls on a freshly opened session.
-   `rt staticlib replay` proves it and writes target/staticlib/libreplay.a; hosts/replay_example.c
+   `tools/archives replay` proves it and writes target/staticlib/libreplay.a; hosts/replay_example.c
    shows a call, hosts/replay_storage.h lays the storage out in one block of memory. docs/REPLAY.md
    describes the encoding of the calls. */
 #ifndef REPLAY_H
@@ -15,12 +15,16 @@
 extern "C" {
 #endif
 
+/* How many numbers an entry of the order has, and a registration's row. */
+#define REPLAY_ENTRY_NUMBERS 4
+#define REPLAY_ROW_NUMBERS 5
+
 /* What a session of parallelism P (1 to 64,999) over V places (1 to 16,777,216) needs, in numbers.
    The pool may have any length: it bounds the input and output numbers of all accepted adds. */
-#define REPLAY_SPANS(p) ((size_t)128 * ((size_t)(p) + 1))
-#define REPLAY_ORDER(v) ((size_t)4 * (size_t)(v))
+#define REPLAY_SPANS(p) ((size_t)32 * REPLAY_ENTRY_NUMBERS * ((size_t)(p) + 1))
+#define REPLAY_ORDER(v) ((size_t)REPLAY_ENTRY_NUMBERS * (size_t)(v))
 #define REPLAY_TALLY(p) ((size_t)(p) + 1)
-#define REPLAY_ROWS(v) ((size_t)5 * (size_t)(v))
+#define REPLAY_ROWS(v) ((size_t)REPLAY_ROW_NUMBERS * (size_t)(v))
 #define REPLAY_MARKS(v) ((size_t)(v))
 #define REPLAY_LOCATIONS(v) ((size_t)(v))
 #define REPLAY_WAITING(v) ((size_t)4 * (size_t)(v))

@@ -1,6 +1,6 @@
 /* Host code, not proved: one call of replay_calls, the job J1 of document 01, its order printed.
 
-       rt staticlib replay
+       tools/archives replay
        gcc -Ihosts hosts/replay_example.c target/staticlib/libreplay.a -o replay_example
        ./replay_example
 
@@ -44,10 +44,10 @@ int main(void) {
         if (answers[i] != 0)
             printf("call=%zu refused=%" PRIu64 "\n", i, answers[i]);
     for (uint64_t i = 0; i < returned / 64; i++) {
-        const uint32_t *entry = order + 4 * i;
+        const uint32_t *entry = order + REPLAY_ENTRY_NUMBERS * i;
         printf("order=%" PRIu64 " added=%" PRIu32 " accepted=%" PRIu32 " parallelism=%" PRIu32
                " written=%" PRIu32 "\n",
-               i, entry[1], entry[2], entry[3], rows[5 * entry[1] + 2]);
+               i, entry[1], entry[2], entry[3], rows[REPLAY_ROW_NUMBERS * entry[1] + 2]);
     }
     return 0;
 }

@@ -156,7 +156,7 @@ static inline uint64_t replay_run(struct replay_storage *storage, const uint64_t
 static inline struct replay_entry replay_entry_at(const struct replay_storage *storage, size_t index) {
     struct replay_entry entry = {0, 0, 0, 0};
     if (index < storage->entries) {
-        const uint32_t *numbers = storage->order + 4 * index;
+        const uint32_t *numbers = storage->order + REPLAY_ENTRY_NUMBERS * index;
         entry.value = numbers[0];
         entry.added = numbers[1];
         entry.accepted = numbers[2];
@@ -170,7 +170,7 @@ static inline struct replay_entry replay_entry_at(const struct replay_storage *s
 static inline struct replay_row replay_row_at(const struct replay_storage *storage, size_t registration) {
     struct replay_row row = {0, 0, 0, 0, 0};
     if (storage->refusal == ORDER_ACCEPTED && registration < storage->v) {
-        const uint32_t *numbers = storage->rows + 5 * registration;
+        const uint32_t *numbers = storage->rows + REPLAY_ROW_NUMBERS * registration;
         row.added = numbers[0];
         row.accepted = numbers[1];
         row.written = numbers[2];

@@ -1,8 +1,6 @@
 /* Host code, not proved: the job J1 of document 01 through replay_storage, its order also as structs.
 
-       rt staticlib replay
-       rt staticlib summary
-       rt staticlib order_entries
+       tools/archives replay summary order_entries
        gcc -Ihosts hosts/storage_example.c target/staticlib/libreplay.a \
            target/staticlib/libsummary.a target/staticlib/liborder_entries.a -o storage_example
        ./storage_example */

@@ -1,6 +1,6 @@
 /* Host code, not proved: the declaration of the proved call of crate `summary`.
    What final gives of a tally, for hosts that have a tally, as `replay_calls` leaves it.
-   `rt staticlib summary` proves it and writes target/staticlib/libsummary.a. */
+   `tools/archives summary` proves it and writes target/staticlib/libsummary.a. */
 #ifndef SUMMARY_H
 #define SUMMARY_H
 

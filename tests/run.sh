@@ -1,7 +1,8 @@
 #!/bin/bash
 # Runs every test folder's own run.sh, two at a time, and shows what each said when it has ended. The
 # reference model's comes first and alone: it builds what others use. One that fails stops no other; at
-# the end those that failed are named, and the status is not 0.
+# the end those that failed are named, and the status is not 0. What they say was not done, for want of a
+# tool or of the Rust (NOT and NOTHING in capitals), is said once more before.
 set -euo pipefail
 cd "$(dirname "$0")/.."
 
@@ -44,5 +45,8 @@ for script in $first "${others[@]}" $long; do
   echo "-- $script: $end"
   [ ! -f $logs/$name.log ] || cat $logs/$name.log
   [ "$end" = ok ] || failed+=" $script"
+done
+for log in $logs/*.log; do
+  sed -n '/\<\(NOT\|NOTHING\)\>/s/^/-- left out: /p' "$log"
 done
 [ -z "$failed" ] || { echo "tests/run.sh: failed or not run:$failed" >&2; exit 1; }

@@ -9,9 +9,11 @@
 
     --parallelism P            P of the job, 8 unless given
 
-The same words always give the same job.
+The same words always give the same job. The exit status is 2 where a word is wrong or the job cannot be
+written.
 """
 import argparse
+import os
 import sys
 
 STATE, RATE, SPONGES = 12, 8, 16
@@ -92,7 +94,7 @@ KINDS = {"poseidon": poseidon, "chain": chain, "wide": wide, "backwards": backwa
 
 
 def positive(word):
-    if not word.isdigit() or int(word) == 0:
+    if not (word.isascii() and word.isdigit()) or int(word) == 0:
         raise argparse.ArgumentTypeError("a number from 1 on")
     return int(word)
 
@@ -103,12 +105,21 @@ def main():
     parser.add_argument("count", type=positive, metavar="N")
     parser.add_argument("--parallelism", type=positive, default=8, metavar="P")
     options = parser.parse_args()
+    if sys.stdout is None:
+        return "circuit.py: standard output is closed"
     try:
         sys.stdout.write(KINDS[options.kind](options.count).text(options.parallelism))
         sys.stdout.flush()
-    except BrokenPipeError:
-        sys.stderr.close()
+    except OSError as error:
+        # Python would try again at its end.
+        os.dup2(os.open(os.devnull, os.O_WRONLY), sys.stdout.fileno())
+        if not isinstance(error, BrokenPipeError):
+            return f"circuit.py: the job cannot be written: {error}"
+    return None
 
 
 if __name__ == "__main__":
-    main()
+    failure = main()
+    if failure:
+        print(failure, file=sys.stderr)
+        sys.exit(2)

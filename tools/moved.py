@@ -1,8 +1,9 @@
 #!/usr/bin/env python3
-"""What moved and what stayed between two commits: the table of a change's page in docs/changes.
+"""Host code, not proved: what moved and what stayed between two commits, for a change's page in docs/changes.
 
     tools/moved.py BEFORE [AFTER]         two commits (AFTER: HEAD); a table, then the names
-    tools/moved.py --times BEFORE AFTER   two logs of .ci/run: the seconds of each crate that differs
+    tools/moved.py --times BEFORE AFTER   two logs of .ci/run: the seconds of each crate that differs,
+                                          of all crates and of all steps of the gate
 
 Counted are:
     definition      a record, data, abbrev or unfoldable in specs/, and everything in crates/rules
@@ -14,6 +15,7 @@ Counted are:
 What only went to another file of its crate, or stands under other comments, has stayed.
 """
 import io
+import os
 import re
 import subprocess
 import sys
@@ -158,33 +160,37 @@ def compare(before, after):
 
 
 def seconds(path):
-    """The seconds of each crate that a log names."""
+    """The seconds of each crate that a log names; and those of all steps, or None where it names none."""
     try:
         with open(path, encoding="utf-8", errors="replace") as log:
-            found = re.findall(r"(?m)^rt: (\w+) proved \((\d+) s\)", log.read())
+            text = log.read()
     except OSError as error:
         sys.exit(f"moved: {error}")
+    found = re.findall(r"(?m)^rt: (\w+) proved \((\d+) s\)", text)
     if not found:
         sys.exit(f"moved: {path} names no proved crate")
-    return {crate: int(count) for crate, count in found}
+    steps = re.findall(r"(?m)^   \S.*: ok, (\d+) s$", text)
+    return {crate: int(count) for crate, count in found}, sum(map(int, steps)) if steps else None
 
 
 def times(before, after):
-    old, new = seconds(before), seconds(after)
+    (old, old_gate), (new, new_gate) = seconds(before), seconds(after)
     print("| crate | before, s | after, s |")
     print("|---|---:|---:|")
     for crate in dict.fromkeys([*old, *new]):
         if crate not in old or crate not in new or abs(old[crate] - new[crate]) > 1:
             print(f"| {crate} | {old.get(crate, '–')} | {new.get(crate, '–')} |")
     print(f"| all | {sum(old.values())} | {sum(new.values())} |")
+    print(f"| gate | {'–' if old_gate is None else old_gate} | {'–' if new_gate is None else new_gate} |")
 
 
 def main(words):
-    if words[:1] == ["--help"]:
+    options = [word for word in words if word.startswith("-")]
+    if words == ["--help"]:
         print(__doc__.strip())
-    elif words[:1] == ["--times"] and len(words) == 3:
+    elif words[:1] == options == ["--times"] and len(words) == 3:
         times(*words[1:])
-    elif len(words) in (1, 2) and not words[0].startswith("-"):
+    elif len(words) in (1, 2) and not options:
         compare(words[0], words[1] if len(words) > 1 else "HEAD")
     else:
         print(__doc__.strip(), file=sys.stderr)
@@ -192,8 +198,19 @@ def main(words):
     return 0
 
 
-if __name__ == "__main__":
+def guarded(words):
+    """The same, where what is printed may be lost: that is said, unless the reader has gone."""
+    if sys.stdout is None:
+        sys.exit("moved: standard output is closed")
     try:
-        sys.exit(main(sys.argv[1:]))
-    except BrokenPipeError:
-        sys.stderr.close()
+        status = main(words)
+        sys.stdout.flush()
+        return status
+    except OSError as error:
+        # Python would try again at its end.
+        os.dup2(os.open(os.devnull, os.O_WRONLY), sys.stdout.fileno())
+        return 0 if isinstance(error, BrokenPipeError) else f"moved: {error}"
+
+
+if __name__ == "__main__":
+    sys.exit(guarded(sys.argv[1:]))

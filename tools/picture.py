@@ -10,9 +10,10 @@ An entry's bar covers the entries that may run together from it on: itself and i
 successors, stopping where the order stops. With the job, a dot in an entry's row stands under each
 entry that writes one of its inputs. An order of more than 200 entries is drawn as a curve instead:
 along the order the least and the greatest width of neighbouring entries, scaled; --entries draws a part
-of it as bars.
+of it as bars. The job goes with bars only.
 
-The exit status is 1 where the job was refused and 2 where there is no listing or an option is wrong.
+The exit status is 1 where the job was refused and 2 where there is no listing, an option is wrong or the
+drawing cannot be written.
 """
 import argparse
 import collections
@@ -21,6 +22,7 @@ import sys
 
 MOST_BARS = 200
 COLUMNS = 1000
+MARGIN = 100  # of a curve and of a histogram, for the marks' words
 LIGHT, DARK, DOT, GRID, MARK = "#9ecae1", "#3182bd", "#b3541e", "#dddddd", "#555555"
 
 Entry = collections.namedtuple("Entry", "index added width")
@@ -28,11 +30,15 @@ Listing = collections.namedtuple("Listing", "head entries")
 
 
 class Unreadable(Exception):
-    """What stands on standard input is no listing."""
+    """What is given can't be drawn."""
 
 
 class Refused(Exception):
     """It is the answer to a refused job."""
+
+
+def is_number(word):
+    return word.isascii() and word.isdigit() and len(word) <= 20
 
 
 def fields(line):
@@ -40,7 +46,7 @@ def fields(line):
     found = {}
     for word in line.split(" "):
         key, equals, number = word.partition("=")
-        if not equals or not number.isdigit():
+        if not equals or not is_number(number):
             raise Unreadable(f"no line of a listing: {line[:60]!r}")
         found[key] = int(number)
     return found
@@ -49,7 +55,7 @@ def fields(line):
 def listing_of(text):
     """The numbers of the head, and the entries; a field that is not needed here may stand beside them."""
     lines = [fields(line) for line in text.splitlines()]
-    if not lines or "status" not in lines[0]:
+    if not lines or "status" not in lines[0] or "order" in lines[0]:
         raise Unreadable("no listing on standard input")
     head = {}
     while lines and "order" not in lines[0]:
@@ -57,9 +63,13 @@ def listing_of(text):
     if head["status"] != 0:
         raise Refused(f"the job is refused: status={head['status']}, line={head.get('line', '?')}; docs/JOB.md says why")
     try:
-        return Listing(head, [Entry(line["order"], line["added"], line["parallelism"]) for line in lines])
+        entries = [Entry(line["order"], line["added"], line["parallelism"]) for line in lines]
     except KeyError as missing:
         raise Unreadable(f"an entry's line has no {missing}") from None
+    for index, entry in enumerate(entries):
+        if entry.index != index:
+            raise Unreadable(f"entry {entry.index} stands where entry {index} is expected")
+    return Listing(head, entries)
 
 
 def writers_read(entries, job):
@@ -71,7 +81,7 @@ def writers_read(entries, job):
             lists[key].append(numbers.split(",") if numbers else [])
     writer, pairs = {}, []
     for entry in entries:
-        if entry.added >= len(lists["out"]):
+        if entry.added >= min(len(lists["in"]), len(lists["out"])):
             raise Unreadable("the listing is not of this job: it has fewer registrations")
         writer.update((place, entry.index) for place in lists["out"][entry.added])
     for entry in entries:
@@ -105,7 +115,7 @@ def profile(entries, columns):
 
 
 def curve_as_text(entries):
-    most = max(entry.width for entry in entries)
+    most = max(1, max(entry.width for entry in entries))
     out = [f"from entry   widths (# to the least, + to the greatest; a full bar is {most})"]
     for index, least, greatest in profile(entries, 40):
         low, high = 60 * least // most, 60 * greatest // most
@@ -162,9 +172,14 @@ def bars_as_svg(entries, count, reads):
     return svg(left + rows * cell + 10, top + rows * cell + 10, out)
 
 
+def marks_up_to(most, head):
+    """The words of the head that mark a width within the drawing."""
+    return [word for word in ("floor", "median") if word in head and head[word] <= most]
+
+
 def curve_as_svg(entries, head):
-    left, top, width, height = 60, 30, 1000, 220
-    most = max(entry.width for entry in entries)
+    left, top, width, height = MARGIN, 30, 1000, 220
+    most = max(1, max(entry.width for entry in entries))
     parts = list(profile(entries, COLUMNS))
     step, scale = width / len(parts), height / most
     out = [label(left, top - 12, f"{len(entries)} entries: the least (dark) and the greatest width along the order")]
@@ -174,16 +189,15 @@ def curve_as_svg(entries, head):
         out.append(box(x, top + height - least * scale, step + 0.3, least * scale, DARK))
     for tenth in range(0, 11, 2):
         out.append(label(left + width * tenth / 10, top + height + 16, entries[(len(entries) - 1) * tenth // 10].index, "middle"))
-    for word in ("floor", "median"):
-        if word in head:
-            y = top + height - head[word] * scale
-            out += [rule(left, y, left + width, y, MARK), label(left - 6, y + 4, f"{word} {head[word]}", "end")]
+    for word in marks_up_to(most, head):
+        y = top + height - head[word] * scale
+        out += [rule(left, y, left + width, y, MARK), label(left - 6, y + 4, f"{word} {head[word]}", "end")]
     out.append(label(left - 6, top + 4, most, "end"))
     return svg(left + width + 30, top + height + 30, out)
 
 
 def histogram_as_svg(entries, head):
-    left, top, width, height = 60, 30, 1000, 220
+    left, top, width, height = MARGIN, 30, 1000, 220
     counts = collections.Counter(entry.width for entry in entries)
     widest, most = max(counts, default=1), max(counts.values(), default=1)
     step = width / (widest + 1)
@@ -193,20 +207,24 @@ def histogram_as_svg(entries, head):
         out.append(box(left + value * step, top + height - tall, max(step - 1, 0.5), tall, DARK))
     for value in sorted({0, widest} | {widest * fourth // 4 for fourth in (1, 2, 3)}):
         out.append(label(left + (value + 0.5) * step, top + height + 16, value, "middle"))
-    for row, word in enumerate(("floor", "median")):
-        if word in head:
-            x = left + (head[word] + 0.5) * step
-            out += [rule(x, top, x, top + height, DOT), label(x + 4, top + 12 + 14 * row, f"{word} {head[word]}")]
+    for row, word in enumerate(marks_up_to(widest, head)):
+        x = left + (head[word] + 0.5) * step
+        out += [rule(x, top, x, top + height, DOT), label(x + 4, top + 12 + 14 * row, f"{word} {head[word]}")]
     return svg(left + width + 30, top + height + 30, out)
 
 
 def drawing(listing, options, job):
     entries, count = listing.entries, len(listing.entries)
     if options.entries:
-        entries = [entry for entry in entries if options.entries[0] <= entry.index <= options.entries[1]]
+        first, last = options.entries
+        entries = entries[first : last + 1]
+        if not entries:
+            raise Unreadable(f"no entry is from {first} to {last}: the order has {count}")
     if options.histogram:
         return (histogram_as_svg if options.svg else histogram_as_text)(entries, listing.head)
     if len(entries) > MOST_BARS:
+        if job is not None:
+            raise Unreadable(f"the job's file goes with at most {MOST_BARS} entries, and these are {len(entries)}: choose some by --entries")
         return curve_as_svg(entries, listing.head) if options.svg else curve_as_text(entries)
     if options.svg:
         return bars_as_svg(entries, count, writers_read(listing.entries, job) if job is not None else [])
@@ -215,9 +233,21 @@ def drawing(listing, options, job):
 
 def part(words):
     first, dash, last = words.partition("-")
-    if not (first.isdigit() and dash and last.isdigit() and int(first) <= int(last)):
+    if not (is_number(first) and dash and is_number(last) and int(first) <= int(last)):
         raise argparse.ArgumentTypeError("two order indexes, the lower first, as 400-450")
     return int(first), int(last)
+
+
+def write(drawn):
+    """Prints the drawing; the exit status. A reader that has closed is no failure."""
+    try:
+        print("\n".join(drawn), flush=True)
+    except OSError as error:
+        # Python would try again at its end.
+        os.dup2(os.open(os.devnull, os.O_WRONLY), sys.stdout.fileno())
+        if not isinstance(error, BrokenPipeError):
+            raise
+    return 0
 
 
 def main():
@@ -227,26 +257,22 @@ def main():
     parser.add_argument("--entries", type=part, metavar="A-B", help="only the entries A to B, by order index")
     parser.add_argument("job", nargs="?", metavar="JOB", help="the job's file, for what each entry reads (with --svg)")
     options = parser.parse_args()
-    if options.job and not options.svg:
-        parser.error("the job's file goes with --svg")
+    if options.job is not None and (options.histogram or not options.svg):
+        parser.error("the job's file goes with --svg and without --histogram")
     try:
         job = None
-        if options.job:
+        if options.job is not None:
             with open(options.job, encoding="utf-8") as text:
                 job = text.read()
-        drawn = drawing(listing_of(sys.stdin.read()), options, job)
-        print("\n".join(drawn), flush=True)
-    except BrokenPipeError:
-        # The reader closed; nothing is left to say, and Python must not try again at its end.
-        os.dup2(os.open(os.devnull, os.O_WRONLY), sys.stdout.fileno())
-        return 0
+        if sys.stdin is None or sys.stdout is None:
+            raise Unreadable(f"standard {'input' if sys.stdin is None else 'output'} is closed")
+        return write(drawing(listing_of(sys.stdin.read()), options, job))
     except Refused as refused:
         print(f"picture.py: {refused}", file=sys.stderr)
         return 1
     except (Unreadable, OSError, UnicodeDecodeError) as error:
         print(f"picture.py: {error}", file=sys.stderr)
         return 2
-    return 0
 
 
 if __name__ == "__main__":

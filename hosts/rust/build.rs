@@ -1,7 +1,7 @@
 //! Host code, not proved: finds the proved archives, or has them built, and links them.
 //!
 //! They are looked for in the folder that ORDER_LIBS names (an absolute path), else in target/staticlib
-//! of the repository; those missing there are built by `rt staticlib` where the toolchain is at hand.
+//! of the repository, where `tools/archives` builds those that are missing or older than a crate.
 
 use std::path::{Path, PathBuf};
 use std::process::{exit, Command, Output};
@@ -22,7 +22,7 @@ fn main() {
     let missing = missing(&folder);
     if !missing.is_empty() {
         fail(&format!(
-            "no {} in {}: build them by `rt staticlib NAME` for each crate, or name their folder in ORDER_LIBS",
+            "no {} in {}: build them by tools/archives, or name their folder in ORDER_LIBS",
             missing.join(", "),
             folder.display()
         ));
@@ -60,29 +60,20 @@ fn missing(folder: &Path) -> Vec<String> {
     absent.map(|name| format!("lib{name}.a")).collect()
 }
 
-/// target/staticlib of the repository, with the missing archives built where that can be done.
+/// target/staticlib of the repository, where tools/archives has brought the archives up to date.
 fn built(root: &Path) -> PathBuf {
-    let folder = root.join("target/staticlib");
-    for name in CRATES {
-        if archive(&folder, name).is_file() {
-            continue;
+    let script = root.join("tools/archives");
+    if script.is_file() {
+        for source in ["crates", "crates.txt"] {
+            println!("cargo:rerun-if-changed={}", root.join(source).display());
         }
-        match Command::new("rt")
-            .arg("staticlib")
-            .arg(name)
-            .current_dir(root)
-            .output()
-        {
+        match Command::new(&script).args(CRATES).output() {
             Ok(done) if done.status.success() => {}
-            Ok(done) => fail(&format!(
-                "`rt staticlib {name}` failed:\n{}",
-                last_lines(&done)
-            )),
-            // No toolchain: what is missing is said by the caller.
-            Err(_) => break,
+            Ok(done) => fail(&last_lines(&done)),
+            Err(error) => fail(&format!("tools/archives cannot be run: {error}")),
         }
     }
-    folder
+    root.join("target/staticlib")
 }
 
 /// The last lines that a command said.

@@ -12,9 +12,13 @@ for job in examples/*.job examples/refused/*.job; do
   $order <"$job" | diff "${job%.job}.listing" - || { echo "tests/examples: $job has another listing" >&2; failed=1; }
 done
 
+generated=0
 while read -r name command; do
+  generated=$((generated + 1))
   $command | diff "examples/$name" - >/dev/null || { echo "tests/examples: $name is not what '$command' writes" >&2; failed=1; }
 done < <(sed -n 's/^| \[\([a-z]*\.job\)\].*| `\(tools[^`]*\)` |$/\1 \2/p' examples/README.md)
+
+[ $generated -eq "$(ls examples/*.job | wc -l)" ] || { echo "tests/examples: README says of $generated jobs only how they are made" >&2; failed=1; }
 
 told=0
 while IFS='|' read -r name status line; do
@@ -25,11 +29,20 @@ done < <(sed -n 's/^| \[\([a-z-]*\)\](refused.*| status=\([0-9]*\), line=\([0-9]
 [ "$told" -eq "$(ls examples/refused/*.job | wc -l)" ] || { echo "tests/examples: README leaves out a refused job" >&2; failed=1; }
 [ $failed = 0 ] || exit 1
 
-for words in 'poseidon' 'poseidon 0' 'tower 3' 'chain 4 --parallelism x'; do
+for words in 'poseidon' 'poseidon 0' 'tower 3' 'chain 4 --parallelism x' 'chain ³'; do
   status=0
   # shellcheck disable=SC2086
   tools/circuit.py $words >/dev/null 2>&1 || status=$?
   [ $status = 2 ] || { echo "tests/examples: circuit.py takes '$words'" >&2; exit 1; }
 done
 tools/circuit.py wide 100000 2>&1 | head -n 1 | grep -qx 'parallelism=8' || { echo "tests/examples: circuit.py minds a closed pipe" >&2; exit 1; }
-echo "examples: $count jobs with their listings, $told answers told, 4 misuses refused"
+
+# A job that can't be written: a sentence and status 2.
+lost() { # SENTENCE REDIRECTION
+  local status=0 said
+  said=$(bash -c "tools/circuit.py wide 10 $2" 2>&1) || status=$?
+  [ $status = 2 ] && [ "$said" = "circuit.py: $1" ] || { echo "tests/examples: circuit.py $2: status $status, $said" >&2; exit 1; }
+}
+lost 'standard output is closed' '>&-'
+lost 'the job cannot be written: [Errno 28] No space left on device' '>/dev/full'
+echo "examples: $count jobs with their listings, $generated of them generated, $told answers told, 5 misuses refused, 2 lost jobs said"

@@ -28,6 +28,24 @@ tools/install "$prefix" >"$work/install.log" || fail "tools/install over an inst
 [ -z "$(find "$prefix" -name '.order-install*')" ] || fail "tools/install leaves its folder behind"
 echo "hosts: installed twice, $((SECONDS - slow)) s: $(head -n 1 "$work/install.log" | cut -d' ' -f2-5)"
 
+# The archives' own command: what it can't do it says.
+refuses 1 "no crate nosuch" tools/archives nosuch
+refuses 2 "unknown option --force" tools/archives --force
+refuses 2 "unknown option -x" tools/archives host -x
+tools/archives --help | grep -q 'NAME..' || fail "tools/archives --help"
+# A source edited while the archive is made is newer than it: by a toolchain that edits one, in a copy.
+toy=$work/toy
+mkdir -p "$toy"/{tools,bin,crates/toy/src} && cp tools/archives "$toy/tools/" && touch "$toy/crates.txt"
+echo 'pub extern "C" fn toy() {}' >"$toy/crates/toy/src/lib.rt"
+printf '%s\n' '#!/bin/bash' 'echo made >>made; sleep 0.1; [ -f edited ] || touch edited crates/toy/src/lib.rt' \
+  'sleep 0.1; echo archive >target/staticlib/libtoy.a' >"$toy/bin/rt"
+chmod +x "$toy/bin/rt"
+for expected in 1 2 2; do
+  PATH=$toy/bin:$PATH "$toy/tools/archives" || fail "tools/archives in a copy"
+  [ "$(wc -l <"$toy/made")" = $expected ] || fail "tools/archives made the archive $(wc -l <"$toy/made") times, not $expected"
+done
+echo "hosts: tools/archives: a source edited meanwhile is seen, three misuses refused"
+
 # The refusals: the lists are those of the source, and the comparison finds what it must.
 tools/refusals.py --check
 copy=$work/copy
@@ -204,6 +222,13 @@ diff crates/order/stdout <(ulimit -Ss 300; "$command" crates/order/stdin) || fai
 "$command" crates/order/stdin | "$prefix/bin/order-picture" >/dev/null || fail "order-picture"
 diff crates/order/stdout <("$prefix/bin/order-large" crates/order/stdin) || fail "order-large as installed"
 [ "$("$prefix/bin/order-large" --version)" = "order-large $(cat VERSION)" ] || fail "order-large --version"
+# The module for Python, as installed: J1 by the installed library.
+diff <(cat crates/order/stdout && echo "$prefix/lib/liborder.so") <(
+  env -u ORDER_LIBS PYTHONDONTWRITEBYTECODE=1 PYTHONPATH="$prefix/share/order/python" python3 -c '
+import sys, witness_order, witness_order.libraries
+print(witness_order.run_job(sys.stdin.read()), end="")
+print(witness_order.libraries.path())' <crates/order/stdin) || fail "the module for Python as installed"
+echo "hosts: the module for Python as installed: J1"
 echo "hosts: order-job: listings as the program prints them, refusals and failures in words with their status"
 
 python3 .ci/transcripts.py docs/JOB.md docs/HOSTS.md

@@ -64,16 +64,34 @@ wrong program, gone: toy: thrice.edit
 TEXT
 "$tool" HEAD~1 HEAD | diff expected - || { echo "tests/moved: the table differs" >&2; exit 1; }
 
-printf 'rt: a proved (3 s)\nrt: b proved (4 s)\n' >before.log
-printf 'rt: a proved (9 s)\nrt: b proved (4 s)\n' >after.log
-printf '%s\n' '| crate | before, s | after, s |' '|---|---:|---:|' '| a | 3 | 9 |' '| all | 7 | 13 |' |
-  diff - <("$tool" --times before.log after.log) || { echo "tests/moved: the times differ" >&2; exit 1; }
+# The logs as .ci/run writes them; one that ends before its first step has no time for the gate.
+printf '%s\n' '== links' '   links: ok, 1 s' '== proofs' 'rt: a proved (3 s)' 'rt: b proved (4 s)' '   proofs (log): ok, 8 s' >before.log
+printf '%s\n' '== links' '   links: ok, 0 s' '== proofs' 'rt: a proved (9 s)' 'rt: b proved (4 s)' '   proofs (log): ok, 14 s' >after.log
+printf '%s\n' 'rt: a proved (9 s)' 'rt: b proved (4 s)' >short.log
+times() { # LOG GATE
+  printf '%s\n' '| crate | before, s | after, s |' '|---|---:|---:|' '| a | 3 | 9 |' '| all | 7 | 13 |' "| gate | 9 | $2 |" |
+    diff - <("$tool" --times before.log "$1") || { echo "tests/moved: the times of $1 differ" >&2; exit 1; }
+}
+times after.log 14
+times short.log –
 
-for words in 'no-such-commit' '--times before.log no-such.log' '--times expected after.log' '' '--what'; do
+for words in 'no-such-commit' '--times before.log no-such.log' '--times expected after.log' '' '--what' \
+  'HEAD~1 --times' 'HEAD -v' '--times before.log -v' '--help HEAD'; do
   status=0
   # shellcheck disable=SC2086
   "$tool" $words >out 2>err || status=$?
   [ $status -ne 0 ] && [ -s err ] && [ ! -s out ] || { echo "tests/moved: '$words' is not refused" >&2; exit 1; }
 done
 "$tool" --help | grep -q 'BEFORE' || { echo "tests/moved: no help" >&2; exit 1; }
-echo "tests/moved: a table, times and 5 refusals as expected"
+
+# What cannot be printed is said, and a reader that goes is not.
+lost() { # STATUS SENTENCE REDIRECTION
+  local status=0 said
+  said=$(bash -o pipefail -c "'$tool' HEAD~1 HEAD $3" 2>&1) || status=$?
+  [ $status = "$1" ] && [ "$said" = "$2" ] || { echo "tests/moved: '$3': status $status, $said" >&2; exit 1; }
+}
+lost 1 'moved: standard output is closed' '>&-'
+lost 1 'moved: [Errno 28] No space left on device' '>/dev/full'
+lost 0 '' '| exec sleep 0'
+sed -n 2p "$tool" | grep -q 'Host code, not proved' || { echo "tests/moved: the tool does not say that it is host code" >&2; exit 1; }
+echo "tests/moved: a table, times, 9 refusals and 3 lost tables as expected"

@@ -1,6 +1,6 @@
 #!/bin/bash
 # The pictures of docs/GUARANTEE.md are what their commands draw, and tools/picture.py says plainly what
-# it can't draw. Needs target/bin/order, which the proofs' step builds.
+# it can't draw. Needs target/bin/order, which the proofs' step builds; order-large is built if it is missing.
 set -euo pipefail
 cd "$(dirname "$0")/../.."
 
@@ -12,10 +12,21 @@ $order <docs/example.job | tools/picture.py --svg docs/example.job | diff docs/e
 drawn=$($order <crates/order/stdin | tools/picture.py)
 [[ $(<docs/GUARANTEE.md) == *"$drawn"* ]] || fail "docs/GUARANTEE.md has another picture of J1"
 
+# The larger one: its commands, with the pictures in another folder.
+large=target/cargo/release/order-large
+[ -x $large ] || cargo build --release --offline --quiet --manifest-path hosts/rust/Cargo.toml || fail "order-large cannot be built"
+mkdir -p target/picture
+commands=$(awk '/^## / { larger = /^## A larger one/ } larger && /^```/ { code = !code; next } larger && code' docs/GUARANTEE.md)
+[ "$(grep -c . <<<"$commands")" = 4 ] || fail "docs/GUARANTEE.md has not four commands for the larger one"
+bash -e -o pipefail -c "${commands//>docs\//>target/picture/}" || fail "the commands for the larger one"
+for picture in poseidon.svg poseidon-widths.svg; do
+  cmp docs/$picture target/picture/$picture || fail "docs/$picture is not what its command draws"
+done
+
 # Every drawing is whole: SVG that a parser takes, the marks in the histogram, the entries asked for.
 well_formed() { python3 -c 'import sys, xml.dom.minidom as m; m.parseString(sys.stdin.read())'; }
 listing=examples/poseidon.listing
-for words in --svg '--svg --histogram' '--svg --entries 10-20' '--svg examples/poseidon.job'; do
+for words in --svg '--svg --histogram' '--svg --entries 10-20' '--svg examples/poseidon.job' '--svg --entries 10-9999'; do
   # shellcheck disable=SC2086
   tools/picture.py $words <$listing | well_formed || fail "'$words' draws no SVG"
 done
@@ -34,6 +45,16 @@ tools/picture.py --svg <"$long/listing" | well_formed || fail "no SVG of a long 
 tools/picture.py --entries 4000-4199 <"$long/listing" 2>"$long/err" | head -n 1 >/dev/null
 [ ! -s "$long/err" ] || fail "a reader that closes is not taken quietly"
 
+# Widths of 0, which no order has, and marks outside of the drawing.
+{ printf 'status=0\nfloor=9\nmedian=0\n'
+  seq 0 299 | awk '{ printf "order=%d added=%d accepted=0 parallelism=0 written=0\n", $1, $1 }'; } >"$long/zeros"
+for words in '' --svg --histogram '--svg --histogram'; do
+  # shellcheck disable=SC2086
+  tools/picture.py $words <"$long/zeros" >"$long/drawn" || fail "'$words' can't draw widths of 0"
+  ! grep -q 'floor' "$long/drawn" || fail "'$words' marks a floor outside of the drawing"
+done
+tools/picture.py --svg <"$long/zeros" | grep -q 'median 0' || fail "no median within the drawing"
+
 # What can't be drawn: status 1 for a refused job, 2 for anything else, a sentence, and no picture.
 refused() { # STATUS WORDS.. <LISTING
   local expected=$1 status=0
@@ -50,5 +71,26 @@ refused 2 --svg examples/refused/no-final.job <$listing
 refused 2 --entries 9-3 <$listing
 refused 2 examples/poseidon.job <$listing
 refused 2 --colour <$listing
+refused 2 --entries 200-300 <$listing
+grep -q 'no entry is from 200 to 300' "$long/err" || fail "an empty part is not told"
+refused 2 --entries ²-³ <$listing
+refused 2 <<<'status=²'
+refused 2 <<<'order=0 status=0'
+refused 2 < <(printf 'status=0\norder=7 added=0 parallelism=1\n')
+refused 2 < <(printf 'status=0\norder=%05000d added=0 parallelism=1\n' 0)
+printf 'out=%d\n' $(seq 0 200) >"$long/outs.job"
+refused 2 --svg "$long/outs.job" <$listing
+refused 2 --svg --histogram examples/poseidon.job <$listing
+refused 2 --svg "$long/outs.job" <"$long/listing"
+grep -q 'at most 200 entries' "$long/err" || fail "a job with a curve is not told"
+refused 2 <&-
+grep -q 'standard input is closed' "$long/err" || fail "a closed standard input is not told"
+lost() { # SENTENCE REDIRECTION
+  local status=0
+  bash -c "tools/picture.py <$listing $2" 2>"$long/err" || status=$?
+  [ $status = 2 ] && [ "$(cat "$long/err")" = "picture.py: $1" ] || { cat "$long/err" >&2; fail "'$2' is not told"; }
+}
+lost 'standard output is closed' '>&-'
+lost '[Errno 28] No space left on device' '>/dev/full'
 tools/picture.py --help | grep -q histogram || fail "no help"
-echo "picture: those of docs/GUARANTEE.md are what their commands draw; 9 drawings and 8 refusals as expected"
+echo "picture: those of docs/GUARANTEE.md are what their commands draw; 14 drawings and 20 refusals as expected"

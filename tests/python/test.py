@@ -1,8 +1,10 @@
 """The Python module against the proved libraries: J1, lists of calls beside jobs, refusals, bad arguments."""
 import os
 import random
+import shutil
 import subprocess
 import sys
+import tempfile
 import unittest
 
 ROOT = os.path.dirname(os.path.dirname(os.path.dirname(os.path.abspath(__file__))))
@@ -61,6 +63,7 @@ class Jobs(unittest.TestCase):
                 self.assertEqual(refused.exception.refusal, int(expected["status"]), name)
                 self.assertEqual(refused.exception.line, int(expected["line"]), name)
                 self.assertIn(str(refused.exception.refusal), str(refused.exception))
+                self.assertTrue(str(refused.exception).endswith(f" (number {expected['status']})"), refused.exception)
 
     def test_room(self):
         text = read("crates", "order", "stdout")
@@ -71,6 +74,14 @@ class Jobs(unittest.TestCase):
         with self.assertRaises(order.Rejected) as refused:
             order.run_job(b"#" * 65_537)
         self.assertEqual(refused.exception.refusal, order.Refusal.LONG_JOB)
+
+    def test_bad_arguments(self):
+        self.assertEqual(order.run_job(bytearray(read("crates", "order", "stdin").encode())).head["median"], 2)
+        for bad in (5, None, [1, 2], 10**12, memoryview(b"x")):
+            self.assertRaisesRegex(TypeError, "a job is text or bytes", order.run_job, bad)
+        for bad in (-1, 1.5, 2**64):
+            self.assertRaisesRegex(ValueError, "is no 64-bit number", order.run_job, "", bad)
+        self.assertRaisesRegex(MemoryError, "no memory for", order.run_job, "", 2**63)
 
 
 class Lists(unittest.TestCase):
@@ -118,6 +129,7 @@ class Lists(unittest.TestCase):
             with self.assertRaises(order.Rejected) as refused:
                 order.replay(parallelism, places, order.Calls())
             self.assertEqual(refused.exception.refusal, order.Refusal.OUT_OF_RANGE)
+            self.assertTrue(str(refused.exception).endswith(" (number 1)"), refused.exception)
 
     def test_bad_arguments(self):
         for bad in (-1, 2**64, 1.5, "1", None):
@@ -126,6 +138,9 @@ class Lists(unittest.TestCase):
             if bad is not None:
                 self.assertRaises(ValueError, order.replay, 1, 1, order.Calls(), pool=bad)
             self.assertRaises(ValueError, order.replay, bad, 1, order.Calls())
+        self.assertRaisesRegex(ValueError, "'x' is no 64-bit number", order.replay, 1, "x", order.Calls())
+        for pool in (2**62, 2**63, 2**64 - 1):
+            self.assertRaisesRegex(MemoryError, f"no memory for {pool} numbers of 4 bytes", order.replay, 1, 1, order.Calls(), pool=pool)
         result = order.replay(1, 1, order.Calls())
         for bad in (-1, 1):
             self.assertRaises(IndexError, result.row, bad)
@@ -143,10 +158,30 @@ class Lists(unittest.TestCase):
 
 class Libraries(unittest.TestCase):
     def test_missing(self):
+        self.assertIn("missing: no liborder.so in /nonexistent", self.said(os.path.join(ROOT, "hosts", "python"), "/nonexistent"))
+
+    def said(self, folder, libraries=""):
+        """What the module in the folder says of its library."""
         script = "import witness_order as w\ntry: w.run_job('')\nexcept w.LibraryMissing as e: print('missing:', e)"
-        environment = dict(os.environ, ORDER_LIBS="/nonexistent", PYTHONPATH=os.path.join(ROOT, "hosts", "python"))
-        said = subprocess.run([sys.executable, "-c", script], env=environment, capture_output=True, text=True, check=True)
-        self.assertIn("missing: no liborder.so in /nonexistent", said.stdout)
+        environment = dict(os.environ, ORDER_LIBS=libraries, PYTHONPATH=folder)
+        return subprocess.run([sys.executable, "-c", script], env=environment, capture_output=True, text=True, check=True).stdout
+
+    def test_repository_first(self):
+        """A repository in a folder with a lib/ beside it, without archives and with one that does not link."""
+        with tempfile.TemporaryDirectory() as above:
+            repository = os.path.join(above, "repository")
+            module = os.path.join(repository, "hosts", "python")
+            shutil.copytree(os.path.join(ROOT, "hosts", "python"), module, ignore=shutil.ignore_patterns("__pycache__"))
+            archives = os.path.join(repository, "target", "staticlib")
+            for name in (os.path.join(above, "lib", "liborder.so"), os.path.join(repository, "crates.txt")):
+                os.makedirs(os.path.dirname(name), exist_ok=True)
+                with open(name, "w", encoding="ascii") as file:
+                    file.write("no library\n")
+            self.assertIn(f"missing: no archives in {archives}: run tools/archives first", self.said(module))
+            os.makedirs(archives)
+            with open(os.path.join(archives, "libhost.a"), "w", encoding="ascii") as file:
+                file.write("no archive\n")
+            self.assertRegex(self.said(module), "missing: .*liborder.so cannot be linked from the archives: .")
 
 
 if __name__ == "__main__":

@@ -14,8 +14,8 @@ A job or a list of calls that is refused as a whole raises `Rejected`, with the 
 for a job, the line. A call refused within a list raises nothing: `numbers` has its number, and it has
 changed nothing. The formats stand in docs/JOB.md and docs/REPLAY.md.
 
-The shared library is looked for in the folder that ORDER_LIBS names, where tools/install puts it, and
-in the repository, where it is linked from the archives that tools/archives builds.
+The shared library is that in the folder that ORDER_LIBS names; else, in the repository, it is linked from
+the archives that tools/archives builds; else it is where tools/install puts it.
 """
 from .layout import Entry, Figures, Row
 from .libraries import LibraryMissing

@@ -2,7 +2,7 @@
 import ctypes
 
 from . import layout
-from .libraries import function, lent
+from .libraries import as_arguments, function
 from .refusals import Refusal
 
 SET, ADD, FLUSH, FINAL = 1, 2, 3, 4
@@ -16,15 +16,15 @@ class Rejected(Exception):
         self.refusal = Refusal(number)
         self.line = line
         where = "" if line is None else f"line {line}: "
-        super().__init__(f"{where}{self.refusal} (number {number})")
+        super().__init__(f"{where}{self.refusal} (number {self.refusal.value})")
 
 
 def numbers_of(values):
-    """A list of places as 64-bit numbers."""
+    """Numbers of 64 bits, as a list."""
     found = list(values)
     for value in found:
         if not isinstance(value, int) or not 0 <= value <= MOST:
-            raise ValueError(f"{value!r} is no 64-bit place")
+            raise ValueError(f"{value!r} is no 64-bit number")
     return found
 
 
@@ -87,7 +87,7 @@ class Replayed:
     def summary(self):
         """The average, the median, the counts for 0 to 127 and the 65 sums of thousands."""
         numbers = (ctypes.c_uint32 * layout.SUMMARY_NUMBERS)()
-        refused = function("order_summary")(*lent(self.storage["tally"], numbers))
+        refused = function("order_summary")(*as_arguments(self.storage["tally"], numbers))
         if refused:
             raise Rejected(refused)
         return layout.figures_of(numbers)
@@ -97,14 +97,14 @@ def replay(parallelism, places, calls, pool=None):
     """Runs a list of calls on a fresh session. The pool has room for all lists of the calls unless given.
 
     Raises Rejected where the parallelism or the count of places is out of range, and MemoryError where
-    there is no memory for so many places."""
+    there is no memory for so many places or so large a pool."""
     parallelism, places, size = numbers_of([parallelism, places, calls.pooled if pool is None else pool])
     if not layout.in_range(parallelism, places):
         raise Rejected(Refusal.OUT_OF_RANGE)
     storage = layout.storage(parallelism, places, size)
-    answers = (ctypes.c_uint64 * calls.count)()
+    answers = layout.array(ctypes.c_uint64, calls.count)
     encoded = (ctypes.c_uint64 * len(calls.encoded))(*calls.encoded)
-    result = function("replay_calls")(*lent(*storage.values(), answers, encoded), parallelism, places)
+    result = function("replay_calls")(*as_arguments(*storage.values(), answers, encoded), parallelism, places)
     # An accepted list gives 64 times the order's length, a refused one its number, which is below 64.
     if 0 < result < 64:
         raise Rejected(result)

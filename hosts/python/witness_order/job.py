@@ -2,8 +2,9 @@
 import collections
 import ctypes
 
-from .calls import Rejected
-from .libraries import function, lent
+from .calls import Rejected, numbers_of
+from .layout import array
+from .libraries import as_arguments, function
 
 LISTING_BYTES = 65_536
 
@@ -31,10 +32,12 @@ class Listing:
 
 def run_job(job, room=LISTING_BYTES):
     """Runs a job, given as text or bytes, with so many bytes for its listing. Raises Rejected where it is refused."""
+    if not isinstance(job, (str, bytes, bytearray)):
+        raise TypeError(f"a job is text or bytes, and not {type(job).__name__}")
     data = job.encode() if isinstance(job, str) else bytes(job)
     text = (ctypes.c_uint8 * len(data)).from_buffer_copy(data) if data else (ctypes.c_uint8 * 0)()
-    listing = (ctypes.c_uint8 * room)()
-    result = function("order_job")(*lent(text, listing))
+    listing = array(ctypes.c_uint8, *numbers_of([room]))
+    result = function("order_job")(*as_arguments(text, listing))
     rest, number = divmod(result, 64)
     if number:
         raise Rejected(number, rest)

@@ -1,4 +1,4 @@
-"""How the libraries lay numbers out in lent storage; nothing else here knows these figures. (Host code: not proved.)
+"""How the libraries lay numbers out in storage; nothing else here knows these figures. (Host code: not proved.)
 
 docs/REPLAY.md has the same table."""
 import collections
@@ -24,17 +24,25 @@ def in_range(parallelism, places):
     return 1 <= parallelism <= MOST_PARALLELISM and 1 <= places <= MOST_PLACES
 
 
+def array(kind, count):
+    """So many numbers of a kind; MemoryError says how many there is no memory for."""
+    try:
+        return (kind * count)()
+    except (MemoryError, OverflowError):
+        raise MemoryError(f"no memory for {count} numbers of {ctypes.sizeof(kind)} bytes") from None
+
+
 def storage(parallelism, places, pool):
     """The slices that a session is lent, in the order of the call's arguments."""
     return {
-        "spans": (ctypes.c_uint32 * (ENTRY_NUMBERS * SPANS * (parallelism + 1)))(),
-        "order": (ctypes.c_uint32 * (ENTRY_NUMBERS * places))(),
-        "tally": (ctypes.c_uint32 * (parallelism + 1))(),
-        "rows": (ctypes.c_uint32 * (ROW_NUMBERS * places))(),
-        "marks": (ctypes.c_uint16 * places)(),
-        "locations": (ctypes.c_uint64 * places)(),
-        "waiting": (ctypes.c_uint64 * (WAITING_PER_PLACE * places))(),
-        "pool": (ctypes.c_uint32 * pool)(),
+        "spans": array(ctypes.c_uint32, ENTRY_NUMBERS * SPANS * (parallelism + 1)),
+        "order": array(ctypes.c_uint32, ENTRY_NUMBERS * places),
+        "tally": array(ctypes.c_uint32, parallelism + 1),
+        "rows": array(ctypes.c_uint32, ROW_NUMBERS * places),
+        "marks": array(ctypes.c_uint16, places),
+        "locations": array(ctypes.c_uint64, places),
+        "waiting": array(ctypes.c_uint64, WAITING_PER_PLACE * places),
+        "pool": array(ctypes.c_uint32, pool),
     }
 
 

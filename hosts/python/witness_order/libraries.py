@@ -39,28 +39,35 @@ def linked(root):
         if not compiler:
             raise LibraryMissing(f"no C compiler to link {library}")
         os.makedirs(os.path.dirname(library), exist_ok=True)
-        new = f"{library}.{os.getpid()}"
-        subprocess.run([compiler, "-shared", "-o", new, "-Wl,--whole-archive", *archives, "-Wl,--no-whole-archive"], check=True)
-        os.replace(new, library)
+        link(compiler, archives, library)
     return library
 
 
+def link(compiler, archives, library):
+    """Links the archives into a library, which takes the place of an older one when it is whole."""
+    new = f"{library}.{os.getpid()}"
+    words = [compiler, "-shared", "-o", new, "-Wl,--whole-archive", *archives, "-Wl,--no-whole-archive"]
+    done = subprocess.run(words, capture_output=True, text=True, errors="replace")
+    if done.returncode:
+        said = (done.stderr.strip().splitlines() or [f"status {done.returncode}"])[-1]
+        raise LibraryMissing(f"{library} cannot be linked from the archives: {said}")
+    os.replace(new, library)
+
+
 def path():
-    """Where the library is: in ORDER_LIBS, or as tools/install puts it, or in the repository."""
-    if "ORDER_LIBS" in os.environ:
-        folders = [os.environ["ORDER_LIBS"]]
-    else:
-        # PREFIX/share/order/python/witness_order
-        folders = [os.path.normpath(os.path.join(HERE, *[os.pardir] * 4, "lib"))]
-    for folder in folders:
-        if os.path.exists(os.path.join(folder, LIBRARY)):
-            return os.path.join(folder, LIBRARY)
+    """Where the library is: in ORDER_LIBS, or in the repository, or as tools/install puts it."""
+    # hosts/python/witness_order of the repository, or PREFIX/share/order/python/witness_order
     root = os.path.normpath(os.path.join(HERE, *[os.pardir] * 3))
-    found = None
-    if "ORDER_LIBS" not in os.environ and os.path.exists(os.path.join(root, "crates.txt")):
+    prefix = os.path.normpath(os.path.join(HERE, *[os.pardir] * 4))
+    named = os.environ.get("ORDER_LIBS")
+    if not named and os.path.exists(os.path.join(root, "crates.txt")):
         found = linked(root)
-    if not found:
-        raise LibraryMissing(f"no {LIBRARY} in {folders[0]}; in the repository, run tools/archives first")
+        if not found:
+            raise LibraryMissing(f"no archives in {os.path.join(root, 'target', 'staticlib')}: run tools/archives first")
+        return found
+    found = os.path.join(named or os.path.join(prefix, "lib"), LIBRARY)
+    if not os.path.exists(found):
+        raise LibraryMissing(f"no {LIBRARY} in {os.path.dirname(found)}; tools/install puts one into PREFIX/lib")
     return found
 
 
@@ -80,6 +87,6 @@ def function(name):
     return found
 
 
-def lent(*arrays):
+def as_arguments(*arrays):
     """Arrays as C's arguments."""
     return [word for array in arrays for word in (array, len(array))]

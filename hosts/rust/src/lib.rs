@@ -64,8 +64,8 @@
 //! # Linking
 //!
 //! build.rs looks for the archives in the folder that ORDER_LIBS names (an absolute path), else in
-//! target/staticlib of the repository, and has the missing ones built by `rt staticlib` where the
-//! toolchain is at hand.
+//! target/staticlib of the repository, where `tools/archives` builds those that are missing or older
+//! than a crate.
 
 #![warn(missing_debug_implementations)]
 

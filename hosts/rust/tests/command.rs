@@ -237,6 +237,39 @@ fn a_full_disk() {
     }
 }
 
+/// A command of the shell, in which $0 is the program.
+fn shell(script: &str) -> (i32, String, String) {
+    let mut command = Command::new("sh");
+    command.args(["-c", script, env!("CARGO_BIN_EXE_order-large")]);
+    told(command.stdin(Stdio::null()).output().unwrap())
+}
+
+#[test]
+fn closed_streams_are_said() {
+    let path = file("closed.job", J1.as_bytes());
+    let path = path.display();
+    let sentence = |of: &str| format!("order-large: standard {of}: it is closed\n");
+    let (unread, unwritten) = (
+        sentence("input cannot be read"),
+        sentence("output cannot be written"),
+    );
+    for words in ["FILE", "--dry-run FILE", "--help", "--version"] {
+        let words = words.replace("FILE", &format!("'{path}'"));
+        let said = shell(&format!("\"$0\" {words} >&-"));
+        assert_eq!(said, (2, String::new(), unwritten.clone()), "{words}");
+    }
+    for words in ["", "-", "--dry-run"] {
+        let said = shell(&format!("\"$0\" {words} <&-"));
+        assert_eq!(said, (2, String::new(), unread.clone()), "{words}");
+    }
+    // A closed stream that is not asked for, and /dev/null in any mode, are no failure.
+    assert_eq!(shell(&format!("\"$0\" '{path}' <&-")), run(&[], J1));
+    let nowhere = (0, String::new(), String::new());
+    assert_eq!(shell(&format!("\"$0\" '{path}' 1<>/dev/null")), nowhere);
+    assert_eq!(shell("\"$0\" 0<>/dev/null").0, 1);
+    assert_eq!(shell(&format!("\"$0\" '{path}' 2>&-")), run(&[], J1));
+}
+
 #[test]
 fn a_reader_that_goes_ends_it_quietly() {
     let adds: String = (1..20_000)

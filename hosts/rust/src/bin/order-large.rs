@@ -5,6 +5,7 @@ use std::fmt;
 use std::fs::File;
 use std::io::{self, BufReader, IsTerminal, Read, Write};
 use std::process::ExitCode;
+use std::sync::atomic::{AtomicBool, Ordering};
 use std::time::{Duration, Instant};
 
 use witness_order::large::{
@@ -48,6 +49,52 @@ enum Stop {
     Said(String),
     Quiet,
 }
+
+// ---- Streams that are closed
+
+/// Whether standard input and standard output were closed when the program was started.
+static CLOSED: [AtomicBool; 2] = [AtomicBool::new(false), AtomicBool::new(false)];
+
+/// Looks at the two streams before `main`: Rust's start-up puts /dev/null in the place of a closed one,
+/// after which a lost listing looks like one that was written.
+extern "C" fn look_at_streams() {
+    extern "C" {
+        fn fcntl(descriptor: i32, command: i32, ...) -> i32;
+    }
+    const GET_FLAGS: i32 = 1; // F_GETFD, which fails for a closed descriptor and for no other
+    for (descriptor, closed) in (0..).zip(&CLOSED) {
+        // SAFETY: F_GETFD takes no argument and touches no memory of the program.
+        let flags = unsafe { fcntl(descriptor, GET_FLAGS) };
+        closed.store(flags < 0, Ordering::Relaxed);
+    }
+}
+
+/// What stands in this section the C library calls before Rust's start-up.
+#[used]
+#[link_section = ".init_array"]
+static LOOK_FIRST: extern "C" fn() = look_at_streams;
+
+/// Standard input, unless it was closed.
+fn input() -> Result<io::StdinLock<'static>, Stop> {
+    match CLOSED[0].load(Ordering::Relaxed) {
+        true => Err(Stop::Said(
+            "standard input cannot be read: it is closed".to_owned(),
+        )),
+        false => Ok(io::stdin().lock()),
+    }
+}
+
+/// Standard output, unless it was closed.
+fn output() -> Result<io::StdoutLock<'static>, Stop> {
+    match CLOSED[1].load(Ordering::Relaxed) {
+        true => Err(Stop::Said(
+            "standard output cannot be written: it is closed".to_owned(),
+        )),
+        false => Ok(io::stdout().lock()),
+    }
+}
+
+// ---- The command
 
 fn main() -> ExitCode {
     let words = std::env::args_os().skip(1).map(|word| word.into_string());
@@ -144,16 +191,17 @@ fn carry_out(command: Command) -> Result<ExitCode, Stop> {
     };
     let input: Box<dyn Read> = match file {
         Some(file) => Box::new(file),
-        None => Box::new(io::stdin().lock()),
+        None => Box::new(input()?),
     };
     let input = BufReader::with_capacity(1 << 18, input);
+    let output = output()?;
     let mut shown: Box<dyn Progress> = match io::stderr().is_terminal() {
         true => Box::new(Shown::new(length)),
         false => Box::new(()),
     };
     let ended = match asked.dry_run {
-        true => dry_run(input, &asked, &mut *shown),
-        false => large::run(input, io::stdout().lock(), &asked.options, &mut *shown),
+        true => dry_run(input, output, &asked, &mut *shown),
+        false => large::run(input, output, &asked.options, &mut *shown),
     };
     drop(shown);
     match ended {
@@ -189,7 +237,7 @@ fn stop(failure: Failure, name: &str) -> Stop {
 }
 
 fn print(text: &str) -> Result<ExitCode, Stop> {
-    let mut out = io::stdout().lock();
+    let mut out = output()?;
     let written = out.write_all(text.as_bytes()).and_then(|()| out.flush());
     match written {
         Ok(()) => Ok(ExitCode::SUCCESS),
@@ -200,10 +248,10 @@ fn print(text: &str) -> Result<ExitCode, Stop> {
 /// Says the memory that a job takes, in bytes.
 fn dry_run(
     input: impl io::BufRead,
+    mut out: impl Write,
     asked: &Asked,
     progress: &mut dyn Progress,
 ) -> Result<Result<(), Rejection>, Failure> {
-    let mut out = io::stdout().lock();
     let (text, verdict) = match large::read(input, progress)? {
         Ok(job) => (
             memory_text(&job, &asked.options),
