@@ -31,7 +31,7 @@ def status_of(answer):
 
 def kept_jobs():
     """(name, job) of the jobs that stand in the repository."""
-    listed = subprocess.run(["git", "ls-files", "*.job", "crates/order/stdin"], capture_output=True, check=False, text=True)
+    listed = subprocess.run(["git", "ls-files", "*.job", "crates/order/stdin"], capture_output=True, check=True, text=True)
     for name in listed.stdout.split():
         with open(name, "rb") as file:
             yield name, file.read()

@@ -6,7 +6,7 @@
 #
 # LARGE_SEED chooses the random jobs (default 1), LARGE_JOBS and LARGE_BYTES how many of them and of
 # random bytes the crate's test takes. The archives are those in the folder that ORDER_LIBS names, else
-# in target/staticlib; missing ones are built.
+# in target/staticlib, brought up to date by tools/archives.
 set -euo pipefail
 cd "$(dirname "$0")/../.."
 
@@ -47,6 +47,15 @@ python3 tests/large/compare.py order $large target/bin/order $work/random.cases
 # Jobs of thousands of places, of each kind that the benchmark has.
 rustc --edition 2021 -O --allow dead_code -o $work/jobtext bench/driver/jobtext.rs
 rm -f $work/*.job
+# The examples' generator, tools/circuit.py, and the benchmark's make the same jobs.
+while read -r job words; do
+  $work/jobtext $words | cmp - examples/$job || fail "the benchmark's '$words' is not examples/$job"
+done <<'END'
+poseidon.job poseidon 8 490 0
+wide.job independent 16 60 0
+backwards.job reversed 4 0 24
+END
+echo "large: three jobs of examples/ are the benchmark's too"
 for name in forward poseidon chain independent delayed one-place reversed; do
   for p in 3 70 1024; do
     $work/jobtext $name $p 3000 1500 >$work/$name-$p.job

@@ -45,6 +45,12 @@ tools/picture.py --svg <"$long/listing" | well_formed || fail "no SVG of a long 
 tools/picture.py --entries 4000-4199 <"$long/listing" 2>"$long/err" | head -n 1 >/dev/null
 [ ! -s "$long/err" ] || fail "a reader that closes is not taken quietly"
 
+# An order without entries.
+for words in '' --svg --histogram '--svg --histogram'; do
+  # shellcheck disable=SC2086
+  printf 'status=0\nentries=0\n' | tools/picture.py $words >"$long/drawn" || fail "'$words' can't draw an empty order"
+done
+
 # Widths of 0, which no order has, and marks outside of the drawing.
 { printf 'status=0\nfloor=9\nmedian=0\n'
   seq 0 299 | awk '{ printf "order=%d added=%d accepted=0 parallelism=0 written=0\n", $1, $1 }'; } >"$long/zeros"
@@ -93,4 +99,4 @@ lost() { # SENTENCE REDIRECTION
 lost 'standard output is closed' '>&-'
 lost '[Errno 28] No space left on device' '>/dev/full'
 tools/picture.py --help | grep -q histogram || fail "no help"
-echo "picture: those of docs/GUARANTEE.md are what their commands draw; 14 drawings and 20 refusals as expected"
+echo "picture: those of docs/GUARANTEE.md are what their commands draw; 18 drawings and 20 refusals as expected"
