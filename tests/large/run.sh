@@ -31,7 +31,16 @@ for folder in "$PWD/$work" some/where; do
   grep -Eq 'witness-order: (no libhost.a, .* in |ORDER_LIBS must be an absolute path)' $work/said ||
     { cat $work/said >&2; fail "ORDER_LIBS=$folder: nothing is said"; }
 done
-echo "large: missing archives are said"
+# Without ORDER_LIBS the build has the archives brought up to date by tools/archives of its repository.
+copy=$work/copy
+rm -rf $copy && mkdir -p $copy/{hosts,tools} && cp -r hosts/rust $copy/hosts/
+printf '%s\n' '#!/bin/sh' 'echo "asked for $*"' 'exit 1' >$copy/tools/archives
+chmod +x $copy/tools/archives
+! env -u ORDER_LIBS CARGO_TARGET_DIR=$work/none cargo build --offline --manifest-path $copy/hosts/rust/Cargo.toml 2>$work/said ||
+  fail "built without tools/archives"
+grep -q 'witness-order: asked for host replay alone_replay order_entries summary' $work/said ||
+  { cat $work/said >&2; fail "tools/archives is not asked"; }
+echo "large: missing archives are said, tools/archives is asked for them"
 
 cargo build --release --offline --quiet --manifest-path $manifest || fail "cargo build"
 large=target/cargo/release/order-large

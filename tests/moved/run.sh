@@ -80,7 +80,9 @@ for words in 'no-such-commit' '--times before.log no-such.log' '--times expected
   status=0
   # shellcheck disable=SC2086
   "$tool" $words >out 2>err || status=$?
-  [ $status -ne 0 ] && [ -s err ] && [ ! -s out ] || { echo "tests/moved: '$words' is not refused" >&2; exit 1; }
+  # 2 for wrong words, options in a wrong place among them; 1 for what git or a log does not have
+  case "$words" in '' | --what | HEAD* | '--times before.log -v' | --help*) expected_status=2 ;; *) expected_status=1 ;; esac
+  [ $status -eq $expected_status ] && [ -s err ] && [ ! -s out ] || { echo "tests/moved: '$words' is not refused" >&2; exit 1; }
 done
 "$tool" --help | grep -q 'BEFORE' || { echo "tests/moved: no help" >&2; exit 1; }
 

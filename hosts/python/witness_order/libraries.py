@@ -34,7 +34,8 @@ def linked(root):
     library = os.path.join(root, "target", "shared", LIBRARY)
     if not archives:
         return None
-    if not os.path.exists(library) or any(os.path.getmtime(library) < os.path.getmtime(path) for path in archives):
+    # The archives by their time of change: tools/archives dates one back to before its proof.
+    if not os.path.exists(library) or any(os.path.getmtime(library) < os.stat(path).st_ctime for path in archives):
         compiler = shutil.which("cc") or shutil.which("gcc")
         if not compiler:
             raise LibraryMissing(f"no C compiler to link {library}")
