@@ -1,21 +1,33 @@
 #!/usr/bin/env python3
 """Checks what the documents say of crates and definitions: each crate that they name is listed in
-crates.txt, each `Module.name` is defined in a specification of that module, and each `crate/Module`
-is there. Prints the count, or each citation that leads nowhere."""
+crates.txt, each `Module.name` is defined in a specification of that module, each `crate/Module` is there, and
+each `crate::item` stands in that crate's source. Prints the count, or each citation that leads nowhere.
+
+Read are all documents of the repository; in a table whose first column is `old name`, not that column."""
 
 import os
 import re
 import sys
 
-DOCUMENTS = ["README.md", "docs/STATEMENTS.md", "docs/GUARANTEE.md", "docs/DECISIONS.md"]
-
 CODE = re.compile(r"`([^`\n]+)`")
 CITED = re.compile(r"(?:([a-z][a-z0-9_]*)/)?([A-Z][A-Za-z0-9]*)((?:\.[^\s.:(]+)*)$")
+ITEM = re.compile(r"([a-z][a-z0-9_]*)::(\w+)$")
 CRATES = re.compile(r"\bcrates?\s+`?([a-z][a-z0-9_]*(?:(?:,\s*|\s+and\s+)[a-z][a-z0-9_]*)*)")
+BOLD = re.compile(r"\*\*([a-z][a-z0-9_]*)\*\*")
 PATH = re.compile(r"\bcrates/([a-z][a-z0-9_]*)")
 PLAIN = re.compile(r"(?<![\w/`])([a-z][a-z0-9_]*)/([A-Z][A-Za-z0-9]*)\b(?!\.md)")
 # Words that follow `crate` without naming one.
-WORDS = {"and", "below", "beside", "for", "from", "has", "holds", "in", "is", "of", "that", "the", "whose", "with"}
+WORDS = set("""a above all an and are as at below beside by can come do each for from had has have hard holds if in into is it its
+    may must need needs not of on once one or over own so stand stands than that the their then there they this to under
+    was were when where which who whose will with would""".split())
+# The one document in which a bold word is a crate.
+ROOMS = "./docs/ARCHITECTURE.md"
+
+
+def documents():
+    for folder, folders, files in os.walk("."):
+        folders[:] = sorted(name for name in folders if name not in (".git", "target"))
+        yield from (os.path.join(folder, name) for name in sorted(files) if name.endswith(".md"))
 
 
 def listed():
@@ -44,6 +56,16 @@ def modules():
     return found
 
 
+def items(crate):
+    """The functions, constants and types of a crate's source."""
+    found = set()
+    for folder, _, files in os.walk(os.path.join("crates", crate, "src")):
+        for name in files:
+            with open(os.path.join(folder, name), encoding="utf-8") as text:
+                found |= set(re.findall(r"\b(?:fn|const|struct|enum) (\w+)", text.read()))
+    return found
+
+
 def defines(names, cited):
     return any(name.startswith(cited[:-1]) for name in names) if cited.endswith("*") else cited in names
 
@@ -58,36 +80,49 @@ def problem(found, crate, module, cited):
     return f"`{missing[0]}` is not defined there" if missing else None
 
 
-def citations(text):
-    """The crates that a document names, and its citations as crate or None, module, names."""
+def present(text):
+    """A document's text without the first column of a table of old names."""
+    lines, old = [], False
+    for line in text.split("\n"):
+        old = line.startswith("| old name |") or (old and line.startswith("|"))
+        lines.append("|" + line.split("|", 2)[2] if old and line.count("|") > 2 else line)
+    return "\n".join(lines)
+
+
+def citations(text, bold):
+    """The crates that a text names, its citations as crate or None, module, names, and its items."""
     crates = [word for names in CRATES.findall(text) for word in re.split(r"[,\s]+", names)]
-    crates = [word for word in crates if word not in WORDS] + PATH.findall(text)
-    cited = [(crate, module, []) for crate, module in PLAIN.findall(text)]
+    crates = [word for word in crates if word not in WORDS] + PATH.findall(text) + (BOLD.findall(text) if bold else [])
+    cited = [(crate, module, []) for crate, module in PLAIN.findall(text) if not os.path.isdir(crate)]
+    called = []
     for code in CODE.findall(text):
         match = CITED.match(code)
-        if match and (match[1] or match[3]):
+        if match and (match[1] or match[3]) and not os.path.isdir(match[1] or "-"):
             cited.append((match[1], match[2], [name for name in match[3].split(".") if name]))
-    return crates, cited
+        called += ITEM.findall(code)
+    return crates, cited, called
 
 
 def main():
     known, found, count, wrong = listed(), modules(), 0, []
-    for document in DOCUMENTS:
-        if not os.path.exists(document):
-            continue
+    read = 0
+    for document in documents():
+        read += 1
         with open(document, encoding="utf-8") as file:
-            crates, cited = citations(file.read())
-        count += len(crates) + len(cited)
+            crates, cited, called = citations(present(file.read()), document == ROOMS)
+        called = [(crate, item) for crate, item in called if crate in known]
+        count += len(crates) + len(cited) + len(called)
         for crate in crates + [crate for crate, _, _ in cited if crate]:
             if crate not in known:
-                wrong.append(f"{document}: crate {crate}: crates.txt has none of that name")
+                wrong.append(f"{document[2:]}: crate {crate}: crates.txt has none of that name")
         for crate, module, names in cited:
             fault = problem(found, crate, module, names)
             if fault:
-                wrong.append(f"{document}: {crate + '/' if crate else ''}{'.'.join([module] + names)}: {fault}")
+                wrong.append(f"{document[2:]}: {crate + '/' if crate else ''}{'.'.join([module] + names)}: {fault}")
+        wrong += [f"{document[2:]}: {crate}::{item}: its source has none of that name" for crate, item in called if item not in items(crate)]
     for line in sorted(set(wrong)):
         print(line)
-    print(f"{count} citations of crates and definitions, {len(set(wrong))} lead nowhere")
+    print(f"{count} citations of crates and definitions in {read} documents, {len(set(wrong))} lead nowhere")
     sys.exit(1 if wrong else 0)
 
 

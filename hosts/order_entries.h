@@ -1,7 +1,7 @@
 /* Host code, not proved: the declaration of the proved call of crate `order_entries`.
    The order as structs, kept beside the flat order. `tools/archives order_entries` proves it and writes
    target/staticlib/liborder_entries.a; hosts/storage_example.c shows a call. What the call promises is
-   order_entries/specs/Copied.antt: `copied`. */
+   order_copy/specs/Copied.antt: `copied`. */
 #ifndef ORDER_ENTRIES_H
 #define ORDER_ENTRIES_H
 

@@ -5,15 +5,20 @@
     python3 oracle/generate.py target/oracle/runs
     for f in target/oracle/runs/*.txt; do target/oracle/oracle <$f >oracle/sample/${f##*/}; done
 
+    python3 oracle/generate.py --check      compares the kept sample's runs with those that would be written; on a
+                                            difference it says what differs, and the status is 1
+
 Nothing is left to chance: the numbers come from a generator of its own with fixed seeds, so the same
 files come out everywhere. Every call is one that document 01 accepts. For that the generator keeps
 account of which places are taken, which registrations wait, and where the guide puts a value; a
 mistake in that account would show as a panic of the Rust or a refusal of the reference model.
 """
 
+import difflib
 import os
 import sys
 
+SAMPLE = os.path.join(os.path.dirname(os.path.abspath(__file__)), "sample")
 TOP = """\
 # Part of the kept sample: runs and the answers of the Rust to them, as oracle/FORMAT.md describes.
 # The runs were written by oracle/generate.py, the answers by the oracle that oracle/build.sh builds.
@@ -457,21 +462,53 @@ def placements():
     yield j1.end()
 
 
-def main():
-    if len(sys.argv) != 2:
-        sys.exit("generate.py FOLDER: where to write the runs")
-    os.makedirs(sys.argv[1], exist_ok=True)
+def written():
+    """The files by name."""
     files = {
         "placements": placements(),
         "sessions": sessions(Numbers(1)),
         "guides": guides(Numbers(2)),
         "spans": spans(Numbers(3)),
     }
-    for name, runs in files.items():
-        with open(os.path.join(sys.argv[1], name + ".txt"), "w", encoding="ascii") as file:
-            file.write(TOP)
-            for lines in runs:
-                file.write("\n" + "\n".join(lines) + "\n")
+    return {name + ".txt": TOP + "".join("\n" + "\n".join(lines) + "\n" for lines in runs) for name, runs in files.items()}
+
+
+def kept(name):
+    """The runs of a file of the sample, without the answers."""
+    try:
+        with open(os.path.join(SAMPLE, name), encoding="ascii") as file:
+            return "".join(line for line in file if not line.startswith("="))
+    except OSError as error:
+        sys.exit(f"generate.py: the sample has no {name}: {error}")
+
+
+def check(files):
+    different = 0
+    for name, text in files.items():
+        lines = list(difflib.unified_diff(kept(name).splitlines(), text.splitlines(), "oracle/sample/" + name, "as oracle/generate.py writes it", n=1, lineterm=""))
+        different += bool(lines)
+        for line in lines[:20]:
+            print(line[:300])
+    if different:
+        sys.exit(f"generate.py: {different} files of the sample have other runs than oracle/generate.py writes")
+    print(f"{sum(text.count(chr(10) + 'end' + chr(10)) for text in files.values())} runs in {len(files)} files, as kept")
+
+
+def main():
+    if len(sys.argv) != 2 or (sys.argv[1].startswith("-") and sys.argv[1] not in ("--check", "--help")):
+        sys.exit("generate.py FOLDER: where to write the runs; generate.py --check; generate.py --help")
+    if sys.argv[1] == "--help":
+        print(__doc__)
+    elif sys.argv[1] == "--check":
+        check(written())
+    else:
+        try:
+            os.makedirs(sys.argv[1], exist_ok=True)
+            for name, text in written().items():
+                with open(os.path.join(sys.argv[1], name), "w", encoding="ascii") as file:
+                    file.write(text)
+        except OSError as error:
+            sys.exit(f"generate.py: {error}")
 
 
 main()

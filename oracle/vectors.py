@@ -1,7 +1,9 @@
 #!/usr/bin/env python3
 """Writes recorded runs of the oracle as specifications that the checker computes (crate `vectors`).
 
-    python3 oracle/vectors.py
+    oracle/vectors.py           writes them again
+    oracle/vectors.py --check   compares them with what would be written; on a difference it says what differs,
+                                and the status is 1
 
 Reads oracle/sample (FORMAT.md) and writes crates/vectors/specs/Runs1.antt, Runs2.antt, ..: of each shape
 of session in the sample the smallest runs with a trace and without, and the smallest runs of the guide
@@ -10,10 +12,14 @@ oracle answered. Nothing is left to chance: from the same sample come the same f
 """
 
 import os
+import sys
 
 HERE = os.path.dirname(os.path.abspath(__file__))
+sys.path.insert(0, os.path.join(HERE, os.pardir, "tools"))
+import sources  # noqa: E402
+
 SAMPLE = os.path.join(HERE, "sample")
-SPECS = os.path.join(HERE, os.pardir, "crates", "vectors", "specs")
+SPECS = sources.own_repository() / "crates" / "vectors" / "specs"
 PER_SHAPE = 4
 GUIDES = 8
 CALLS = 60
@@ -186,6 +192,8 @@ use Prim.Native.Nat.{ℕ}
 use lib.Count.{trailingZeros}
 """
 
+BEGIN = "\npub runs : List Compared\nruns =\n"
+
 END = """
 -- each run's two sides are the same
 pub agree : map (λ r. r .got) runs ≡ map (λ r. r .want) runs
@@ -200,7 +208,7 @@ def head(constructors):
         other = OTHER.get(module, {})
         words = [f"{name} as {other[name]}" if name in other else name for name in names.split()] + constructors.get(module, [])
         lines.append(f"use Rattle.rules.specs.{module}.{{{', '.join(words)}}}\n")
-    lines.append(f"use Rattle.vectors.specs.Shown.{{Compared, {', '.join(SHOWN.split())}}}\n\npub runs : List Compared\nruns =\n")
+    lines.append(f"use Rattle.vectors.specs.Shown.{{Compared, {', '.join(SHOWN.split())}}}\n")
     return "".join(lines)
 
 
@@ -208,17 +216,45 @@ def unfolded():
     return " ".join(OTHER.get(module, {}).get(name, name) for module, names in RULES.items() for name in names.split()) + " " + SHOWN + " " + FLOATS + " trailingZeros"
 
 
-def main():
+def written():
+    """The files by name, and a sentence on what is in them."""
     sessions, guides = list(chosen_sessions()), list(chosen_guides())
     parts = [(sessions[i:i + A_FILE], {"Calls": ["set", "add", "flush", "final"]}) for i in range(0, len(sessions), A_FILE)]
     parts += [(guides[i:i + A_FILE], {"Alone": ["push", "flush"]}) for i in range(0, len(guides), A_FILE)]
-    for number, (texts, constructors) in enumerate(parts, 1):
-        with open(os.path.join(SPECS, f"Runs{number}.antt"), "w") as out:
-            out.write(head(constructors) + "\n".join(text.replace("    record {", "    ∷ record {") if i else text for i, text in enumerate(texts)) + "\n    ∷ []\n" + END % unfolded())
-    with open(os.path.join(SPECS, "Lib.antt"), "w") as out:
-        out.write("-- Recorded runs of the Rust, computed from the definitions of `rules`.\npub mod Shown\n")
-        out.writelines(f"pub mod Runs{number}\n" for number in range(1, len(parts) + 1))
-    print(f"{len(sessions)} sessions and {len(guides)} runs of the guide alone in {len(parts)} files")
+    texts = {}
+    for number, (runs, constructors) in enumerate(parts, 1):
+        body = BEGIN + "\n".join(text.replace("    record {", "    ∷ record {") if i else text for i, text in enumerate(runs)) + "\n    ∷ []\n" + END % unfolded()
+        words = sources.first_words(sources.uncommented(body, "--"))
+        lines = [sources.line_of_used(line, words) for line in head(constructors).split("\n")]
+        texts[f"Runs{number}.antt"] = sources.folded("\n".join(line for line in lines if line is not None) + body)
+    texts["Lib.antt"] = "-- Recorded runs of the Rust, computed from the definitions of `rules`.\npub mod Shown\n" + "".join(
+        f"pub mod Runs{number}\n" for number in range(1, len(parts) + 1))
+    laid_out = sources.formatted({f"vectors/specs/{name}": text for name, text in texts.items()})
+    return {name: laid_out[f"vectors/specs/{name}"] for name in texts}, f"{len(sessions)} sessions and {len(guides)} runs of the guide alone in {len(parts)} files"
+
+
+def main():
+    if sys.argv[1:] == ["--help"]:
+        print(__doc__)
+        return
+    if sys.argv[1:] not in ([], ["--check"]):
+        sys.exit("usage: oracle/vectors.py [--check]")
+    try:
+        texts, sentence = written()
+        there = {path.name: sources.read(path) for path in SPECS.glob("*.antt") if path.name != "Shown.antt"}
+        if sys.argv[1:]:
+            wrong = list(sources.differences(there, texts, "oracle/vectors.py"))
+            wrong += [f"{name} is there, and oracle/vectors.py writes none of that name" for name in sorted(there.keys() - texts.keys())]
+            if wrong:
+                raise sources.Wrong("\n".join(wrong))
+        else:
+            for name in there.keys() - texts.keys():
+                (SPECS / name).unlink()
+            for name, text in texts.items():
+                (SPECS / name).write_text(text, encoding="utf-8")
+    except (sources.Wrong, OSError) as error:
+        sys.exit(f"oracle/vectors.py: {error}")
+    print(sentence)
 
 
 if __name__ == "__main__":

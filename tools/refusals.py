@@ -2,19 +2,25 @@
 """Host code, not proved: the lists of refusals, written from one source.
 
     tools/refusals.py           writes the lists again from hosts/refusals.txt
-    tools/refusals.py --check   compares them with the source, and the source's numbers with those of
-                                crates/rules/specs; on a difference the status is 1
+    tools/refusals.py --check   compares them with the source; the source's names and numbers with those of
+                                crates/rules, for definitions (specs/Refusals.antt) and for code
+                                (src/lib.rt); and the limits of specs/Limits.antt with those for code. On a
+                                difference it says what differs, and the status is 1
 
 The lists: the enum in C with order_code_text (hosts/refusals.h), the enum in Rust
 (hosts/rust/src/refusal.rs), the one in Python (hosts/python/witness_order/refusals.py) and the table of docs/JOB.md,
 between two lines that say so. One more refusal is one more line of the source."""
 
+import difflib
 import pathlib
 import re
 import sys
 
 ROOT = pathlib.Path(__file__).resolve().parent.parent
 SOURCE = "hosts/refusals.txt"
+DEFINED = "crates/rules/specs/Refusals.antt"
+LIMITS = "crates/rules/specs/Limits.antt"
+CODE = "crates/rules/src/lib.rt"
 DOCUMENT = "docs/JOB.md"
 BEGIN = "<!-- the refusals, written by tools/refusals.py -->\n"
 END = "<!-- end of the refusals -->\n"
@@ -225,42 +231,85 @@ def lists(rows):
     }
 
 
-def stated():
-    """The numbers that the definitions of crates/rules give: `number = N` of a check, `rejected LINE N`
-    of a job, `refused LINE N` of a listing."""
-    numbers = set()
+def value(text, place):
+    """A number as it is written: decimal digits, or a power of two numbers."""
+    match = re.fullmatch(r"([0-9_]+)(?: \^ ([0-9]+))?", text)
+    if not match:
+        raise Wrong(f"{place}: {text} is neither a number nor a power")
+    return int(match[1]) ** int(match[2] or 1)
+
+
+def defined(path):
+    """The numbers that a specification gives names to, by name, with underscores for the dashes."""
+    text = re.sub(r"--.*", "", read(path))
+    names = re.findall(r"^abbrev pub ([a-z-]+) : ℕ$", text, re.M)
+    values = dict(re.findall(r"^([a-z-]+) = (.+)$", text, re.M))
+    if not names or set(names) != set(values):
+        raise Wrong(f"{path}: not `abbrev pub NAME : ℕ` and `NAME = NUMBER` for each name")
+    return {name.replace("-", "_"): value(values[name], path) for name in names}
+
+
+def constants():
+    """The constants for code, by name in lower case."""
+    found = re.findall(r"^pub const ([A-Z_]+): \w+ = (.+);$", read(CODE), re.M)
+    return {name.lower(): value(number, CODE) for name, number in found}
+
+
+def unlike(here, named, there, other):
+    """Sentences: what one place has under a name and the other has not, or under another number."""
+    for name in sorted(named.keys() | other.keys(), key=lambda name: (named.get(name, other.get(name)), name)):
+        if name not in other:
+            yield f"{here} has {name} ({named[name]}), which {there} has not"
+        elif name not in named:
+            yield f"{there} has {name} ({other[name]}), which {here} has not"
+        elif named[name] != other[name]:
+            yield f"{name} is {named[name]} in {here} and {other[name]} in {there}"
+
+
+def given():
+    """The names of refusals that some definition of crates/rules gives, with underscores."""
+    names = set()
     for path in sorted((ROOT / "crates/rules/specs").glob("*.antt")):
         text = re.sub(r"--.*", "", read(path))
-        numbers |= {int(n) for n in re.findall(r"\bnumber = ([0-9]+)\b", text)}
-        line = r"(?:[a-z]+|[0-9]+|\([^()]*\))"
-        numbers |= {int(n) for n in re.findall(rf"\b(?:rejected|refused) {line} ([0-9]+)\b", text)}
-    return numbers - {0}
+        names |= {name.replace("-", "_") for name in re.findall(r"\brefusal\.([a-z-]+)", text)}
+    return names
+
+
+def difference(name, kept, written):
+    """The lines in which a kept list is not what the source gives, a few of them."""
+    lines = list(difflib.unified_diff(kept.splitlines(), written.splitlines(), name, f"from {SOURCE}", n=0, lineterm=""))
+    return "\n".join(lines[:20] + (["..."] if len(lines) > 20 else []))
 
 
 def check(rows):
     """What is wrong, in sentences."""
     wrong = []
     for name, text in lists(rows).items():
-        if read(name) != text:
-            wrong.append(f"{name} is not what {SOURCE} gives: run tools/refusals.py")
-    known, defined = {row[0] for row in rows}, stated()
-    for number in sorted(defined - known):
-        wrong.append(f"crates/rules/specs gives {number}, of which {SOURCE} has no line")
-    for number in sorted(known - defined):
-        wrong.append(f"{SOURCE} has {number}, which no definition in crates/rules/specs gives")
-    return wrong
+        kept = read(name)
+        if kept != text:
+            wrong.append(f"{name} is not what {SOURCE} gives: run tools/refusals.py\n{difference(name, kept, text)}")
+    source = {name: number for number, name, _, _ in rows}
+    numbers, limits, code = defined(DEFINED), defined(LIMITS), constants()
+    wrong += unlike(SOURCE, source, DEFINED, numbers)
+    wrong += unlike(DEFINED, numbers, CODE, {name: code[name] for name in code if name not in limits})
+    wrong += unlike(LIMITS, limits, CODE, {name: code[name] for name in code if name in limits})
+    wrong += [f"no definition of crates/rules/specs gives refusal.{name.replace('_', '-')}" for name in numbers if name not in given()]
+    return wrong, len(limits)
 
 
 def main():
+    if sys.argv[1:] == ["--help"]:
+        print(__doc__)
+        return
     if sys.argv[1:] not in ([], ["--check"]):
-        sys.exit(__doc__.split("\n\n")[1] if sys.argv[1:] == ["--help"] else "usage: tools/refusals.py [--check]")
+        sys.exit("usage: tools/refusals.py [--check]")
     try:
         rows = refusals()
         if sys.argv[1:]:
-            wrong = check(rows)
+            wrong, limits = check(rows)
             if wrong:
                 raise Wrong("\n".join(wrong))
-            print(f"refusals: {len(rows)} numbers, the same in C, Rust, Python, docs/JOB.md and crates/rules")
+            print(f"refusals: {len(rows)} names and numbers, the same in C, Rust, Python, docs/JOB.md and crates/rules; {limits} limits")
         else:
             for name, text in lists(rows).items():
                 (ROOT / name).parent.mkdir(parents=True, exist_ok=True)

@@ -1,7 +1,9 @@
 #!/usr/bin/env python3
-"""Writes the proofs of thin wrappers over a session that is lent by `&mut`.
+"""Host code, not proved: writes the proofs of thin wrappers over a session that is lent by `&mut`.
 
-    for w in crates/*/walks.json; do python3 tools/wrap.py $w; done; rt fmt
+    tools/wrap.py           writes the proofs again of every crate that has a walks.json
+    tools/wrap.py --check   compares them with what would be written; on a difference it says what differs, and
+                            the status is 1
 
 A wrapper has the shape
 
@@ -24,15 +26,17 @@ A clause is antt text over {h} (the session before), {y1}.. (the slices before, 
 the others), {p1}.. (the scalars), and in `ensures` {num}, {sess} (number and session after), {ans} (the
 struct) and {z1}.. (the slices after).
 
-Nothing here is trusted: what is written is proved, or refused, by `rt check`.
-"""
+Nothing here is trusted: what is written is proved, or refused, by `rt check`."""
+
 import json
-import pathlib
 import sys
+
+import sources
+from sources import Wrong
 
 
 def tup(items):
-    """A tuple as antt nests it."""
+    """A tuple as the logic nests it."""
     return "".join(f"({item}, " for item in items) + "tt" + ")" * len(items)
 
 
@@ -411,17 +415,51 @@ unfolding code.routine tablesOf
     def proof(self):
         head = (f"-- `{self.crate}::{self.name}` meets its contract: a walk of its MIR (written by tools/wrap.py). The session's borrow is opened, the struct is copied out\n"
                 f"-- and passed with the slices, which are given up for good, to `{self.core}::{self.name}`; the struct that comes back is stored, and the borrow is closed.\n-- Assumes nothing.")
-        return "\n".join([head, self.imports(), "", self.contracts(), self.parameters(), self.goes(), self.exits(), self.walk(), self.ending(), ""])
+        body = "\n".join(["", self.contracts(), self.parameters(), self.goes(), self.exits(), self.walk(), self.ending(), ""])
+        used = sources.first_words(sources.uncommented(body, "--"))
+        lines = [sources.line_of_used(line, used) for line in self.imports().split("\n")]
+        return sources.folded("\n".join([head] + [line for line in lines if line] + [body]))
+
+
+def written(root):
+    """The proofs by path below crates/, and how many walks.json there are."""
+    texts = {}
+    paths = sorted((root / "crates").glob("*/walks.json"))
+    for path in paths:
+        name = path.relative_to(root)
+        try:
+            whole = json.loads(sources.read(path))
+            for one in whole["functions"]:
+                texts[f"{path.parent.name}/proofs/{one['name']}/Proof.antt"] = Walk(whole, one).proof()
+        except ValueError as error:
+            raise Wrong(f"{name} is no JSON: {error}") from error
+        except (KeyError, TypeError, IndexError) as error:
+            raise Wrong(f"{name} has not what is needed of it (see --help): {error!r}") from error
+    return sources.formatted(texts), len(paths)
 
 
 def main():
-    path = pathlib.Path(sys.argv[1])
-    whole = json.loads(path.read_text())
-    for one in whole["functions"]:
-        target = path.parent / "proofs" / one["name"] / "Proof.antt"
-        target.parent.mkdir(parents=True, exist_ok=True)
-        target.write_text(Walk(whole, one).proof())
-        print("wrote", target)
+    if sys.argv[1:] == ["--help"]:
+        print(__doc__)
+        return
+    if sys.argv[1:] not in ([], ["--check"]):
+        sys.exit("usage: tools/wrap.py [--check]")
+    root = sources.own_repository()
+    try:
+        texts, crates = written(root)
+        kept = {name: sources.read(root / "crates" / name) for name in texts if (root / "crates" / name).exists()}
+        if sys.argv[1:]:
+            wrong = list(sources.differences(kept, texts, "tools/wrap.py"))
+            if wrong:
+                raise Wrong("\n".join(wrong))
+        else:
+            for name, text in texts.items():
+                if kept.get(name) != text:
+                    (root / "crates" / name).parent.mkdir(parents=True, exist_ok=True)
+                    (root / "crates" / name).write_text(text, encoding="utf-8")
+    except (Wrong, OSError) as error:
+        sys.exit(f"tools/wrap.py: {error}")
+    print(f"walks: {len(texts)} proofs of {crates} crates")
 
 
 if __name__ == "__main__":

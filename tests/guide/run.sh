@@ -15,18 +15,18 @@ fail() { echo "tests/guide/run.sh: $*" >&2; exit 1; }
 mkdir -p $work
 tools/archives alone_replay || fail "no library"
 rustc --edition 2021 -O -D warnings -L target/staticlib -l static=alone_replay -o $work/guide tests/guide/host.rs
-rustc --edition 2021 -O -o $work/reference tests/reference/main.rs
-guide=$work/guide reference=$work/reference
+tests/reference/build.sh
+guide=$work/guide reference=target/reference/reference
 
 $guide refusals
 
 # The kept sample: its guides, whole, and those of the worked placements.
 awk '/^session/ { s = 1 } !s { print } /^end$/ { s = 0 }' oracle/sample/guides.txt oracle/sample/placements.txt >$work/kept
-$guide runs <$work/kept | cmp - $work/kept || fail "the kept sample is answered otherwise"
+$guide runs <$work/kept | tests/same.sh - $work/kept || fail "the kept sample is answered otherwise"
 echo "guide: the kept sample: $(grep -cx end $work/kept) lists, no difference"
 
 for file in stdin stdout; do
-  python3 tests/guide/vectors.py $file | cmp - crates/guide_vectors/$file ||
+  python3 tests/guide/vectors.py $file | tests/same.sh - crates/guide_vectors/$file ||
     fail "crates/guide_vectors/$file is not what the kept sample gives"
 done
 echo "guide: what guide_vectors is run on is what the kept sample gives"
@@ -39,7 +39,7 @@ compare() {
   $reference "$@" >$work/$name.runs
   $asked <$work/$name.runs >$work/$name.asked || fail "$name: $asked failed"
   $guide runs <$work/$name.runs >$work/$name.here || fail "$name: the guide failed"
-  cmp $work/$name.asked $work/$name.here || fail "$name: the answers differ (files in $work)"
+  tests/same.sh $work/$name.asked $work/$name.here || fail "$name: the answers differ (files in $work)"
   lists=$((lists + $(grep -cx end $work/$name.runs)))
   pushes=$((pushes + $(grep -c '^push' $work/$name.runs)))
   rm $work/$name.{runs,asked,here}

@@ -51,7 +51,7 @@ tools/refusals.py --check
 copy=$work/copy
 mkdir -p "$copy"/{crates/rules,docs,hosts/rust/src,hosts/python/witness_order,tools}
 fresh() {
-  cp -r crates/rules/specs "$copy/crates/rules/" && cp docs/JOB.md "$copy/docs/" && cp tools/refusals.py "$copy/tools/"
+  cp -r crates/rules/specs crates/rules/src "$copy/crates/rules/" && cp docs/JOB.md "$copy/docs/" && cp tools/refusals.py "$copy/tools/"
   cp hosts/refusals.* "$copy/hosts/" && cp hosts/rust/src/refusal.rs "$copy/hosts/rust/src/"
   cp hosts/python/witness_order/refusals.py "$copy/hosts/python/witness_order/"
 }
@@ -62,12 +62,20 @@ done
 next=$(($(grep -o '^[0-9]*' hosts/refusals.txt | tail -n 1) + 1))
 fresh && echo "$next | one_more | a test adds it | nothing" >>"$copy/hosts/refusals.txt"
 "$copy/tools/refusals.py"
-refuses 1 "has $next, which no definition" "$copy/tools/refusals.py" --check
-echo "x = record { fails = true; number = $next }" >>"$copy/crates/rules/specs/Checks.antt"
-"$copy/tools/refusals.py" --check >/dev/null || fail "one more line of the source is not enough for one more refusal"
+refuses 1 "hosts/refusals.txt has one_more ($next), which crates/rules/specs/Refusals.antt has not" "$copy/tools/refusals.py" --check
+printf '%s\n' 'abbrev pub one-more : ℕ' "one-more = $next" >>"$copy/crates/rules/specs/Refusals.antt"
+refuses 1 "no definition of crates/rules/specs gives refusal.one-more" "$copy/tools/refusals.py" --check
+echo "x = record { fails = true; number = refusal.one-more }" >>"$copy/crates/rules/specs/Checks.antt"
+refuses 1 "Refusals.antt has one_more ($next), which crates/rules/src/lib.rt has not" "$copy/tools/refusals.py" --check
+echo "pub const ONE_MORE: u64 = $next;" >>"$copy/crates/rules/src/lib.rt"
+"$copy/tools/refusals.py" --check >/dev/null || fail "a line in each of four places is not enough for one more refusal"
 fresh && sed -i '/^8 /d' "$copy/hosts/refusals.txt"
 "$copy/tools/refusals.py"
-refuses 1 "gives 8, of which" "$copy/tools/refusals.py" --check
+refuses 1 "Refusals.antt has taken_place (8), which hosts/refusals.txt has not" "$copy/tools/refusals.py" --check
+fresh && sed -i 's/^least-flagged = .*/least-flagged = 2 ^ 61/' "$copy/crates/rules/specs/Limits.antt"
+refuses 1 "least_flagged is 2305843009213693952 in" "$copy/tools/refusals.py" --check
+fresh && sed -i 's/LAST_SPAN_LIMIT: u32 = 4294967264/LAST_SPAN_LIMIT: u32 = 4294967263/' "$copy/crates/rules/src/lib.rt"
+refuses 1 "4294967263 in crates/rules/src/lib.rt" "$copy/tools/refusals.py" --check
 fresh && echo "8 | twice | never | nothing" >>"$copy/hosts/refusals.txt"
 refuses 1 "8 does not ascend" "$copy/tools/refusals.py"
 refuses 1 "usage" tools/refusals.py --nothing
@@ -85,7 +93,7 @@ diff <(grep -v '^#' hosts/refusals.txt) <("$work/names") || fail "the refusals i
 diff <(grep -v '^#' hosts/refusals.txt) <(PYTHONDONTWRITEBYTECODE=1 PYTHONPATH=hosts/python python3 -c '
 from witness_order import Refusal
 for r in Refusal: print(f"{int(r)} | {r.name.lower()} | {r} | {r.advice}")') || fail "the refusals in Python"
-echo "hosts: names of refusals: one source, compared; seven wrong copies are found"
+echo "hosts: names of refusals: one source, compared; eleven wrong copies are found"
 
 # Headers, examples and replay_storage by every compiler, warnings being errors.
 compilers=()
@@ -135,9 +143,9 @@ outside() (
     ! command -v g++ >/dev/null ||
       g++ -std=c++11 -x c++ $(pkg-config --cflags order) $source -x none $(pkg-config --libs order) -o $example-c++
   done
-  for program in order-*; do $(realpath $program) <"$job" | cmp - "$listing"; done
+  for program in order-*; do $(realpath $program) <"$job" | diff - "$listing"; done
   for program in replay-* storage-*; do
-    $(realpath $program) | grep ^order= | cmp - <(grep ^order= "$listing")
+    $(realpath $program) | grep ^order= | diff - <(grep ^order= "$listing")
   done
   ldd order-shared | grep -qF "$prefix/lib/liborder.so"
   # the prefix may be moved

@@ -19,15 +19,14 @@ esac
 seed=${JOB_SEED:-1}
 
 work=target/job
-mkdir -p $work target/reference
+mkdir -p $work
 tools/archives host || fail "no library"
 rt check order >$work/order.log 2>&1 || { tail -n 20 $work/order.log >&2; fail "rt check order"; }
 library=$(realpath target/staticlib/libhost.a)
 order=target/bin/order
 
 reference=target/reference/reference
-newest=$(ls -t tests/reference/*.rs $reference 2>/dev/null | head -n 1) || true
-[ "$newest" = $reference ] || rustc --edition 2021 -O -o $reference tests/reference/main.rs
+tests/reference/build.sh
 gcc -std=c11 -Wall -Wextra -Werror -O2 -Ihosts hosts/order_example.c "$library" -o $work/example
 gcc -std=c11 -Wall -Wextra -Werror -O2 -g -Ihosts tests/job/host.c "$library" -o $work/host
 rustc --edition 2021 -O -D warnings -C link-arg="$library" -o $work/job tests/job/main.rs

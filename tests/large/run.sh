@@ -12,7 +12,7 @@ cd "$(dirname "$0")/../.."
 
 fail() { echo "tests/large/run.sh: $*" >&2; exit 1; }
 work=target/large
-mkdir -p $work target/reference
+mkdir -p $work
 [ -z "${ORDER_LIBS:-}" ] || export ORDER_LIBS=$(realpath "$ORDER_LIBS")
 export LARGE_SEED=${LARGE_SEED:-1}
 
@@ -48,8 +48,7 @@ large=target/cargo/release/order-large
 # The program beside the program.
 [ -x target/bin/order ] || rt check order >$work/order.log 2>&1 || { tail -n 20 $work/order.log >&2; fail "no order"; }
 reference=target/reference/reference
-newest=$(ls -t tests/reference/*.rs $reference 2>/dev/null | head -n 1) || true
-[ "$newest" = $reference ] || rustc --edition 2021 -O -o $reference tests/reference/main.rs
+tests/reference/build.sh
 $reference jobs "$LARGE_SEED" 200 >$work/random.cases
 python3 tests/large/compare.py order $large target/bin/order $work/random.cases
 
@@ -58,7 +57,7 @@ rustc --edition 2021 -O --allow dead_code -o $work/jobtext bench/driver/jobtext.
 rm -f $work/*.job
 # The examples' generator, tools/circuit.py, and the benchmark's make the same jobs.
 while read -r job words; do
-  $work/jobtext $words | cmp - examples/$job || fail "the benchmark's '$words' is not examples/$job"
+  $work/jobtext $words | tests/same.sh - examples/$job || fail "the benchmark's '$words' is not examples/$job"
 done <<'END'
 poseidon.job poseidon 8 490 0
 wide.job independent 16 60 0

@@ -17,10 +17,10 @@ for crate in crates/*/; do
 done
 cp tests/mut/calls.rattle $scratch/crates/mut_calls/src/main.rt
 cp tests/mut/printed $scratch/crates/mut_calls/stdout
-# What replay, session_mut and flush_mut use, and they themselves.
+# What call_list, session_mut and flush_mut use, and they themselves.
 sed 's/#.*//' crates.txt >$scratch/crates.txt
-uses=$(sed -n 's/^replay: *//p' $scratch/crates.txt)
-echo "mut_calls: $uses replay session_mut flush_mut io libc" >>$scratch/crates.txt
+uses=$(sed -n 's/^call_list: *//p' $scratch/crates.txt)
+echo "mut_calls: $uses call_list session_mut flush_mut io libc" >>$scratch/crates.txt
 cd $scratch
 rt try mut_calls >try.log 2>&1 || { tail -n 40 try.log >&2; exit 1; }
 echo "mut: the calls on a session lent by &mut leave what replay leaves: $(tr '\n' ' ' <crates/mut_calls/stdout)"

@@ -10,7 +10,7 @@ fail() { echo "tests/picture: $*" >&2; exit 1; }
 $order <docs/example.job | tools/picture.py --svg docs/example.job | diff docs/example.svg - ||
   fail "docs/example.svg is not what its command draws"
 drawn=$($order <crates/order/stdin | tools/picture.py)
-[[ $(<docs/GUARANTEE.md) == *"$drawn"* ]] || fail "docs/GUARANTEE.md has another picture of J1"
+[[ $(<docs/GUARANTEE.md) == *"$drawn"* ]] || { echo "$drawn" >&2; fail "docs/GUARANTEE.md has another picture of J1 than this"; }
 
 # The larger one: its commands, with the pictures in another folder.
 large=target/cargo/release/order-large
@@ -20,7 +20,7 @@ commands=$(awk '/^## / { larger = /^## A larger one/ } larger && /^```/ { code =
 [ "$(grep -c . <<<"$commands")" = 4 ] || fail "docs/GUARANTEE.md has not four commands for the larger one"
 bash -e -o pipefail -c "${commands//>docs\//>target/picture/}" || fail "the commands for the larger one"
 for picture in poseidon.svg poseidon-widths.svg; do
-  cmp docs/$picture target/picture/$picture || fail "docs/$picture is not what its command draws"
+  tests/same.sh docs/$picture target/picture/$picture || fail "docs/$picture is not what its command draws"
 done
 
 # Every drawing is whole: SVG that a parser takes, the marks in the histogram, the entries asked for.

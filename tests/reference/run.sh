@@ -9,8 +9,7 @@ runs=${REFERENCE_RUNS:-30000} seed=${REFERENCE_SEED:-1}
 work=target/reference
 fail() { echo "tests/reference/run.sh: $*" >&2; exit 1; }
 
-mkdir -p $work
-rustc --edition 2021 -O -o $work/reference tests/reference/main.rs
+tests/reference/build.sh
 reference=$work/reference
 
 for sample in placements sessions guides; do

@@ -29,10 +29,9 @@ summary=$(realpath target/staticlib/libsummary.a)
 path=-Wl,-rpath,$(dirname "$library")
 
 work=target/session
-mkdir -p $work target/reference
+mkdir -p $work
 reference=target/reference/reference
-newest=$(ls -t tests/reference/*.rs $reference 2>/dev/null | head -n 1) || true
-[ "$newest" = $reference ] || rustc --edition 2021 -O -o $reference tests/reference/main.rs &
+tests/reference/build.sh &
 rustc --edition 2021 -O -C link-arg="$library" -C link-arg="$summary" -C link-arg="$path" -o $work/session \
   tests/session/main.rs
 wait $! || fail "the reference model is not built"

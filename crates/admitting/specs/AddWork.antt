@@ -3,31 +3,33 @@
 use mathlib.Core.Path.{_≡_, refl, sym, ap, _∙_, subst}
 use mathlib.Core.List.{List}
 use mathlib.Core.Bool.{Bool, true, false}
-use Prim.Native.Nat.{ℕ, _+_, _*_, _≤_, _<_}
+use Prim.Native.Nat.{ℕ, _+_, _≤_, _<_}
 use native.Mathlib.Omega.{arith}
-use lib.ListN.{length, set}
+use lib.ListN.{length}
 use Rattle.rules.specs.Guide.{Guide as GuideModel}
 use Rattle.rules.specs.Model.{Reg, Model, Recorded, greatest, with-add, do-add, note-add}
-use Rattle.rules.specs.Checks.{pooled}
+use Rattle.rules.specs.Checks.{pooled, waiting-needed}
 use Rattle.rules.specs.Calls.{add as add-call, apply-call}
 use Rattle.laws.specs.Accepted.{AddPassed, add-passed}
 use Rattle.laws.specs.Ceiling.{ended}
 use Rattle.laws.specs.Kept.{add-same}
 use Rattle.placing.specs.Done.{order-view}
-use Rattle.lists.specs.Flags.{claimed}
+use Rattle.taken.specs.Flags.{claimed}
 use Rattle.entering.specs.Entering.{Storing, Stores, Entered, may-store-claimed, entered-claimed}
+use Rattle.records.specs.Filling.{with-written}
 use Rattle.session.specs.declared.Session.{Session}
-use Rattle.session.specs.Storage.{Storage, Frame, frame-trans}
-use Rattle.session.specs.Turn.{waiting-frame}
+use Rattle.session.specs.Storage.{Storage, with-rows, with-lists, Frame, frame-trans}
+use Rattle.session.specs.PlaceNext.{waiting-frame}
 use Rattle.session.specs.Settle.{Along}
 use Rattle.session.specs.Rep.{Rep}
+use Rattle.session.specs.Noting.{noted-one}
 use Rattle.admitting.specs.declared.Admitted.{Admitted}
 use Rattle.admitting.specs.Promise.{Asks, MayDo, Does, may-do, framed}
 use Rattle.admitting.specs.Numbers.{Number}
-use Rattle.admitting.specs.Noting.{with-rows, rep-noted, frame-noted}
+use Rattle.admitting.specs.Noting.{rep-noted, frame-noted}
 use Rattle.admitting.specs.Admitted.{Places, Admits}
-use Rattle.admitting.specs.Begun.{Begun, goal-reached, goal-frame, admits, noted-row}
-use Rattle.admitting.specs.Adding.{Unplaced, with-added, with-lists, may-enter, entered-rep, frame-entered}
+use Rattle.admitting.specs.Begun.{Begun, goal-reached, goal-frame, admits}
+use Rattle.admitting.specs.Adding.{Unplaced, with-added, may-enter, entered-rep, frame-entered}
 use Rattle.admitting.specs.Linking.{Links, links-rest, may-link, along-add}
 
 module _ (ins outs : List ℕ) (s : Session) (σ : Storage) where
@@ -49,7 +51,17 @@ module _ (ins outs : List ℕ) (s : Session) (σ : Storage) where
 
     few : s .delayed < 4294967295
     unfolding ended
-    few = omega (arith, a .rep .delayed-is, a .between .sound .ceiling, a .between .sound .limits .few, a .between .sound .limits .many, a .rep .core .guided .v-is, a .rep .core .guided .stands .small, ended-le (k .closed))
+    few =
+        omega (
+          arith,
+          a .rep .delayed-is,
+          a .between .sound .ceiling,
+          a .between .sound .limits .few,
+          a .between .sound .limits .many,
+          a .rep .core .guided .v-is,
+          a .rep .core .guided .stands .small,
+          ended-le (k .closed),
+        )
       where
         ended-le : (b : Bool) → ended b ≤ 1
         ended-le true = omega arith
@@ -72,7 +84,7 @@ module _ (ins outs : List ℕ) (s : Session) (σ : Storage) where
     unfolding with-add
     row-is = ap (λ (d : Recorded). length (d .written)) (add-same P N reg k .1) ∙ a .between .noted ∙ sym (a .rep .counted .added-is)
 
-    rep-add : (s′ : Session) (τ : Storage) → Rep P N j s′ τ → Rep P N (note-add j) s′ (with-rows τ (set (τ .rows) (5 * s .added + 2) (s′ .guide .written)))
+    rep-add : (s′ : Session) (τ : Storage) → Rep P N j s′ τ → Rep P N (note-add j) s′ (with-rows τ (with-written (τ .rows) (s .added) (s′ .guide .written)))
     rep-add s′ τ Q =
         rep-noted P N (s .added) (s′ .guide .written) j s′ τ Q row-is (omega (arith, a .rep .counted .added-is, gone .more))
         (sym (order-view (s′ .guide) (τ .spans) (τ .order)) ∙ ap (λ (b : GuideModel). length (b .order)) (Q .core .guided .view-is))
@@ -96,7 +108,7 @@ module _ (ins outs : List ℕ) (s : Session) (σ : Storage) where
       module _ (w pool : List ℕ) (T : Stores y (σ .pool) u r (s .used) ins outs w pool) where
         module _ (a : MayDo (add-call ins outs) s σ) where
           stored : Entered (σ .waiting) (σ .pool) (a .places) (length (a .model .adds)) (pooled (a .model .adds)) ins outs w pool
-          stored = rw (u-is a, r-is a, a .rep .counted .used-is) at (entered-claimed (σ .waiting) (σ .pool) u r (s .used) ins outs y ey (enters a .inside) w pool T)
+          stored = rw (u-is a, r-is a, a .rep .counted .used-is) at (entered-claimed (σ .waiting) (σ .pool) u r (s .used) ins outs y ey w pool T)
 
           unplaced : Unplaced (a .parallelism) (a .places) (with-add reg (a .model)) (with-added s (length ins + length outs)) (with-lists σ w pool)
           unplaced = rw (stored .waiting-is, stored .pool-is) (entered-rep (a .parallelism) (a .places) (a .model) s σ (a .rep) ins outs (gone a))
@@ -104,28 +116,33 @@ module _ (ins outs : List ℕ) (s : Session) (σ : Storage) where
           frame-stored : Frame (a .parallelism) (a .places) (s .guide .written) (s .guide .written) σ (with-lists σ w pool)
           frame-stored = rw (stored .waiting-is, stored .pool-is) (frame-entered (a .parallelism) (a .places) (a .model) s σ (a .rep) ins outs (gone a) (s .guide .written))
 
-          pub add-links : (m : ℕ) → m ≡ greatest ins → (m < u) × (r < u) × (4 * u ≤ length w)
+          pub add-links : (m : ℕ) → m ≡ greatest ins → (m < u) × (r < u) × (waiting-needed u ≤ length w)
           add-links m em = rw (em, u-is a, r-is a) (may-link (a .parallelism) (a .places) (length (σ .pool)) (a .model) ins outs _ _ unplaced (a .between .sound) (a .accepted))
 
-        module _ (t : ℕ) (x : List ℕ) (lx : length x ≡ length w) (L : Links w u (s .lead) ins r t x) where
+        module _ (t : ℕ) (x : List ℕ) (lx : length x ≡ length w) (L : Links w u (s .watermark) ins r t x) where
           -- what is admitted
           abbrev linked : Admitted
-          linked = record { number = 0; lead = s .lead; added = s .added + 1; used = s .used + (length ins + length outs); delayed = s .delayed + 1; top = t }
+          linked = record { number = 0; watermark = s .watermark; added = s .added + 1; used = s .used + (length ins + length outs); delayed = s .delayed + 1; top = t }
 
           module _ (a : MayDo (add-call ins outs) s σ) where
-            here : Links w (a .places) (s .lead) ins (length (a .model .adds)) t x
+            here : Links w (a .places) (s .watermark) ins (length (a .model .adds)) t x
             here = rw (u-is a, r-is a) at L
 
-            add-along : Along (a .parallelism) (a .places) (length (σ .pool)) (s .added) (do-add (a .parallelism) (a .places) reg (a .model)) (with-added s (length ins + length outs)) (with-lists σ x pool) t
+            add-along : Along (a .parallelism) (a .places) (length (σ .pool)) (s .added)
+                (do-add (a .parallelism) (a .places) reg (a .model)) (with-added s (length ins + length outs)) (with-lists σ x pool) t
             add-along =
-                subst (λ (c : ℕ). Along (a .parallelism) (a .places) (length (σ .pool)) c (do-add (a .parallelism) (a .places) reg (a .model)) (with-added s (length ins + length outs)) (with-lists σ x pool) t) (sym (a .rep .counted .added-is))
-                (along-add (a .parallelism) (a .places) (length (σ .pool)) (a .model) ins outs (with-added s (length ins + length outs)) (with-lists σ w pool) (unplaced a) (a .between .sound) (a .accepted) x lx t here)
+                subst
+                (λ (c : ℕ). Along (a .parallelism) (a .places) (length (σ .pool)) c (do-add (a .parallelism) (a .places) reg (a .model))
+                (with-added s (length ins + length outs)) (with-lists σ x pool) t)
+                (sym (a .rep .counted .added-is))
+                (along-add (a .parallelism) (a .places) (length (σ .pool)) (a .model) ins outs (with-added s (length ins + length outs))
+                (with-lists σ w pool) (unplaced a) (a .between .sound) (a .accepted) x lx t here)
 
             add-frame : Frame (s .guide .p) (s .guide .v) (s .guide .written) (s .guide .written) σ (with-lists σ x pool)
             add-frame =
                 framed (a .parallelism) (a .places) (s .guide .written) (s .guide .written) s σ (with-lists σ x pool) (a .rep .core .guided .p-is) (a .rep .core .guided .v-is)
                 (frame-trans (a .parallelism) (a .places) (s .guide .written) (s .guide .written) (s .guide .written) σ (with-lists σ w pool) (with-lists σ x pool) (frame-stored a)
-                (waiting-frame (a .parallelism) (a .places) (s .guide .written) (with-lists σ w pool) x lx (links-rest w (a .places) (s .lead) ins (length (a .model .adds)) x t here)))
+                (waiting-frame (a .parallelism) (a .places) (s .guide .written) (with-lists σ w pool) x lx (links-rest w (a .places) (s .watermark) ins (length (a .model .adds)) x t here)))
 
           add-begun : MayDo (add-call ins outs) s σ → Begun (add-call ins outs) (λ P N k. do-add P N reg k) s linked σ (with-lists σ x pool)
           add-begun a = record { along = add-along; frame = add-frame a }
@@ -135,14 +152,15 @@ module _ (ins outs : List ℕ) (s : Session) (σ : Storage) where
           add-does a s′ υ Q =
               let D = add-begun a in
               let τ = Q .settled in
-              rw (Q .is ∙ noted-row (s .added) (s .added + 1) (s′ .guide .written) τ (omega arith))
+              rw (Q .is ∙ ap (λ (rs : List ℕ). with-rows τ rs) (noted-one (s .added) (s′ .guide .written) (τ .rows)))
               (record {
                 rep = λ P N k R B e.
                     let b : MayDo (add-call ins outs) s σ = record { parallelism = P; places = N; model = k; rep = R; between = B; accepted = e } in
                     rep-add b s′ τ (goal-reached _ _ s linked σ _ D s′ τ (Q .settles) b);
                 frame =
                     frame-trans (s .guide .p) (s .guide .v) (s .guide .written) (s′ .guide .written) (s′ .guide .written) σ τ _ (goal-frame _ _ s linked σ _ D s′ τ (Q .settles))
-                    (frame-noted (s .guide .p) (s .guide .v) (s′ .guide .written) (s .added) (s′ .guide .written) τ (omega (arith, a .rep .counted .added-is, gone a .more, a .rep .core .guided .v-is)));
+                    (frame-noted (s .guide .p) (s .guide .v) (s′ .guide .written) (s .added) (s′ .guide .written) τ
+                    (omega (arith, a .rep .counted .added-is, gone a .more, a .rep .core .guided .v-is)));
               })
 
           pub add-admits : (n : ℕ) → Number (add-call ins outs) n s σ → n ≡ 0 → Asks s σ → Admits (add-call ins outs) s linked σ (with-lists σ x pool)

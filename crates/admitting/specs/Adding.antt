@@ -1,55 +1,48 @@
 -- An accepted add: from what storing its lists and flags leaves, the session stands for the model with that registration, which is still
 -- to be put on the stack or to join those that wait. Assumes nothing.
-use mathlib.Core.Path.{_≡_, refl, sym, ap, _∙_, subst}
+use mathlib.Core.Path.{_≡_, refl, _∙_, subst}
 use mathlib.Core.List.{List, [], _∷_, _++_, List·Memᴰ·head, List·Memᴰ·tail}
-use Prim.Native.Nat.{ℕ, _+_, _*_, _<_}
+use Prim.Native.Nat.{ℕ, _+_}
 use native.Mathlib.Omega.{arith}
-use lib.ListN.{length, getD, set, length-set, length-append}
-use lib.Seq.{getD-set-other, getD-take}
+use lib.ListN.{length, length-append}
 use Rattle.rules.specs.Record.{row-of}
-use Rattle.rules.specs.Model.{Reg, Model, watermark, tracked, with-add}
+use Rattle.rules.specs.Model.{Reg, Model, watermark as watermark-of, tracked, with-add}
 use Rattle.rules.specs.Checks.{taken, pooled}
 use Rattle.laws.specs.Accepted.{AddPassed}
 use Rattle.laws.specs.Limits.{AllBelow}
 use Rattle.lists.specs.Part.{Below, below-at}
-use Rattle.lists.specs.Flags.{Flags, claimed}
-use Rattle.lists.specs.FlagLaws.{flags-store, flags-add, claimed-length, claimed-low, claimed-beyond}
-use Rattle.lists.specs.Lists.{Lists, cell, stored}
-use Rattle.lists.specs.ListLaws.{lists-low, lists-add, used-few, stored-length}
+use Rattle.taken.specs.Flags.{Flags, claimed}
+use Rattle.taken.specs.FlagLaws.{flags-add, claimed-length}
+use Rattle.pool.specs.Lists.{Lists, stored}
+use Rattle.pool.specs.ListLaws.{lists-add, used-few, stored-length, cell-length}
 use Rattle.registrar.specs.Delayed.{Delayed}
-use Rattle.registrar.specs.Keeps.{delayed-same}
+use Rattle.waiting.specs.Apart.{lists-claimed, delayed-claimed, beyond-claimed, flags-cell, delayed-cell, beyond-cell}
 use Rattle.entering.specs.Entering.{entered-waiting, entered-pool, Storing}
 use Rattle.session.specs.declared.Session.{Session}
-use Rattle.session.specs.Storage.{Storage, Frame, frame-refl}
+use Rattle.session.specs.Storage.{Storage, with-lists, Frame, frame-refl}
 use Rattle.session.specs.Rep.{Counted, Core, Rep}
-use Rattle.admitting.specs.Setting.{past}
 
 -- all but the stack, and one registration more than those that wait is still to be placed or delayed
 pub record Unplaced (P N : ℕ) (k : Model) (s : Session) (σ : Storage) : Type 0 where
-  pub core : Core P N k (s .guide) (s .lead) σ
+  pub core : Core P N k (s .guide) (s .watermark) σ
   pub counted : Counted k s
-  pub delayed : Delayed (σ .waiting) N (s .lead) (k .pending) 0 []
+  pub delayed : Delayed (σ .waiting) N (s .watermark) (k .pending) 0 []
   pub delayed-is : s .delayed ≡ 1 + length (k .pending)
 
 -- the session with one registration more
 abbrev pub with-added : Session → ℕ → Session
 with-added s n =
-    record { guide = s .guide; lead = s .lead; added = s .added + 1; used = s .used + n; delayed = s .delayed + 1; flushes = s .flushes; closed = s .closed; registrations = s .registrations; places = s .places }
-
-abbrev pub with-lists : Storage → List ℕ → List ℕ → Storage
-with-lists σ w pool =
-    record { spans = σ .spans; order = σ .order; tally = σ .tally; rows = σ .rows; marks = σ .marks; locations = σ .locations; waiting = w; pool = pool }
-
-entered-length : (w : List ℕ) (v r used : ℕ) (ins outs : List ℕ) → length (entered-waiting w v r used ins outs) ≡ length w
-unfolding entered-waiting
-entered-length w v r used ins outs = claimed-length (set w (2 * v + r) (cell used (length ins))) v outs ∙ length-set w (2 * v + r) (cell used (length ins))
-
-entered-first : (w : List ℕ) (v r used : ℕ) (ins outs : List ℕ) (i : ℕ) → i < 2 * v → getD (entered-waiting w v r used ins outs) i 0 ≡ getD w i 0
-unfolding entered-waiting
-entered-first w v r used ins outs i h =
-    let x = set w (2 * v + r) (cell used (length ins)) in
-    sym (getD-take (3 * v) (claimed x v outs) i 0 (omega arith)) ∙ ap (λ (l : List ℕ). getD l i 0) (claimed-low x v outs) ∙ getD-take (3 * v) x i 0 (omega arith)
-    ∙ getD-set-other w (2 * v + r) i (cell used (length ins)) 0 (omega arith)
+    record {
+      guide = s .guide;
+      watermark = s .watermark;
+      added = s .added + 1;
+      used = s .used + n;
+      delayed = s .delayed + 1;
+      flushes = s .flushes;
+      closed = s .closed;
+      registrations = s .registrations;
+      places = s .places;
+    }
 
 module _ (P N : ℕ) (k : Model) (s : Session) (σ : Storage) (R : Rep P N k s σ) (ins outs : List ℕ) (A : AddPassed N (length (σ .pool)) ins outs k) where
   abbrev a : Reg
@@ -84,30 +77,31 @@ module _ (P N : ℕ) (k : Model) (s : Session) (σ : Storage) (R : Rep P N k s �
         outs-fit = λ j h. omega (arith, below-at N outs below j h, R .core .guided .stands .small, R .core .guided .v-is);
       }
 
-  lists′ : Lists N (k .adds ++ (a ∷ [])) (pooled (k .adds ++ (a ∷ []))) w pool
+  -- the waiting storage with the outputs flagged
+  abbrev flagged : List ℕ
+  flagged = claimed (σ .waiting) N outs
+
+  entered : Lists N (k .adds ++ (a ∷ [])) (pooled (k .adds) + length ins + length outs) w pool
   unfolding entered-waiting entered-pool
-  lists′ =
-      let x = set (σ .waiting) (2 * N + r) (cell (pooled (k .adds)) (length ins)) in
-      let l = lists-add N (k .adds) (pooled (k .adds)) (σ .waiting) (σ .pool) (R .core .stored .lists) a (A .more) (A .room) (A .ins-few) (A .outs-few) in
-      let m = subst (λ (u : ℕ). Lists N (k .adds ++ (a ∷ [])) u x pool) (l .used-is) l in
-      lists-low N (k .adds ++ (a ∷ [])) (pooled (k .adds ++ (a ∷ []))) x pool m w (claimed-length x N outs) (claimed-low x N outs)
+  entered = lists-add N (k .adds) (pooled (k .adds)) flagged (σ .pool) (lists-claimed outs below (R .core .stored .lists)) a (A .more) (A .room) (A .ins-few) (A .outs-few)
+
+  lists′ : Lists N (k .adds ++ (a ∷ [])) (pooled (k .adds ++ (a ∷ []))) w pool
+  lists′ = subst (λ (u : ℕ). Lists N (k .adds ++ (a ∷ [])) u w pool) (entered .used-is) entered
 
   flags′ : Flags N (taken (with-add a k)) w
   unfolding entered-waiting
-  flags′ = flags-add N a k (set (σ .waiting) (2 * N + r) (cell (pooled (k .adds)) (length ins))) below (flags-store N (taken k) (σ .waiting) (2 * N + r) _ (omega (arith, A .more)) (R .core .stored .flags))
+  flags′ = flags-cell flagged (pooled (k .adds)) (length ins) (A .more) (flags-add N a k (σ .waiting) below (R .core .stored .flags))
 
-  entered-delayed : Delayed w N (s .lead) (k .pending) 0 []
-  entered-delayed =
-      delayed-same (σ .waiting) N (s .lead) (k .pending) 0 [] (R .delayed) w
-      (omega (arith, entered-length (σ .waiting) N r (pooled (k .adds)) ins outs, R .delayed .long))
-      (λ i h. entered-first (σ .waiting) N r (pooled (k .adds)) ins outs i h)
+  entered-delayed : Delayed w N (s .watermark) (k .pending) 0 []
+  unfolding entered-waiting
+  entered-delayed = delayed-cell flagged (pooled (k .adds)) (length ins) (A .more) (delayed-claimed outs below (R .delayed))
 
   counted-add : Counted (with-add a k) (with-added s (length ins + length outs))
   unfolding with-add
   counted-add =
       record {
         added-is = omega (arith, R .counted .added-is, length-append (k .adds) (a ∷ []));
-        used-is = omega (arith, R .counted .used-is, lists′ .used-is, lists-add N (k .adds) (pooled (k .adds)) (σ .waiting) (σ .pool) (R .core .stored .lists) a (A .more) (A .room) (A .ins-few) (A .outs-few) .used-is);
+        used-is = omega (arith, R .counted .used-is, entered .used-is);
         flushes-is = R .counted .flushes-is;
         closed-is = R .counted .closed-is;
         registrations-is = rw (A .not-closed) (rw (A .not-closed) at (R .counted .registrations-is));
@@ -116,13 +110,13 @@ module _ (P N : ℕ) (k : Model) (s : Session) (σ : Storage) (R : Rep P N k s �
 
   -- its lists are stored; it is neither on the stack nor waiting yet
   pub entered-rep : Unplaced P N (with-add a k) (with-added s (length ins + length outs)) (with-lists σ w pool)
-  unfolding with-add watermark tracked row-of
+  unfolding with-add watermark-of tracked row-of
   entered-rep =
       record {
         core = record {
           guided = record { p-is = R .core .guided .p-is; v-is = R .core .guided .v-is; places = R .core .guided .places; stands = R .core .guided .stands; view-is = R .core .guided .view-is };
           rowed = record { long = R .core .rowed .long; rows = R .core .rowed .rows };
-          tracked = record { places = R .core .tracked .places; lead-is = R .core .tracked .lead-is };
+          tracked = record { places = R .core .tracked .places; watermark-is = R .core .tracked .watermark-is };
           stored = record { lists = lists′; flags = flags′ };
         };
         counted = counted-add;
@@ -145,11 +139,8 @@ module _ (P N : ℕ) (k : Model) (s : Session) (σ : Storage) (R : Rep P N k s �
         marks = f .marks;
         locations = f .locations;
         waiting = record {
-          long = entered-length (σ .waiting) N r (pooled (k .adds)) ins outs;
-          same = λ j h. past (4 * N) j x (claimed x N outs) h (claimed-beyond x N outs below) ∙ getD-set-other (σ .waiting) (2 * N + r) j (cell (pooled (k .adds)) (length ins)) 0 (omega (arith, A .more));
+          long = cell-length flagged N r (pooled (k .adds)) (length ins) ∙ claimed-length (σ .waiting) N outs;
+          same = λ j h. beyond-cell flagged (pooled (k .adds)) (length ins) (A .more) j h ∙ beyond-claimed (σ .waiting) N outs below j h;
         };
         pool = stored-length (stored (σ .pool) (pooled (k .adds)) ins) (pooled (k .adds) + length ins) outs (omega (arith, A .room)) ∙ q;
       }
-    where
-      x : List ℕ
-      x = set (σ .waiting) (2 * N + r) (cell (pooled (k .adds)) (length ins))

@@ -1,24 +1,22 @@
 -- The own part of an accepted set or add is stored, and what is to be placed stands on the stack: so the call is admitted, and the cascade
 -- does the rest. Refused, nothing has changed. Assumes nothing.
-use mathlib.Core.Path.{_≡_, refl, sym, ap, _∙_, subst}
-use mathlib.Core.Bool.{Bool, true, false}
+use mathlib.Core.Path.{_≡_, sym, ap, _∙_, subst}
 use mathlib.Core.List.{List}
-use Prim.Native.Nat.{ℕ, _+_, _*_, _≤_, _<_}
+use Prim.Native.Nat.{ℕ, _<_}
 use native.Mathlib.Omega.{arith}
-use lib.Dec.{ltb}
-use lib.ListN.{length, set, length-set}
-use borrow.Author.Tests.{lt-ltb, le-ltb}
+use lib.ListN.{length}
 use Rattle.rules.specs.Model.{Model}
 use Rattle.rules.specs.Calls.{Call}
+use Rattle.records.specs.Filling.{rows-fit}
 use Rattle.session.specs.declared.Session.{Session}
-use Rattle.session.specs.Storage.{Storage, Frame, frame-trans}
+use Rattle.session.specs.Storage.{Storage, with-rows, Frame, frame-trans}
 use Rattle.session.specs.Settle.{MaySettle, Settles, Along}
 use Rattle.session.specs.Rep.{Rep}
+use Rattle.session.specs.Noting.{noted}
 use Rattle.admitting.specs.declared.Admitted.{Admitted}
 use Rattle.admitting.specs.Promise.{Asks, MayDo, Does, may-do}
 use Rattle.admitting.specs.Numbers.{Number}
-use Rattle.admitting.specs.Noting.{with-rows}
-use Rattle.admitting.specs.Admitted.{counted, noted, Places, Admits}
+use Rattle.admitting.specs.Admitted.{counted, Places, Admits}
 
 -- from the counts of a, with its stack, the cascade leads to the model's `goal`, whichever model was meant before the call
 pub record Begun (c : Call) (goal : ℕ → ℕ → Model → Model) (s : Session) (a : Admitted) (σ τ : Storage) : Type 0 where
@@ -32,7 +30,8 @@ module _ (c : Call) (goal : ℕ → ℕ → Model → Model) (s : Session) (a : 
       record { P = m .parallelism; N = m .places; W = length (σ .pool); k = A .j; st = A .st; rep = A .rep; sound = A .sound; ended = A .ended }
 
   -- after the cascade
-  pub goal-reached : (s′ : Session) (υ : Storage) → Settles (s .added) (counted s a) τ (a .top) s′ υ → (m : MayDo c s σ) → Rep (m .parallelism) (m .places) (goal (m .parallelism) (m .places) (m .model)) s′ υ
+  pub goal-reached : (s′ : Session) (υ : Storage) → Settles (s .added) (counted s a) τ (a .top) s′ υ → (m : MayDo c s σ) →
+      Rep (m .parallelism) (m .places) (goal (m .parallelism) (m .places) (m .model)) s′ υ
   goal-reached s′ υ Z m =
       let A = D .along m in
       subst (λ (j : Model). Rep (m .parallelism) (m .places) j s′ υ) (A .ends) (Z .rep (m .parallelism) (m .places) (length (σ .pool)) (A .j) (A .st) (A .rep) (A .sound) (A .ended))
@@ -48,32 +47,11 @@ module _ (c : Call) (goal : ℕ → ℕ → Model → Model) (s : Session) (a : 
 pub admits-not : (c : Call) (s : Session) (a : Admitted) (σ τ : Storage) → Number c (a .number) s σ → (a .number ≡ 0 → ⊥) → τ ≡ σ → Admits c s a σ τ
 admits-not c s a σ τ h z e = record { number-is = h; refused = λ x. e; may = λ x. absurd (z x); does = λ x. absurd (z x) }
 
--- what is noted after the cascade: nothing by a set, its row's written by an add
-module _ (r q n : ℕ) where
-  pub rows-none : (rs : List ℕ) → q ≤ r → noted (ltb r q) r n rs ≡ rs
-  unfolding noted
-  rows-none rs h = ap (λ (b : Bool). noted b r n rs) (le-ltb r q h)
-
-  pub rows-one : (rs : List ℕ) → r < q → noted (ltb r q) r n rs ≡ set rs (5 * r + 2) n
-  unfolding noted
-  rows-one rs h = ap (λ (b : Bool). noted b r n rs) (lt-ltb r q h)
-
-  pub noted-none : (σ : Storage) → q ≤ r → with-rows σ (noted (ltb r q) r n (σ .rows)) ≡ σ
-  noted-none σ h = ap (λ (rs : List ℕ). with-rows σ rs) (rows-none (σ .rows) h)
-
-  pub noted-row : (σ : Storage) → r < q → with-rows σ (noted (ltb r q) r n (σ .rows)) ≡ with-rows σ (set (σ .rows) (5 * r + 2) n)
-  noted-row σ h = ap (λ (rs : List ℕ). with-rows σ rs) (rows-one (σ .rows) h)
-
-pub noted-long : (b : Bool) (r n : ℕ) (rs : List ℕ) → length (noted b r n rs) ≡ length rs
-unfolding noted
-noted-long true r n rs = length-set rs (5 * r + 2) n
-noted-long false r n rs = refl
-
 -- the cascade has run, and what an add notes is noted
 module _ (s : Session) (a : Admitted) (s′ : Session) (σ τ : Storage) (Z : Settles (s .added) (counted s a) σ (a .top) s′ τ) where
-  pub places : (rs : List ℕ) → rs ≡ noted (ltb (s .added) (a .added)) (s .added) (s′ .guide .written) (τ .rows) → Places s a s′ σ (with-rows τ rs)
+  pub places : (rs : List ℕ) → rs ≡ noted (s .added) (a .added) (s′ .guide .written) (τ .rows) → Places s a s′ σ (with-rows τ rs)
   places rs e = record { settled = τ; settles = Z; is = ap (λ (x : List ℕ). with-rows τ x) e }
 
-  -- an added registration has a row
-  pub row-there : MaySettle (s .added) (counted s a) σ (a .top) → s .added < a .added → 5 * s .added + 2 < length (τ .rows)
+  -- the registrations have rows
+  pub row-there : MaySettle (s .added) (counted s a) σ (a .top) → s .added < a .added → rows-fit (τ .rows) (a .added)
   row-there m h = omega (arith, m .rep .counted .added-is, m .sound .limits .many, m .rep .core .rowed .long, Z .frame .rows .long)

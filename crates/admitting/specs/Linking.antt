@@ -4,13 +4,13 @@ use mathlib.Core.Path.{_≡_, refl, sym, ap, _∙_}
 use mathlib.Core.List.{List, [], _∷_, List·Memᴰ·head, List·Memᴰ·tail}
 use mathlib.Core.Bool.{Bool, true, false, false≢true}
 use mathlib.Core.Logic.{_⊎_, inl, inr}
-use Prim.Native.Nat.{ℕ, suc, _*_, _≤_, _<_}
+use Prim.Native.Nat.{ℕ, suc, _≤_, _<_}
 use native.Mathlib.Omega.{arith}
 use lib.Dec.{ltb}
-use lib.ListN.{length, drop, length-append}
+use lib.ListN.{length, length-append}
 use Rattle.rules.specs.Record.{row-of}
-use Rattle.rules.specs.Model.{Model, Pending, watermark, tracked, greatest, ready, queue, keep, with-add, do-add}
-use Rattle.rules.specs.Checks.{taken, pooled}
+use Rattle.rules.specs.Model.{Model, Pending, watermark as watermark-of, tracked, greatest, ready, queue, keep, with-add, do-add}
+use Rattle.rules.specs.Checks.{taken, waiting-needed}
 use Rattle.rules.specs.Calls.{add as add-call, answer}
 use Rattle.laws.specs.Accepted.{AddPassed, add-passed}
 use Rattle.laws.specs.Limits.{AllBelow}
@@ -18,58 +18,57 @@ use Rattle.laws.specs.ModelBase.{bool-cases}
 use Rattle.laws.specs.Delaying.{not-ready}
 use Rattle.laws.specs.Sound.{Sound, sound-adding, sound-delaying}
 use Rattle.lists.specs.Arguments.{ready-none, ready-low, ready-high}
-use Rattle.lists.specs.FlagLaws.{flags-kept}
-use Rattle.lists.specs.ListLaws.{lists-kept}
-use Rattle.registrar.specs.Delayed.{Joins, Stacks, occurs}
+use Rattle.waiting.specs.Apart.{lists-aside, flags-aside}
+use Rattle.registrar.specs.Delayed.{Aside, Joins, Stacks, occurs}
 use Rattle.registrar.specs.Queue.{pends-none}
 use Rattle.buffer.specs.declared.Guide.{Guide}
 use Rattle.session.specs.declared.Session.{Session}
-use Rattle.session.specs.Storage.{Storage}
-use Rattle.session.specs.Turn.{with-waiting}
+use Rattle.session.specs.Storage.{Storage, with-waiting}
 use Rattle.session.specs.Cascade.{settle-done}
 use Rattle.session.specs.Settle.{Along}
 use Rattle.session.specs.Rep.{Core, RepSt, Rep}
 use Rattle.admitting.specs.Adding.{Unplaced}
 
 -- registration r with inputs ins is alone on the stack, whose top link is t, or waits under its greatest input with the stack empty
-pub record Links (w : List ℕ) (v lead : ℕ) (ins : List ℕ) (r t : ℕ) (w′ : List ℕ) : Type 0 where
-  pub stacks : ready lead ins ≡ true → Stacks w v r 0 t w′
-  pub joins : ready lead ins ≡ false → (t ≡ 0) × Joins w v (greatest ins) r w′
+pub record Links (w : List ℕ) (v watermark : ℕ) (ins : List ℕ) (r t : ℕ) (w′ : List ℕ) : Type 0 where
+  pub stacks : ready watermark ins ≡ true → Stacks w v r 0 t w′
+  pub joins : ready watermark ins ≡ false → (t ≡ 0) × Joins w v (greatest ins) r w′
 
 -- the same of whatever list has so many places and m as the greatest
 abbrev pub LinksNew : List ℕ → ℕ → ℕ → ℕ → ℕ → ℕ → ℕ → List ℕ → Type 0
-LinksNew w v lead inputs m r t w′ = (ins : List ℕ) → inputs ≡ length ins → m ≡ greatest ins → Links w v lead ins r t w′
+LinksNew w v watermark inputs m r t w′ = (ins : List ℕ) → inputs ≡ length ins → m ≡ greatest ins → Links w v watermark ins r t w′
 
-module _ (w : List ℕ) (v lead : ℕ) (ins : List ℕ) (r : ℕ) (w′ : List ℕ) where
+module _ (w : List ℕ) (v watermark : ℕ) (ins : List ℕ) (r : ℕ) (w′ : List ℕ) where
   -- heads and links alone have changed
-  pub links-rest : (t : ℕ) → Links w v lead ins r t w′ → drop (2 * v) w′ ≡ drop (2 * v) w
-  links-rest t L = go (bool-cases (ready lead ins))
+  pub links-rest : (t : ℕ) → Links w v watermark ins r t w′ → Aside w v w′
+  links-rest t L = go (bool-cases (ready watermark ins))
     where
-      go : (ready lead ins ≡ true) ⊎ (ready lead ins ≡ false) → drop (2 * v) w′ ≡ drop (2 * v) w
-      go (inl h) = L .stacks h .kept .rest
-      go (inr h) = L .joins h .1 .rest
+      go : (ready watermark ins ≡ true) ⊎ (ready watermark ins ≡ false) → Aside w v w′
+      go (inl h) = L .stacks h .kept .aside
+      go (inr h) = L .joins h .1 .aside
 
 -- no inputs, the greatest below the watermark, or not
-module _ (w : List ℕ) (v lead inputs m r : ℕ) (w′ : List ℕ) where
-  pub links-none : (t : ℕ) → inputs ≡ 0 → Stacks w v r 0 t w′ → LinksNew w v lead inputs m r t w′
-  links-none t h Z ins e g = record { stacks = λ x. Z; joins = λ x. absurd (false≢true (sym x ∙ ready-none lead ins (omega arith))) }
+module _ (w : List ℕ) (v watermark inputs m r : ℕ) (w′ : List ℕ) where
+  pub links-none : (t : ℕ) → inputs ≡ 0 → Stacks w v r 0 t w′ → LinksNew w v watermark inputs m r t w′
+  links-none t h Z ins e g = record { stacks = λ x. Z; joins = λ x. absurd (false≢true (sym x ∙ ready-none watermark ins (omega arith))) }
 
-  pub links-low : (t : ℕ) → m < lead → Stacks w v r 0 t w′ → LinksNew w v lead inputs m r t w′
-  links-low t h Z ins e g = record { stacks = λ x. Z; joins = λ x. absurd (false≢true (sym x ∙ ready-low lead ins (omega arith))) }
+  pub links-low : (t : ℕ) → m < watermark → Stacks w v r 0 t w′ → LinksNew w v watermark inputs m r t w′
+  links-low t h Z ins e g = record { stacks = λ x. Z; joins = λ x. absurd (false≢true (sym x ∙ ready-low watermark ins (omega arith))) }
 
-  pub links-high : (inputs ≡ 0 → ⊥) → lead ≤ m → Joins w v m r w′ → LinksNew w v lead inputs m r 0 w′
-  links-high n h J ins e g = record { stacks = λ x. absurd (false≢true (sym (ready-high lead ins (λ z. n (e ∙ z)) (omega arith)) ∙ x)); joins = λ x. (refl, rw g at J) }
+  pub links-high : (inputs ≡ 0 → ⊥) → watermark ≤ m → Joins w v m r w′ → LinksNew w v watermark inputs m r 0 w′
+  links-high n h J ins e g = record { stacks = λ x. absurd (false≢true (sym (ready-high watermark ins (λ z. n (e ∙ z)) (omega arith)) ∙ x)); joins = λ x. (refl, rw g at J) }
 
--- the first half of the waiting storage decides neither lists nor flags
-core-waiting : (P N : ℕ) (j : Model) (g : Guide) (lead : ℕ) (σ : Storage) (w : List ℕ) → length w ≡ length (σ .waiting) → drop (2 * N) w ≡ drop (2 * N) (σ .waiting) → Core P N j g lead σ → Core P N j g lead (with-waiting w σ)
-core-waiting P N j g lead σ w lw dw c =
+-- heads and links decide neither lists nor flags
+core-waiting : (P N : ℕ) (j : Model) (g : Guide) (watermark : ℕ) (σ : Storage) (w : List ℕ) → length w ≡ length (σ .waiting) →
+    Aside (σ .waiting) N w → Core P N j g watermark σ → Core P N j g watermark (with-waiting σ w)
+core-waiting P N j g watermark σ w lw dw c =
     record {
       guided = record { p-is = c .guided .p-is; v-is = c .guided .v-is; places = c .guided .places; stands = c .guided .stands; view-is = c .guided .view-is };
       rowed = record { long = c .rowed .long; rows = c .rowed .rows };
-      tracked = record { places = c .tracked .places; lead-is = c .tracked .lead-is };
+      tracked = record { places = c .tracked .places; watermark-is = c .tracked .watermark-is };
       stored = record {
-        lists = lists-kept N (j .adds) (pooled (j .adds)) (σ .waiting) (σ .pool) (c .stored .lists) w lw dw;
-        flags = flags-kept N (taken j) (σ .waiting) w lw dw (c .stored .flags);
+        lists = lists-aside dw lw (c .stored .lists);
+        flags = flags-aside dw lw (c .stored .flags);
       };
     }
 
@@ -88,7 +87,9 @@ queue-length x (y ∷ ps) = go (bool-cases (ltb (x .under) (y .under))) (queue-l
     go (inr e) r = rw (e, queue) (ap suc r)
 
 -- a new registration with its lists stored
-module _ (P N W : ℕ) (k : Model) (ins outs : List ℕ) (s : Session) (σ : Storage) (U : Unplaced P N (with-add (record { ins = ins; outs = outs }) k) s σ) (S : Sound P N W k []) (e : answer N W (add-call ins outs) k ≡ 0) where
+module _ (P N W : ℕ) (k : Model) (ins outs : List ℕ) (s : Session) (σ : Storage)
+    (U : Unplaced P N (with-add (record { ins = ins; outs = outs }) k) s σ) (S : Sound P N W k [])
+    (e : answer N W (add-call ins outs) k ≡ 0) where
   abbrev new : Model
   new = with-add (record { ins = ins; outs = outs }) k
 
@@ -101,41 +102,41 @@ module _ (P N W : ℕ) (k : Model) (ins outs : List ℕ) (s : Session) (σ : Sto
   positive : 1 ≤ P
   positive = omega (arith, U .core .guided .stands .laid .one, U .core .guided .p-is)
 
-  lead-is : s .lead ≡ watermark N k
-  unfolding with-add watermark tracked
-  lead-is = U .core .tracked .lead-is
+  watermark-is : s .watermark ≡ watermark-of N k
+  unfolding with-add watermark-of tracked
+  watermark-is = U .core .tracked .watermark-is
 
   -- what linking it asks
-  pub may-link : (greatest ins < N) × (reg < N) × (4 * N ≤ length (σ .waiting))
+  pub may-link : (greatest ins < N) × (reg < N) × (waiting-needed N ≤ length (σ .waiting))
   may-link = (greatest-below N ins (U .core .guided .places) (gone .ins-inside), gone .more, U .delayed .long)
 
   module _ (w : List ℕ) (lw : length w ≡ length (σ .waiting)) where
     -- it is put on the empty stack
-    rep-stacked : (t : ℕ) → Stacks (σ .waiting) N reg 0 t w → RepSt P N new s (with-waiting w σ) t (reg ∷ [])
+    rep-stacked : (t : ℕ) → Stacks (σ .waiting) N reg 0 t w → RepSt P N new s (with-waiting σ w) t (reg ∷ [])
     unfolding with-add occurs
     rep-stacked t Z =
         record {
-          core = core-waiting P N new (s .guide) (s .lead) σ w lw (Z .kept .rest) (U .core);
+          core = core-waiting P N new (s .guide) (s .watermark) σ w lw (Z .kept .aside) (U .core);
           counted = U .counted;
-          delayed = Z .delayed (s .lead) (k .pending) [] (U .delayed) (omega (arith, pends-none reg (k .pending) (λ y h. S .inv .pending-ok y h .0)));
+          delayed = Z .delayed (s .watermark) (k .pending) [] (U .delayed) (omega (arith, pends-none reg (k .pending) (λ y h. S .inv .pending-ok y h .0)));
           delayed-is = omega (arith, U .delayed-is);
         }
 
     -- or it waits under its greatest input
-    rep-waits : s .lead ≤ greatest ins → Joins (σ .waiting) N (greatest ins) reg w → Rep P N (keep (queue (record { under = greatest ins; reg = reg }) (k .pending)) new) s (with-waiting w σ)
-    unfolding with-add keep occurs watermark tracked taken row-of
+    rep-waits : s .watermark ≤ greatest ins → Joins (σ .waiting) N (greatest ins) reg w → Rep P N (keep (queue (record { under = greatest ins; reg = reg }) (k .pending)) new) s (with-waiting σ w)
+    unfolding with-add keep occurs watermark-of tracked taken row-of
     rep-waits h J =
-        let c = core-waiting P N new (s .guide) (s .lead) σ w lw (J .rest) (U .core) in
+        let c = core-waiting P N new (s .guide) (s .watermark) σ w lw (J .aside) (U .core) in
         let d = U .counted in
         record {
           core = record {
             guided = record { p-is = c .guided .p-is; v-is = c .guided .v-is; places = c .guided .places; stands = c .guided .stands; view-is = c .guided .view-is };
             rowed = record { long = c .rowed .long; rows = c .rowed .rows };
-            tracked = record { places = c .tracked .places; lead-is = c .tracked .lead-is };
+            tracked = record { places = c .tracked .places; watermark-is = c .tracked .watermark-is };
             stored = record { lists = c .stored .lists; flags = c .stored .flags };
           };
           counted = record { added-is = d .added-is; used-is = d .used-is; flushes-is = d .flushes-is; closed-is = d .closed-is; registrations-is = d .registrations-is; places-is = d .places-is };
-          delayed = J .delayed (s .lead) (k .pending) 0 [] (U .delayed) (record { above = λ y z. S .inv .pending-ok y z .0; unstacked = refl }) h;
+          delayed = J .delayed (s .watermark) (k .pending) 0 [] (U .delayed) (record { above = λ y z. S .inv .pending-ok y z .0; unstacked = refl }) h;
           delayed-is = omega (arith, U .delayed-is, queue-length (record { under = greatest ins; reg = reg }) (k .pending));
         }
 
@@ -144,14 +145,14 @@ module _ (P N W : ℕ) (k : Model) (ins outs : List ℕ) (s : Session) (σ : Sto
     ended = omega (arith, length-append (k .adds) (record { ins = ins; outs = outs } ∷ []))
 
     -- either way the cascade leads to the model's add
-    pub along-add : (t : ℕ) → Links (σ .waiting) N (s .lead) ins reg t w → Along P N W reg (do-add P N (record { ins = ins; outs = outs }) k) s (with-waiting w σ) t
+    pub along-add : (t : ℕ) → Links (σ .waiting) N (s .watermark) ins reg t w → Along P N W reg (do-add P N (record { ins = ins; outs = outs }) k) s (with-waiting σ w) t
     unfolding do-add keep
-    along-add t L = go (bool-cases (ready (watermark N k) ins))
+    along-add t L = go (bool-cases (ready (watermark-of N k) ins))
       where
-        here : (b : Bool) → ready (watermark N k) ins ≡ b → ready (s .lead) ins ≡ b
-        here b h = rw lead-is h
+        here : (b : Bool) → ready (watermark-of N k) ins ≡ b → ready (s .watermark) ins ≡ b
+        here b h = rw watermark-is h
 
-        go : (ready (watermark N k) ins ≡ true) ⊎ (ready (watermark N k) ins ≡ false) → Along P N W reg (do-add P N (record { ins = ins; outs = outs }) k) s (with-waiting w σ) t
+        go : (ready (watermark-of N k) ins ≡ true) ⊎ (ready (watermark-of N k) ins ≡ false) → Along P N W reg (do-add P N (record { ins = ins; outs = outs }) k) s (with-waiting σ w) t
         go (inl h) =
             record {
               j = new;
@@ -166,7 +167,7 @@ module _ (P N W : ℕ) (k : Model) (ins outs : List ℕ) (s : Session) (σ : Sto
             record {
               j = keep (queue (record { under = greatest ins; reg = reg }) (k .pending)) new;
               st = [];
-              rep = rw (q .0) (rep-waits (not-ready (s .lead) ins (here false h)) (q .1));
+              rep = rw (q .0) (rep-waits (not-ready (s .watermark) ins (here false h)) (q .1));
               sound = sound-delaying P N W positive ins outs k e h S;
               ended = ended;
               ends = rw (h, do-add) (settle-done P N reg (keep (queue (record { under = greatest ins; reg = reg }) (k .pending)) new));

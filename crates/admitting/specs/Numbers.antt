@@ -8,9 +8,9 @@ use lib.ListN.{length}
 use Rattle.rules.specs.Model.{Model, greatest}
 use Rattle.rules.specs.Checks.{verdict, taken}
 use Rattle.rules.specs.Calls.{Call, set, add, flush, final, answer}
-use Rattle.checking.specs.Parts.{set-checks, add-checks, flush-checks, final-checks}
-use Rattle.checking.specs.Contracts.{ChecksSet, MayAdmit, ClaimsAdd}
+use Rattle.checking.specs.Parts.{set-checks, add-checks, flush-checks, final-checks, ChecksSet}
 use Rattle.checking.specs.Laws.{answer-set, answer-add, answer-flush, answer-final}
+use Rattle.claiming.specs.Contracts.{MayAdmit, ClaimsAdd}
 use Rattle.session.specs.declared.Session.{Session}
 use Rattle.session.specs.Storage.{Storage}
 use Rattle.session.specs.Rep.{Rep}
@@ -58,7 +58,8 @@ may-add ins outs n u added s σ w eu ea c z a = may-do (add ins outs) n s σ (ad
 
 pub flush-number : (n : ℕ) (s : Session) (σ : Storage) → n ≡ verdict (flush-checks (s .closed) (s .flushes)) → Number flush n s σ
 flush-number n s σ e P N k R =
-    e ∙ ap (λ (b : Bool). verdict (flush-checks b (s .flushes))) (R .counted .closed-is) ∙ ap (λ (x : ℕ). verdict (flush-checks (k .closed) x)) (R .counted .flushes-is) ∙ answer-flush N (length (σ .pool)) k
+    e ∙ ap (λ (b : Bool). verdict (flush-checks b (s .flushes))) (R .counted .closed-is)
+    ∙ ap (λ (x : ℕ). verdict (flush-checks (k .closed) x)) (R .counted .flushes-is) ∙ answer-flush N (length (σ .pool)) k
 
 pub final-number : (n : ℕ) (s : Session) (σ : Storage) → n ≡ verdict (final-checks (s .closed) (s .delayed)) → Number final n s σ
 final-number n s σ e P N k R =

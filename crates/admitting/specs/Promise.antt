@@ -11,8 +11,7 @@ use Rattle.rules.specs.Model.{Model}
 use Rattle.rules.specs.Calls.{Call, answer, apply-call, unless-refused, step}
 use Rattle.laws.specs.Sound.{Between}
 use Rattle.session.specs.declared.Session.{Session}
-use Rattle.session.specs.Storage.{Storage, Frame, frame-refl}
-use Rattle.session.specs.Turn.{with-waiting}
+use Rattle.session.specs.Storage.{Storage, with-waiting, Frame, frame-refl}
 use Rattle.session.specs.Rep.{Rep}
 use Rattle.session.specs.Shows.{Shows}
 use Rattle.session.specs.Showing.{shows}
@@ -98,5 +97,5 @@ pub positive : (P N : ℕ) (k : Model) (s : Session) (σ : Storage) → Rep P N 
 positive P N k s σ R = omega (arith, R .core .guided .stands .laid .one, R .core .guided .p-is)
 
 -- checks that leave the waiting storage as it was: w is what stands there after them
-pub same-waiting : (w : List ℕ) (σ : Storage) → w ≡ σ .waiting → with-waiting w σ ≡ σ
-same-waiting w σ e = ap (λ (x : List ℕ). with-waiting x σ) e
+pub same-waiting : (w : List ℕ) (σ : Storage) → w ≡ σ .waiting → with-waiting σ w ≡ σ
+same-waiting w σ e = ap (λ (x : List ℕ). with-waiting σ x) e

@@ -6,7 +6,7 @@ use Prim.Native.Nat.{ℕ, _+_}
 use lib.ListN.{take}
 use Rattle.rules.specs.Guide.{tally}
 use Rattle.rules.specs.Alone.{Alone as AloneModel, alone, Request, serve-step, serve-all, replies}
-use Rattle.placing.specs.Frame.{Frame, frame-refl, frame-trans}
+use Rattle.placing.specs.GuideFrame.{GuideFrame, frame-refl, frame-trans}
 use Rattle.alone.specs.declared.Alone.{Alone}
 use Rattle.alone.specs.declared.Reply.{Reply}
 use Rattle.alone.specs.Held.{model, Held, number, given, tally-is}
@@ -27,7 +27,7 @@ pub record Linked (x y : Alone) (s o t s′ o′ t′ : List ℕ) (qs : List Req
   pub held : Held x s o t → Held y s′ o′ t′
   pub same-p : y .guide .p ≡ x .guide .p
   pub same-v : y .guide .v ≡ x .guide .v
-  pub frame : Frame (x .guide .p) (x .guide .written) (y .guide .written) s o t s′ o′ t′
+  pub frame : GuideFrame (x .guide .p) (x .guide .written) (y .guide .written) s o t s′ o′ t′
 
 one-more : (P N Q M : ℕ) (q : Request) (qs : List Request) (a b : AloneModel) → Q ≡ P → M ≡ N → b ≡ serve-step P N q a
     → (serve-all Q M qs b ≡ serve-all P N (q ∷ qs) a) × (replies Q M qs b ≡ replies P N qs (serve-step P N q a)) × (locations-given Q M qs b ≡ locations-given P N qs (serve-step P N q a))
@@ -37,7 +37,7 @@ one-more P N Q M q qs a b e f g = (rw (e, f, g), rw (e, f, g), rw (e, f, g))
 ap2 : {A : Type 0} {n m : A} {l k : List A} → n ≡ m → l ≡ k → (n ∷ l) ≡ (m ∷ k)
 ap2 e f = rw (e, f)
 
-pub reframe : {p p′ n n′ : ℕ} {s o t s′ o′ t′ : List ℕ} → p′ ≡ p → Frame p′ n n′ s o t s′ o′ t′ → Frame p n n′ s o t s′ o′ t′
+pub reframe : {p p′ n n′ : ℕ} {s o t s′ o′ t′ : List ℕ} → p′ ≡ p → GuideFrame p′ n n′ s o t s′ o′ t′ → GuideFrame p n n′ s o t s′ o′ t′
 reframe e f = rw e at f
 
 pub linked : {x y : Alone} {s o t s′ o′ t′ : List ℕ} {qs : List Request} {rs : List Reply} → Chain x s o t qs rs y s′ o′ t′ → Linked x y s o t s′ o′ t′ qs rs
@@ -74,7 +74,7 @@ pub record AfterList (P N : ℕ) (qs : List Request) (rs : List Reply) (y : Alon
   pub held : Held y s′ o′ t′
   pub p-is : y .guide .p ≡ P
   pub v-is : y .guide .v ≡ N
-  pub frame : Frame P 0 (y .guide .written) s o t s′ o′ t′
+  pub frame : GuideFrame P 0 (y .guide .written) s o t s′ o′ t′
 
 -- from an accepted opening, after every list of requests
 pub after-every-list : (p v : ℕ) {x y : Alone} {s o t t₀ s′ o′ t′ : List ℕ} {qs : List Request} {rs : List Reply}

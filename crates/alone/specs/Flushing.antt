@@ -4,14 +4,14 @@ use mathlib.Core.List.{List}
 use mathlib.Core.Logic.{_≢_}
 use Prim.Native.Nat.{ℕ, _<_}
 use native.Mathlib.Omega.{arith}
-use lib.ListN.{getD}
 use borrow.Author.Tests.{leb-false}
+use Rattle.rules.specs.Limits.{last-span-limit}
 use Rattle.rules.specs.Guide.{flush as flush-guide}
 use Rattle.rules.specs.Checks.{verdict}
 use Rattle.rules.specs.Alone.{flush, reply, requests, check-flush-alone, worn, serve, serve-step}
 use Rattle.laws.specs.Accepted.{verdict-head, accepted-is}
 use Rattle.laws.specs.Alone.{serve-step-sound}
-use Rattle.buffer.specs.View.{view}
+use Rattle.buffer.specs.View.{number-of, view}
 use Rattle.placing.specs.Done.{Done}
 use Rattle.alone_checks.specs.Numbers.{flush-checks}
 use Rattle.alone.specs.declared.Alone.{Alone}
@@ -22,15 +22,15 @@ use Rattle.alone.specs.Pushing.{carried, refused, last-is}
 
 module _ (x : Alone) (s o t : List ℕ) (h : Held x s o t) where
   abbrev last : ℕ
-  last = getD (x .guide .window .ids) 31 0
+  last = number-of (x .guide) 31
 
   reply-is : verdict (flush-checks last) ≡ reply (x .guide .v) flush (model x s o)
   unfolding flush-checks reply requests check-flush-alone worn model view
   reply-is = rw (last-is x s o t h)
 
-  pub flush-low : verdict (flush-checks last) ≡ 0 → last < 4294967264
+  pub flush-low : verdict (flush-checks last) ≡ 0 → last < last-span-limit
   unfolding flush-checks
-  flush-low z = leb-false 4294967264 last (verdict-head _ _ z (omega arith) .0)
+  flush-low z = leb-false last-span-limit last (verdict-head _ _ z (omega arith) .0)
 
   pub flush-refused : (n : ℕ) → n ≡ verdict (flush-checks last) → n ≢ 0 → Served flush x x s o t s o t (Rejected n)
   unfolding given-by

@@ -11,6 +11,7 @@ use Rattle.laws.specs.Alone.{AloneSound}
 use Rattle.buffer.specs.View.{order-of, view}
 use Rattle.placing.specs.Stands.{Stands}
 use Rattle.placing.specs.Done.{order-view}
+use Rattle.placing.specs.Slices.{Slice}
 use Rattle.alone.specs.declared.Alone.{Alone}
 use Rattle.alone.specs.declared.Reply.{Reply}
 use Rattle.alone.specs.declared.Reply.the-variants.{At, Released, Rejected}
@@ -22,6 +23,10 @@ model x s o = record { guide = view (x .guide) s o; pushes = x .pushes }
 pub record Held (x : Alone) (s o t : List ℕ) : Type 0 where
   pub stands : Stands (x .guide) s o t
   pub sound : AloneSound (x .guide .p) (x .guide .v) (model x s o)
+
+-- the same of the slices that a function is given
+abbrev pub HeldOver : Alone → Slice → Slice → Slice → Type 0
+HeldOver x spans order tally = Held x (spans .now) (order .now) (tally .now)
 
 -- document 01's number for each case of a reply: 0 where the request was accepted
 unfoldable pub number : Reply → ℕ

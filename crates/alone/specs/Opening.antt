@@ -1,23 +1,23 @@
 -- What opening the guide alone promises, accepted or refused, and why it holds. Assumes nothing.
 use mathlib.Core.Path.{_≡_, refl, sym, ap, _∙_}
 use mathlib.Core.List.{List}
-use mathlib.Core.Bool.{_||_}
 use mathlib.Core.Logic.{_≢_}
-use Prim.Native.Nat.{ℕ, zero, _+_, _*_, _-_, _/_, _≤_, _<_}
-use native.Mathlib.Nat.{div-mul-le-self}
+use Prim.Native.Nat.{ℕ, _+_, _-_, _≤_, _<_}
 use native.Mathlib.Omega.{arith}
 use lib.ListN.{length, getD, take, replicate, length-replicate, getD-replicate, length-take}
 use lib.Seq.{getD-take, getD-drop, ext-getD}
 use lib.Dec.{ltb}
 use borrow.Author.Tests.{ltb-false}
-use Rattle.rules.specs.Checks.{verdict, any, check-range}
+use Rattle.rules.specs.Limits.{most-parallelism, most-places}
+use Rattle.rules.specs.Checks.{verdict, any, check-range, spans-needed, tally-needed}
 use Rattle.rules.specs.Alone.{alone, check-alone}
 use Rattle.laws.specs.Accepted.{verdict-head, or-false}
 use Rattle.laws.specs.Alone.{alone-initial}
-use Rattle.rules.specs.Guide.{fresh}
-use Rattle.buffer.specs.View.{view}
+use Rattle.entries.specs.Entries.{capacity}
+use Rattle.entries.specs.Stored.{capacity-fits}
 use Rattle.guide.specs.Fresh.{first-guide, fresh-stands, fresh-view}
-use Rattle.placing.specs.Frame.{Frame}
+use Rattle.placing.specs.GuideFrame.{GuideFrame}
+use Rattle.placing.specs.Slices.{Borrowed}
 use Rattle.zeros.specs.Zeros.{Cleared}
 use Rattle.alone.specs.declared.Alone.{Alone}
 use Rattle.alone.specs.Held.{model, Held}
@@ -27,10 +27,10 @@ use Rattle.alone.specs.Pushing.{carried}
 abbrev pub first-alone : ℕ → ℕ → Alone
 first-alone p v = record { guide = first-guide p v; pushes = 0 }
 
--- n is the number, x the state, t and t′ the tally before and after; spans and order are only measured, in entries of four numbers. Refused,
--- the state is that of P 0 and V 0, and the tally is left alone
+-- n is the number, x the state, t and t′ the tally before and after; spans and order are only measured, in entries. Refused, the state is
+-- that of P 0 and V 0, and the tally is left alone
 pub record Opens (p v n : ℕ) (x : Alone) (s o t t′ : List ℕ) : Type 0 where
-  pub number-is : n ≡ verdict (check-alone p v (length s / 4) (length o / 4) (length t))
+  pub number-is : n ≡ verdict (check-alone p v (capacity s) (capacity o) (length t))
   pub held : n ≡ 0 → Held x s o t′
   pub is : n ≡ 0 → model x s o ≡ alone
   pub p-is : n ≡ 0 → x .guide .p ≡ p
@@ -41,12 +41,16 @@ pub record Opens (p v n : ℕ) (x : Alone) (s o t t′ : List ℕ) : Type 0 wher
   pub tally-length : length t′ ≡ length t
   pub tally-beyond : (j : ℕ) → p < j → getD t′ j 0 ≡ getD t j 0
 
+-- the same of a function's slices
+abbrev pub OpensOver : ℕ → ℕ → ℕ → Alone → Borrowed → Borrowed → Borrowed → Type 0
+OpensOver p v n x spans order tally = Opens p v n x (spans .entry .now) (order .entry .now) (tally .entry .now) (tally .exit .now)
+
 -- what an accepted opening has passed
 pub record Passed (p v s o t : ℕ) : Type 0 where
   pub one : 1 ≤ p
-  pub few : p < 65000
-  pub small : v ≤ 16777216
-  pub spans : 32 * (p + 1) ≤ s
+  pub few : p ≤ most-parallelism
+  pub small : v ≤ most-places
+  pub spans : spans-needed p ≤ s
   pub order : v ≤ o
   pub tally : p < t
 
@@ -56,23 +60,19 @@ passed p v s o t z =
     let a = verdict-head _ _ z (omega arith) in
     let b = verdict-head _ _ (a .1) (omega arith) in
     let c = verdict-head _ _ (b .1) (omega arith) in
-    let pa = or-false (ltb p 1) (ltb 64999 p) (a .0) in
-    let pb = or-false (ltb v 1) (ltb 16777216 v) (b .0) in
-    let pc = or-false (ltb s (32 * (p + 1))) _ (c .0) in
+    let pa = or-false (ltb p 1) (ltb most-parallelism p) (a .0) in
+    let pb = or-false (ltb v 1) (ltb most-places v) (b .0) in
+    let pc = or-false (ltb s (spans-needed p)) _ (c .0) in
     let pd = or-false (ltb o v) _ (pc .1) in
-    let pe = or-false (ltb t (p + 1)) _ (pd .1) in
+    let pe = or-false (ltb t (tally-needed p)) _ (pd .1) in
     record {
       one = omega (arith, ltb-false p 1 (pa .0));
-      few = omega (arith, ltb-false 64999 p (pa .1));
-      small = omega (arith, ltb-false 16777216 v (pb .1));
-      spans = omega (arith, ltb-false s (32 * (p + 1)) (pc .0));
+      few = omega (arith, ltb-false most-parallelism p (pa .1));
+      small = omega (arith, ltb-false most-places v (pb .1));
+      spans = omega (arith, ltb-false s (spans-needed p) (pc .0));
       order = omega (arith, ltb-false o v (pd .0));
-      tally = omega (arith, ltb-false t (p + 1) (pe .0));
+      tally = omega (arith, ltb-false t (tally-needed p) (pe .0));
     }
-
--- four numbers an entry
-quarter : (k l : ℕ) → k ≤ l / 4 → 4 * k ≤ l
-quarter k l h = omega (arith, div-mul-le-self l 4)
 
 cleared-front : (p : ℕ) (t t′ : List ℕ) → p < length t → Cleared 0 (p + 1) t t′ → take (p + 1) t′ ≡ replicate (p + 1) 0
 cleared-front p t t′ h c =
@@ -85,7 +85,7 @@ cleared-beyond p t t′ c j h =
     ap (λ k. getD t′ k 0) e ∙ sym (getD-drop (p + 1) t′ (j - (p + 1)) 0) ∙ ap (λ l. getD l (j - (p + 1)) 0) (c .beyond) ∙ getD-drop (p + 1) t (j - (p + 1)) 0 ∙ ap (λ k. getD t k 0) (sym e)
 
 -- an opening leaves alone all but the tally's first P + 1 counts
-pub open-frame : (p v m n : ℕ) (x : Alone) (s o t t′ : List ℕ) → Opens p v m x s o t t′ → Frame p n n s o t s o t′
+pub open-frame : (p v m n : ℕ) (x : Alone) (s o t t′ : List ℕ) → Opens p v m x s o t t′ → GuideFrame p n n s o t s o t′
 open-frame p v m n x s o t t′ a =
     record {
       spans-length = refl;
@@ -102,7 +102,7 @@ model-fresh : (p v : ℕ) (s o : List ℕ) → model (first-alone p v) s o ≡ a
 unfolding model alone
 model-fresh p v s o = let g = fresh-view p v s o in cc
 
-module _ (p v n : ℕ) (x : Alone) (s o t : List ℕ) (en : n ≡ verdict (check-alone p v (length s / 4) (length o / 4) (length t))) where
+module _ (p v n : ℕ) (x : Alone) (s o t : List ℕ) (en : n ≡ verdict (check-alone p v (capacity s) (capacity o) (length t))) where
   pub open-refused : n ≢ 0 → x ≡ first-alone 0 0 → Opens p v n x s o t t
   open-refused z e =
       record {
@@ -121,9 +121,9 @@ module _ (p v n : ℕ) (x : Alone) (s o t : List ℕ) (en : n ≡ verdict (check
   pub open-served : (t′ : List ℕ) → n ≡ 0 → x ≡ first-alone p v → Cleared 0 (p + 1) t t′ → Opens p v 0 x s o t t′
   unfolding first-guide
   open-served t′ z e c =
-      let q = passed p v (length s / 4) (length o / 4) (length t) (sym en ∙ z) in
+      let q = passed p v (capacity s) (capacity o) (length t) (sym en ∙ z) in
       let st = fresh-stands p v s o t′ (q .one) (q .few) (q .small)
-      (quarter (32 * (p + 1)) (length s) (q .spans)) (quarter v (length o) (q .order))
+      (capacity-fits s (spans-needed p) (q .spans)) (capacity-fits o v (q .order))
       (omega (arith, q .tally, c .long)) (cleared-front p t t′ (q .tally) c) in
       let m = model-fresh p v s o in
       record {

@@ -6,17 +6,17 @@ use mathlib.Core.Logic.{_≢_, _⊎_, inl, inr}
 use mathlib.Core.Option.{some, none}
 use Prim.Native.Nat.{ℕ, suc, _+_, _-_, _≤_, _<_}
 use native.Mathlib.Omega.{arith}
-use lib.ListN.{getD}
 use lib.Dec.{leb}
 use borrow.Author.Tests.{leb-false, ne-eqb, le-leb, le-ltb}
+use Rattle.rules.specs.Limits.{last-span-limit}
 use Rattle.rules.specs.Guide.{Loc, held}
 use Rattle.rules.specs.Checks.{Check, verdict}
 use Rattle.rules.specs.Alone.{Alone as AloneModel, Request, push, reply, requests, check-push, worn, stray, holds, serve, serve-step, location}
 use Rattle.laws.specs.History.{lt-or-le}
 use Rattle.laws.specs.Accepted.{verdict-head, or-false, accepted-is, refused-is}
 use Rattle.laws.specs.Alone.{AloneSound, serve-step-sound}
-use Rattle.buffer.specs.View.{view}
-use Rattle.placing.specs.Frame.{frame-refl}
+use Rattle.buffer.specs.View.{number-of, view}
+use Rattle.placing.specs.GuideFrame.{frame-refl}
 use Rattle.placing.specs.Done.{len-view, number-view}
 use Rattle.guide.specs.Ready.{Ready, Near, after-of}
 use Rattle.guide.specs.Pushes.{Pushes}
@@ -57,12 +57,12 @@ some-loc : {span pos : ℕ} {l : Loc} → span ≡ l .span → pos ≡ l .pos �
 some-loc e f = rw (e, f)
 
 -- the last span number
-pub last-is : (x : Alone) (s o t : List ℕ) → Held x s o t → getD (x .guide .window .ids) 31 0 ≡ getD (x .guide .window .ids) 0 0 + 31
+pub last-is : (x : Alone) (s o t : List ℕ) → Held x s o t → number-of (x .guide) 31 ≡ number-of (x .guide) 0 + 31
 unfolding view
 last-is x s o t h = number-view (x .guide) s o (h .stands .laid) 31 (omega arith)
 
 -- where the last span number is low enough, the guide is ready
-pub ready : (x : Alone) (s o t : List ℕ) → Held x s o t → getD (x .guide .window .ids) 31 0 < 4294967264 → Ready (x .guide .p) (x .guide .v) (view (x .guide) s o)
+pub ready : (x : Alone) (s o t : List ℕ) → Held x s o t → number-of (x .guide) 31 < last-span-limit → Ready (x .guide .p) (x .guide .v) (view (x .guide) s o)
 unfolding model view
 ready x s o t h l =
     record {
@@ -85,15 +85,15 @@ near-by first lens span pos e = go (lt-or-le (first + 31) span)
 
 module _ (x : Alone) (s o t : List ℕ) (h : Held x s o t) (has : Bool) (span pos : ℕ) where
   abbrev numbers : List Check
-  numbers = push-checks (getD (x .guide .window .ids) 31 0) (getD (x .guide .window .ids) 0 0) (x .guide .window .lens) (x .guide .v) (x .pushes) has span pos
+  numbers = push-checks (number-of (x .guide) 31) (number-of (x .guide) 0) (x .guide .window .lens) (x .guide .v) (x .pushes) has span pos
 
-  stray-is : stray (view (x .guide) s o) (after-of has span pos) ≡ stray-after (getD (x .guide .window .ids) 0 0) (x .guide .window .lens) has span pos
+  stray-is : stray (view (x .guide) s o) (after-of has span pos) ≡ stray-after (number-of (x .guide) 0) (x .guide .window .lens) has span pos
   unfolding stray holds view stray-after stray-by origin-not after-of
   stray-is = go has
     where
-      go : (z : Bool) → stray (view (x .guide) s o) (after-of z span pos) ≡ stray-after (getD (x .guide .window .ids) 0 0) (x .guide .window .lens) z span pos
+      go : (z : Bool) → stray (view (x .guide) s o) (after-of z span pos) ≡ stray-after (number-of (x .guide) 0) (x .guide .window .lens) z span pos
       go false = refl
-      go true = rw (len-view (x .guide) s o (h .stands .laid) (span - getD (x .guide .window .ids) 0 0))
+      go true = rw (len-view (x .guide) s o (h .stands .laid) (span - number-of (x .guide) 0))
 
   -- the code's number is the paper's
   pub reply-is : (value added accepted : ℕ) → verdict numbers ≡ reply (x .guide .v) (pushing has span pos value added accepted) (model x s o)
@@ -105,11 +105,11 @@ module _ (x : Alone) (s o t : List ℕ) (h : Held x s o t) (has : Bool) (span po
     unfolding push-checks
     few-pushes = leb-false (x .guide .v) (x .pushes) (or-false _ _ (verdict-head _ _ z (omega arith) .0) .0)
 
-    pub low-last : getD (x .guide .window .ids) 31 0 < 4294967264
+    pub low-last : number-of (x .guide) 31 < last-span-limit
     unfolding push-checks
-    low-last = leb-false 4294967264 (getD (x .guide .window .ids) 31 0) (or-false (leb (x .guide .v) (x .pushes)) _ (verdict-head _ _ z (omega arith) .0) .1)
+    low-last = leb-false last-span-limit (number-of (x .guide) 31) (or-false (leb (x .guide .v) (x .pushes)) _ (verdict-head _ _ z (omega arith) .0) .1)
 
-    not-stray : stray-after (getD (x .guide .window .ids) 0 0) (x .guide .window .lens) has span pos ≡ false
+    not-stray : stray-after (number-of (x .guide) 0) (x .guide .window .lens) has span pos ≡ false
     unfolding push-checks
     not-stray = verdict-head _ _ (verdict-head _ _ z (omega arith) .1) (omega arith) .0
 
@@ -117,9 +117,9 @@ module _ (x : Alone) (s o t : List ℕ) (h : Held x s o t) (has : Bool) (span po
     unfolding after-of view stray-after
     near l e = go has not-stray e
       where
-        go : (k : Bool) → stray-after (getD (x .guide .window .ids) 0 0) (x .guide .window .lens) k span pos ≡ false → after-of k span pos ≡ some l → l .span ≤ getD (x .guide .window .ids) 0 0 + 31
+        go : (k : Bool) → stray-after (number-of (x .guide) 0) (x .guide .window .lens) k span pos ≡ false → after-of k span pos ≡ some l → l .span ≤ number-of (x .guide) 0 + 31
         go false w f = let y : _≡_ {A = ℕ} 0 1 = cc in absurd (omega arith)
-        go true w f = let y : span ≡ l .span = some-span f in omega (arith, near-by (getD (x .guide .window .ids) 0 0) (x .guide .window .lens) span pos w)
+        go true w f = let y : span ≡ l .span = some-span f in omega (arith, near-by (number-of (x .guide) 0) (x .guide .window .lens) span pos w)
 
   module _ (value added accepted : ℕ) where
     abbrev q : Request

@@ -7,7 +7,8 @@ use Prim.Native.Nat.{ℕ}
 use Rattle.rules.specs.Guide.{Loc}
 use Rattle.rules.specs.Calls.{unless-refused}
 use Rattle.rules.specs.Alone.{Alone as AloneModel, Request, push, flush, reply, serve-step, location}
-use Rattle.placing.specs.Frame.{Frame}
+use Rattle.placing.specs.GuideFrame.{GuideFrame}
+use Rattle.placing.specs.Slices.{Borrowed}
 use Rattle.alone.specs.declared.Alone.{Alone}
 use Rattle.alone.specs.declared.Reply.{Reply}
 use Rattle.alone.specs.Held.{model, Held, number, given}
@@ -38,4 +39,9 @@ pub record Served (q : Request) (x x′ : Alone) (s o t s′ o′ t′ : List �
   pub same-p : x′ .guide .p ≡ x .guide .p
   pub same-v : x′ .guide .v ≡ x .guide .v
   pub rejected : number r ≢ 0 → Same x x′ s o t s′ o′ t′
-  pub frame : Frame (x .guide .p) (x .guide .written) (x′ .guide .written) s o t s′ o′ t′
+  pub frame : GuideFrame (x .guide .p) (x .guide .written) (x′ .guide .written) s o t s′ o′ t′
+
+-- the same of a function's slices
+abbrev pub ServedOver : Request → Alone → Alone → Borrowed → Borrowed → Borrowed → Reply → Type 0
+ServedOver q x x′ spans order tally r =
+    Served q x x′ (spans .entry .now) (order .entry .now) (tally .entry .now) (spans .exit .now) (order .exit .now) (tally .exit .now) r

@@ -1,14 +1,11 @@
 // The guide alone: opened over spans, order and tally; push with value, added and accepted from the caller; flush. Every call checks its
 // own refusals and leaves state and storage as they were where it refuses.
 ghost use mathlib.Core.Path.{_≡_};
-ghost use mathlib.Core.List.{List};
-ghost use Prim.Native.Nat.{ℕ};
 ghost use Rattle.rules.specs.Alone.{Request};
-ghost use Rattle.guide.specs.Ready.{after-of};
-ghost use Rattle.alone.specs.Held.{Held};
-ghost use Rattle.alone.specs.Served.{Served};
+ghost use Rattle.alone.specs.Held.{HeldOver};
+ghost use Rattle.alone.specs.Served.{ServedOver};
 ghost use Rattle.alone.specs.Pushing.{pushing};
-ghost use Rattle.alone.specs.Opening.{first-alone, Opens};
+ghost use Rattle.alone.specs.Opening.{first-alone, OpensOver};
 use buffer::Guide;
 use entries::Entry;
 
@@ -48,11 +45,17 @@ fn fresh(p: u32, v: u32) -> Alone
     }
 }
 
-// Opens a guide over storage of four numbers an entry; its counts are set to 0. Refused, it is a guide of P 0 and V 0.
+// Opens a guide over its storage; its counts are set to 0. Refused, it is a guide of P 0 and V 0.
 pub fn open(p: u64, v: u64, spans: &[u32], order: &[u32], tally: &mut [u32]) -> Opened
-    ensures { λ r. ⌜ Opens p v (r .number) (r .alone) (now (spans .entry)) (now (order .entry)) (now (tally .entry)) (now (tally .exit)) ⌝ }
+    ensures { λ r. ⌜ OpensOver p v (r .number) (r .alone) spans order tally ⌝ }
 {
-    let n = alone_checks::check_open(p, v, spans.len() / 4, order.len() / 4, tally.len());
+    let n = alone_checks::check_open(
+        p,
+        v,
+        entries::capacity(spans),
+        entries::capacity(order),
+        tally.len(),
+    );
     if n != 0 {
         let x = fresh(0, 0);
         return Opened {
@@ -81,60 +84,65 @@ pub fn push(
     added: u32,
     accepted: u32,
 ) -> Answer
-    requires { ⌜ Held x (now spans) (now order) (now tally) ⌝ }
-    ensures { λ r. ⌜ Served (pushing has span pos value added accepted) x (r .alone) (now (spans .entry)) (now (order .entry)) (now (tally .entry)) (now (spans .exit)) (now (order .exit)) (now (tally .exit)) (r .reply) ⌝ }
+    requires { ⌜ HeldOver x spans order tally ⌝ }
+    ensures { λ r. ⌜ ServedOver (pushing has span pos value added accepted) x (r .alone) spans order tally (r .reply) ⌝ }
 {
     let g = x.guide;
     let w = g.window;
-    let ids = w.ids;
-    let lens = w.lens;
-    let n = alone_checks::check_push(ids[31], ids[0], lens, g.v, x.pushes, has, span, pos);
-    if n == 0 {
-        let e = Entry {
-            value: value,
-            added: added,
-            accepted: accepted,
-            parallelism: 0,
-        };
-        let r = guide::push(g, spans, order, tally, has, span, pos, e);
-        let h = r.guide;
-        let y = Alone {
-            guide: h,
-            pushes: x.pushes + 1,
-        };
+    let n = alone_checks::check_push(
+        w.ids[window::LAST],
+        w.ids[0],
+        w.lens,
+        g.v,
+        x.pushes,
+        has,
+        span,
+        pos,
+    );
+    if n != 0 {
         return Answer {
-            alone: y,
-            reply: Reply::At(r.span, r.pos),
+            alone: x,
+            reply: Reply::Rejected(n),
         };
     }
+    let e = Entry {
+        value: value,
+        added: added,
+        accepted: accepted,
+        parallelism: 0,
+    };
+    let r = guide::push(g, spans, order, tally, has, span, pos, e);
+    let h = r.guide;
+    let y = Alone {
+        guide: h,
+        pushes: x.pushes + 1,
+    };
     Answer {
-        alone: x,
-        reply: Reply::Rejected(n),
+        alone: y,
+        reply: Reply::At(r.span, r.pos),
     }
 }
 
 // Releases all 32 spans.
 pub fn flush(x: Alone, spans: &mut [u32], order: &mut [u32], tally: &mut [u32]) -> Answer
-    requires { ⌜ Held x (now spans) (now order) (now tally) ⌝ }
-    ensures { λ r. ⌜ Served Request.flush x (r .alone) (now (spans .entry)) (now (order .entry)) (now (tally .entry)) (now (spans .exit)) (now (order .exit)) (now (tally .exit)) (r .reply) ⌝ }
+    requires { ⌜ HeldOver x spans order tally ⌝ }
+    ensures { λ r. ⌜ ServedOver Request.flush x (r .alone) spans order tally (r .reply) ⌝ }
 {
     let g = x.guide;
     let w = g.window;
-    let ids = w.ids;
-    let n = alone_checks::check_flush(ids[31]);
-    if n == 0 {
-        let h = guide::flush(g, spans, order, tally);
-        let y = Alone {
-            guide: h,
-            pushes: x.pushes,
-        };
+    let n = alone_checks::check_flush(w.ids[window::LAST]);
+    if n != 0 {
         return Answer {
-            alone: y,
-            reply: Reply::Released,
+            alone: x,
+            reply: Reply::Rejected(n),
         };
     }
+    let y = Alone {
+        guide: guide::flush(g, spans, order, tally),
+        pushes: x.pushes,
+    };
     Answer {
-        alone: x,
-        reply: Reply::Rejected(n),
+        alone: y,
+        reply: Reply::Released,
     }
 }

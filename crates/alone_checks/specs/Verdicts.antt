@@ -1,105 +1,125 @@
 -- How a verdict comes about: the first check that fails gives its number, and those that pass are skipped. Assumes nothing.
 use mathlib.Core.Path.{_≡_, refl, sym, ap, _∙_}
 use mathlib.Core.List.{List, [], _∷_}
-use mathlib.Core.Bool.{Bool, true, false, _&&_, _||_, or-false}
-use Prim.Native.Nat.{ℕ, _+_, _*_, _-_, _≤_, _<_}
+use mathlib.Core.Bool.{Bool, true, false, true≢false, _&&_, _||_, or-false}
+use Prim.Native.Nat.{ℕ, _-_, _≤_, _<_}
 use lib.ListN.{getD}
 use lib.Dec.{leb, ltb}
-use borrow.Author.Tests.{le-leb, lt-leb, le-ltb, lt-ltb}
-use Rattle.rules.specs.Checks.{Check, verdict, any, short as short-length, spans-needed, tally-needed, check-range}
+use borrow.Author.Tests.{le-leb, lt-leb, le-ltb, lt-ltb, ltb-false}
+use Rattle.rules.specs.Limits.{most-parallelism, most-places, last-span-limit}
+use Rattle.rules.specs.Refusals as refusal
+use Rattle.rules.specs.Checks.{Check, verdict, any, spans-needed, tally-needed, check-range}
 use Rattle.rules.specs.Alone.{check-alone}
-use Rattle.alone_checks.specs.Numbers.{origin-not, stray-by, stray-after, push-checks, flush-checks}
+use Rattle.alone_checks.specs.Numbers.{any-short, origin-not, stray-by, stray-after, push-checks, flush-checks}
 
-pub fails-here : (b : Bool) (n : ℕ) (cs : List Check) → b ≡ true → n ≡ verdict (record { fails = b; number = n } ∷ cs)
+fails-here : (b : Bool) (n : ℕ) (cs : List Check) → b ≡ true → n ≡ verdict (record { fails = b; number = n } ∷ cs)
 unfolding verdict
 fails-here b n cs e = rw (e, verdict)
 
-pub passes-here : (b : Bool) (n : ℕ) (cs : List Check) {m : ℕ} → b ≡ false → m ≡ verdict cs → m ≡ verdict (record { fails = b; number = n } ∷ cs)
+passes-here : (b : Bool) (n : ℕ) (cs : List Check) {m : ℕ} → b ≡ false → m ≡ verdict cs → m ≡ verdict (record { fails = b; number = n } ∷ cs)
 unfolding verdict
 passes-here b n cs e k = k ∙ rw (e, verdict)
 
-pub or-left : (a b : Bool) → a ≡ true → (a || b) ≡ true
-or-left a b e = rw e
-
-pub or-right : (a b : Bool) → a ≡ false → b ≡ true → (a || b) ≡ true
-or-right a b e f = rw (e, f)
-
-pub or-none : (a b : Bool) → a ≡ false → b ≡ false → (a || b) ≡ false
-or-none a b e f = rw (e, f)
+or-none : (a b : Bool) → (a || b) ≡ false → (a ≡ false) × (b ≡ false)
+or-none false b e = (refl, e)
+or-none true b e = absurd (true≢false e)
 
 -- opening
+pub within : (x most : ℕ) → (ltb x 1 || ltb most x) ≡ false → x ≤ most
+within x most e = ltb-false most x (or-none (ltb x 1) (ltb most x) e .1)
+
 module _ (p v s o t : ℕ) where
-  abbrev pub bad-p : Bool
-  bad-p = ltb p 1 || ltb 64999 p
-
-  abbrev pub bad-v : Bool
-  bad-v = ltb v 1 || ltb 16777216 v
-
-  abbrev pub short : Bool
-  short = ltb s (32 * (p + 1)) || (ltb o v || ltb t (p + 1))
-
-  -- the same as the table's test
-  abbrev any-short : Bool
-  any-short = any short-length ((s, spans-needed p) ∷ (o, v) ∷ (t, tally-needed p) ∷ [])
-
-  any-is : any-short ≡ short
+  pub short-spans : s < spans-needed p → true ≡ any-short p v s o t
   unfolding any
-  any-is = rw (or-false (ltb t (p + 1)))
+  short-spans h = rw (lt-ltb s (spans-needed p) h)
+
+  pub short-order : spans-needed p ≤ s → o < v → ltb o v ≡ any-short p v s o t
+  unfolding any
+  short-order h k = rw (le-ltb s (spans-needed p) h, lt-ltb o v k)
+
+  pub short-tally : spans-needed p ≤ s → v ≤ o → ltb t (tally-needed p) ≡ any-short p v s o t
+  unfolding any
+  short-tally h k = rw (le-ltb s (spans-needed p) h, le-ltb o v k, or-false (ltb t (tally-needed p)))
+
+  abbrev bad-p : Bool
+  bad-p = ltb p 1 || ltb most-parallelism p
+
+  abbrev bad-v : Bool
+  bad-v = ltb v 1 || ltb most-places v
 
   abbrev third : List Check
-  third = record { fails = any-short; number = 2 } ∷ []
+  third = record { fails = any-short p v s o t; number = refusal.too-short } ∷ []
 
   abbrev second : List Check
-  second = record { fails = bad-v; number = 1 } ∷ third
+  second = record { fails = bad-v; number = refusal.out-of-range } ∷ third
 
-  pub open-p : bad-p ≡ true → 1 ≡ verdict (check-alone p v s o t)
+  pub open-p : bad-p ≡ true → refusal.out-of-range ≡ verdict (check-alone p v s o t)
   unfolding check-alone check-range
-  open-p a = fails-here bad-p 1 second a
+  open-p a = fails-here bad-p refusal.out-of-range second a
 
-  pub open-v : bad-p ≡ false → bad-v ≡ true → 1 ≡ verdict (check-alone p v s o t)
-  unfolding check-alone check-range
-  open-v a b = passes-here bad-p 1 second a (fails-here bad-v 1 third b)
+  module _ (a : bad-p ≡ false) where
+    pub open-v : bad-v ≡ true → refusal.out-of-range ≡ verdict (check-alone p v s o t)
+    unfolding check-alone check-range
+    open-v b = passes-here bad-p refusal.out-of-range second a (fails-here bad-v refusal.out-of-range third b)
 
-  pub open-short : bad-p ≡ false → bad-v ≡ false → short ≡ true → 2 ≡ verdict (check-alone p v s o t)
-  unfolding check-alone check-range
-  open-short a b c = passes-here bad-p 1 second a (passes-here bad-v 1 third b (fails-here any-short 2 [] (any-is ∙ c)))
+    from-third : {n : ℕ} → bad-v ≡ false → n ≡ verdict third → n ≡ verdict (check-alone p v s o t)
+    unfolding check-alone check-range
+    from-third b e = passes-here bad-p refusal.out-of-range second a (passes-here bad-v refusal.out-of-range third b e)
 
-  pub open-good : bad-p ≡ false → bad-v ≡ false → short ≡ false → 0 ≡ verdict (check-alone p v s o t)
-  unfolding check-alone check-range verdict
-  open-good a b c = passes-here bad-p 1 second a (passes-here bad-v 1 third b (passes-here any-short 2 [] (any-is ∙ c) refl))
+    pub open-short : bad-v ≡ false → any-short p v s o t ≡ true → refusal.too-short ≡ verdict (check-alone p v s o t)
+    open-short b c = from-third b (fails-here (any-short p v s o t) refusal.too-short [] c)
+
+    pub open-good : bad-v ≡ false → any-short p v s o t ≡ false → 0 ≡ verdict (check-alone p v s o t)
+    unfolding verdict
+    open-good b c = from-third b (passes-here (any-short p v s o t) refusal.too-short [] c refl)
 
 -- a push
 module _ (last first : ℕ) (lens : List ℕ) (N pushes : ℕ) (has : Bool) (span pos : ℕ) where
-  abbrev pub worn-out : Bool
-  worn-out = leb N pushes || leb 4294967264 last
+  abbrev number : ℕ
+  number = verdict (push-checks last first lens N pushes has span pos)
 
   abbrev stray-here : Bool
   stray-here = stray-after first lens has span pos
 
-  pub push-worn : worn-out ≡ true → 14 ≡ verdict (push-checks last first lens N pushes has span pos)
+  abbrev second-check : List Check
+  second-check = record { fails = stray-here; number = refusal.not-held } ∷ []
+
+  worn-number : (b : Bool) → (leb N pushes || leb last-span-limit last) ≡ b → b ≡ true → refusal.guide-exhausted ≡ number
   unfolding push-checks
-  push-worn a = fails-here worn-out 14 (record { fails = stray-here; number = 13 } ∷ []) a
+  worn-number b e f = fails-here (leb N pushes || leb last-span-limit last) refusal.guide-exhausted second-check (e ∙ f)
 
-  pub push-stray : worn-out ≡ false → has ≡ true → stray-by first lens span pos ≡ true → 13 ≡ verdict (push-checks last first lens N pushes has span pos)
-  unfolding push-checks stray-after
-  push-stray a h s = passes-here worn-out 14 (record { fails = stray-here; number = 13 } ∷ []) a (fails-here stray-here 13 [] (ap (λ b. stray-after first lens b span pos) h ∙ s))
+  pub push-full : N ≤ pushes → refusal.guide-exhausted ≡ number
+  push-full h = worn-number true (rw (le-leb N pushes h)) refl
 
-  pub push-held : worn-out ≡ false → has ≡ true → stray-by first lens span pos ≡ false → 0 ≡ verdict (push-checks last first lens N pushes has span pos)
-  unfolding push-checks stray-after verdict
-  push-held a h s = passes-here worn-out 14 (record { fails = stray-here; number = 13 } ∷ []) a (passes-here stray-here 13 [] (ap (λ b. stray-after first lens b span pos) h ∙ s) refl)
+  module _ (few : pushes < N) where
+    pub push-worn : leb last-span-limit last ≡ true → refusal.guide-exhausted ≡ number
+    push-worn e = worn-number true (rw (lt-leb N pushes few, e)) refl
 
-  pub push-absent : worn-out ≡ false → has ≡ false → 0 ≡ verdict (push-checks last first lens N pushes has span pos)
-  unfolding push-checks stray-after verdict
-  push-absent a h = passes-here worn-out 14 (record { fails = stray-here; number = 13 } ∷ []) a (passes-here stray-here 13 [] (ap (λ b. stray-after first lens b span pos) h) refl)
+    module _ (low : leb last-span-limit last ≡ false) where
+      from-second : {n : ℕ} → n ≡ verdict second-check → n ≡ number
+      unfolding push-checks
+      from-second e = passes-here (leb N pushes || leb last-span-limit last) refusal.guide-exhausted second-check (rw (lt-leb N pushes few, low)) e
+
+      pub push-stray : has ≡ true → stray-by first lens span pos ≡ true → refusal.not-held ≡ number
+      unfolding stray-after
+      push-stray h s = from-second (fails-here stray-here refusal.not-held [] (ap (λ b. stray-after first lens b span pos) h ∙ s))
+
+      pub push-held : has ≡ true → stray-by first lens span pos ≡ false → 0 ≡ number
+      unfolding stray-after verdict
+      push-held h s = from-second (passes-here stray-here refusal.not-held [] (ap (λ b. stray-after first lens b span pos) h ∙ s) refl)
+
+      pub push-absent : has ≡ false → 0 ≡ number
+      unfolding stray-after verdict
+      push-absent h = from-second (passes-here stray-here refusal.not-held [] (ap (λ b. stray-after first lens b span pos) h) refl)
 
 -- a flush
-pub flush-worn : (last : ℕ) → 4294967264 ≤ last → 14 ≡ verdict (flush-checks last)
+pub flush-worn : (last : ℕ) → leb last-span-limit last ≡ true → refusal.guide-exhausted ≡ verdict (flush-checks last)
 unfolding flush-checks
-flush-worn last h = fails-here (leb 4294967264 last) 14 [] (le-leb 4294967264 last h)
+flush-worn last e = fails-here (leb last-span-limit last) refusal.guide-exhausted [] e
 
-pub flush-good : (last : ℕ) → last < 4294967264 → 0 ≡ verdict (flush-checks last)
+pub flush-good : (last : ℕ) → leb last-span-limit last ≡ false → 0 ≡ verdict (flush-checks last)
 unfolding flush-checks verdict
-flush-good last h = passes-here (leb 4294967264 last) 14 [] (lt-leb 4294967264 last h) refl
+flush-good last e = passes-here (leb last-span-limit last) refusal.guide-exhausted [] e refl
 
 -- an `after`
 module _ (first : ℕ) (lens : List ℕ) (span pos : ℕ) where

@@ -11,11 +11,11 @@ use lib.Seq.{getD-set-same, getD-set-other, getD-drop, getD-at}
 use Rattle.window.specs.declared.Window.{Window}
 use Rattle.window.specs.Rotate.{rotated}
 use Rattle.entries.specs.declared.Entry.{Entry}
-use Rattle.entries.specs.Entries.{over, held-entry, numbers, row, annotated, appended, item-of}
-use Rattle.entries.specs.Stored.{over-length, entry-other, entry-same}
+use Rattle.entries.specs.Entries.{fits, has-entry, entry-at, with-entry, held-entry, row, annotated, appended, item-of}
+use Rattle.entries.specs.Stored.{stored-length, entry-other, entry-same}
 use Rattle.rules.specs.Guide.{put, release}
 use Rattle.buffer.specs.declared.Guide.{Guide}
-use Rattle.buffer.specs.View.{order-of, view, Laid, upto}
+use Rattle.buffer.specs.View.{length-of, number-of, start-of, slot, order-of, view, Laid, upto}
 use Rattle.buffer.specs.Rows.{row-ends, spans-put, spans-rotated, distinct-rotated, most-rotated, most-at, most-set, upto-at, upto-rotated, row-length}
 use Rattle.buffer.specs.Order.{order-released, first-released}
 
@@ -31,50 +31,50 @@ rotated-last xs y i h = getD-at (drop 1 xs) y [] 0 i (length-drop 1 xs ∙ omega
 
 -- where the next entry of span i goes
 abbrev pub slot-of : Guide → ℕ → ℕ
-slot-of g i = getD (g .window .rows) i 0 * (g .p + 1) + getD (g .window .lens) i 0
+slot-of g i = slot g i (length-of g i)
 
 abbrev pub with-window : Guide → Window → ℕ → Guide
 with-window g w n = record { window = w; p = g .p; v = g .v; written = n }
 
 unfoldable pub longer : Guide → ℕ → Guide
-longer g i = with-window g (record { ids = g .window .ids; lens = set (g .window .lens) i (getD (g .window .lens) i 0 + 1); rows = g .window .rows }) (g .written)
+longer g i = with-window g (record { ids = g .window .ids; lens = set (g .window .lens) i (length-of g i + 1); rows = g .window .rows }) (g .written)
 
 unfoldable pub released-guide : Guide → Guide
-released-guide g = with-window g (rotated (g .window)) (g .written + getD (g .window .lens) 0 0)
+released-guide g = with-window g (rotated (g .window)) (g .written + length-of g 0)
 
 unfoldable pub released-order : Guide → List ℕ → List ℕ → List ℕ
 released-order g s o =
-    let a = getD (g .window .lens) 0 0 in
-    appended o (g .written) (annotated (g .p) a (getD (g .window .lens) 1 0) 0 (row s (getD (g .window .rows) 0 0 * (g .p + 1)) a))
+    let a = length-of g 0 in
+    appended o (g .written) (annotated (g .p) a (length-of g 1) 0 (row s (start-of g 0) a))
 
 unfoldable pub put-spans : Guide → List ℕ → ℕ → Entry → List ℕ
-put-spans g s i e = over s (4 * slot-of g i) (numbers (held-entry e))
+put-spans g s i e = with-entry s (slot-of g i) (held-entry e)
 
 module _ (g : Guide) (s : List ℕ) (k : Laid g s) where
   -- a slot lies in the lent spans
-  pub slot-fits : (i : ℕ) → getD (g .window .lens) i 0 ≤ g .p → 4 * slot-of g i + 4 ≤ length s
+  pub slot-fits : (i : ℕ) → length-of g i ≤ g .p → has-entry s (slot-of g i)
   slot-fits i h =
       let r : getD (g .window .rows) i 0 < 32 = omega (arith, most-at 31 (g .window .rows) i (k .below)) in
       omega (arith, row-ends (g .p) (getD (g .window .rows) i 0) 32 r, k .lent)
 
   -- the entry that is put has 0, and all others stay
-  put-unassigned : (i : ℕ) (e : Entry) → i < 32 → getD (g .window .lens) i 0 ≤ g .p → (x j : ℕ) → x < 32 → j < getD (set (g .window .lens) i (getD (g .window .lens) i 0 + 1)) x 0
-      → getD (over s (4 * slot-of g i) (numbers (held-entry e))) (4 * (getD (g .window .rows) x 0 * (g .p + 1) + j) + 3) 0 ≡ 0
+  put-unassigned : (i : ℕ) (e : Entry) → i < 32 → length-of g i ≤ g .p → (x j : ℕ) → x < 32 → j < getD (set (g .window .lens) i (length-of g i + 1)) x 0
+      → (entry-at (with-entry s (slot-of g i) (held-entry e)) (slot g x j)) .parallelism ≡ 0
   put-unassigned i e hi h x j hx hj = go (ℕ-discrete q (slot-of g i)) (ℕ-discrete x i)
     where
       q : ℕ
-      q = getD (g .window .rows) x 0 * (g .p + 1) + j
+      q = slot g x j
 
       l : ℕ
-      l = getD (g .window .lens) i 0
+      l = length-of g i
 
       s′ : List ℕ
-      s′ = over s (4 * slot-of g i) (numbers (held-entry e))
+      s′ = with-entry s (slot-of g i) (held-entry e)
 
-      other : q ≢ slot-of g i → j < getD (g .window .lens) x 0 → getD s′ (4 * q + 3) 0 ≡ 0
+      other : q ≢ slot-of g i → j < length-of g x → (entry-at s′ q) .parallelism ≡ 0
       other n z = ap (λ t. t .parallelism) (entry-other s (slot-of g i) (held-entry e) (slot-fits i h) q n) ∙ k .unassigned x j hx z
 
-      go : Dec (q ≡ slot-of g i) → Dec (x ≡ i) → getD s′ (4 * q + 3) 0 ≡ 0
+      go : Dec (q ≡ slot-of g i) → Dec (x ≡ i) → (entry-at s′ q) .parallelism ≡ 0
       go (yes z) y = rw z (ap (λ t. t .parallelism) (entry-same s (slot-of g i) (held-entry e) (slot-fits i h)))
       go (no n) (yes z) =
           let below : j < l + 1 = rw (z, getD-set-same (g .window .lens) i (l + 1) 0 (omega (arith, k .lens-many))) at hj in
@@ -82,7 +82,7 @@ module _ (g : Guide) (s : List ℕ) (k : Laid g s) where
           other n (rw z (omega arith))
       go (no n) (no y) = other n (rw (getD-set-other (g .window .lens) i x (l + 1) 0 y) at hj)
 
-  pub put-laid : (i : ℕ) (e : Entry) → i < 32 → getD (g .window .lens) i 0 ≤ g .p → Laid (longer g i) (put-spans g s i e)
+  pub put-laid : (i : ℕ) (e : Entry) → i < 32 → length-of g i ≤ g .p → Laid (longer g i) (put-spans g s i e)
   unfolding longer put-spans
   put-laid i e hi h =
       record {
@@ -94,26 +94,27 @@ module _ (g : Guide) (s : List ℕ) (k : Laid g s) where
         below = k .below;
         short = most-set (g .p + 1) (g .window .lens) i _ (omega arith) (k .short);
         numbered = k .numbered;
-        lent = rw (over-length s (slot-of g i) (held-entry e) (slot-fits i h)) (k .lent);
+        lent = rw (stored-length s (slot-of g i) (held-entry e) (slot-fits i h)) (k .lent);
         unassigned = put-unassigned i e hi h;
       }
 
-  pub put-view : (i : ℕ) (e : Entry) (o : List ℕ) → i < 32 → getD (g .window .lens) i 0 ≤ g .p → view (longer g i) (put-spans g s i e) o ≡ put i (item-of e) (view g s o)
+  pub put-view : (i : ℕ) (e : Entry) (o : List ℕ) → i < 32 → length-of g i ≤ g .p → view (longer g i) (put-spans g s i e) o ≡ put i (item-of e) (view g s o)
   unfolding longer put-spans view put item-of
   put-view i e o hi h =
-      ap (λ t. record { first = getD (g .window .ids) 0 0; spans = t; order = order-of o (g .written) })
-      (spans-put (g .p) s (held-entry e) (g .window .rows) (g .window .lens) i (k .distinct) (k .short) (k .rows-many ∙ sym (k .lens-many)) (omega (arith, k .rows-many)) h (slot-fits i h))
+      ap (λ t. record { first = number-of g 0; spans = t; order = order-of o (g .written) })
+      (spans-put (g .p) s (held-entry e) (g .window .rows) (g .window .lens) i (k .distinct) (k .short) (k .rows-many ∙ sym (k .lens-many))
+      (omega (arith, k .rows-many)) h (slot-fits i h))
 
-  last-number : getD (g .window .ids) 31 0 ≡ getD (g .window .ids) 0 0 + 31
-  last-number = ap (λ t. getD t 31 0) (k .numbered) ∙ upto-at (getD (g .window .ids) 0 0) 32 31 (omega arith)
+  last-number : number-of g 31 ≡ number-of g 0 + 31
+  last-number = ap (λ t. getD t 31 0) (k .numbered) ∙ upto-at (number-of g 0) 32 31 (omega arith)
 
-  ids-rotated : drop 1 (g .window .ids) ++ ((getD (g .window .ids) 31 0 + 1) ∷ []) ≡ upto (getD (g .window .ids) 0 0 + 1) 32
+  ids-rotated : drop 1 (g .window .ids) ++ ((number-of g 31 + 1) ∷ []) ≡ upto (number-of g 0 + 1) 32
   ids-rotated =
-      let n = getD (g .window .ids) 0 0 in
+      let n = number-of g 0 in
       let e : n + 1 ≡ suc n = omega arith in
       rw (last-number, e) (ap (λ t. drop 1 t ++ ((n + 31 + 1) ∷ [])) (k .numbered) ∙ upto-rotated n 31)
 
-  first-rotated : getD (drop 1 (g .window .ids) ++ ((getD (g .window .ids) 31 0 + 1) ∷ [])) 0 0 ≡ getD (g .window .ids) 0 0 + 1
+  first-rotated : getD (drop 1 (g .window .ids) ++ ((number-of g 31 + 1) ∷ [])) 0 0 ≡ number-of g 0 + 1
   unfolding upto
   first-rotated = ap (λ t. getD t 0 0) ids-rotated
 
@@ -139,20 +140,21 @@ module _ (g : Guide) (s : List ℕ) (k : Laid g s) where
       rows : List ℕ
       rows = g .window .rows
 
-      go : (i j : ℕ) → i < 32 → j < getD (drop 1 lens ++ (0 ∷ [])) i 0 → Dec (i ≡ 31) → getD s (4 * (getD (drop 1 rows ++ (getD rows 0 0 ∷ [])) i 0 * (g .p + 1) + j) + 3) 0 ≡ 0
+      go : (i j : ℕ) → i < 32 → j < getD (drop 1 lens ++ (0 ∷ [])) i 0 → Dec (i ≡ 31)
+          → (entry-at s (getD (drop 1 rows ++ (getD rows 0 0 ∷ [])) i 0 * (g .p + 1) + j)) .parallelism ≡ 0
       go i j hi hj (yes e) = absurd (omega (arith, rotated-last lens 0 i (omega (arith, k .lens-many))))
       go i j hi hj (no n) =
           rw (rotated-at rows (getD rows 0 0) i (omega (arith, k .rows-many)))
           (k .unassigned (i + 1) j (omega arith) (rw (rotated-at lens 0 i (omega (arith, k .lens-many))) at hj))
 
-  pub release-view : (o : List ℕ) → 4 * (g .written + getD (g .window .lens) 0 0) ≤ length o → view (released-guide g) s (released-order g s o) ≡ release (g .p) 1 (view g s o)
+  pub release-view : (o : List ℕ) → fits o (g .written + length-of g 0) → view (released-guide g) s (released-order g s o) ≡ release (g .p) 1 (view g s o)
   unfolding released-guide rotated released-order view release
   release-view o h =
-      let a = getD (g .window .lens) 0 0 in
-      let es = row s (getD (g .window .rows) 0 0 * (g .p + 1)) a in
+      let a = length-of g 0 in
+      let es = row s (start-of g 0) a in
       let same : length (g .window .rows) ≡ length (g .window .lens) = k .rows-many ∙ sym (k .lens-many) in
       let f = first-rotated in
       let sp = spans-rotated (g .p) s (g .window .rows) (g .window .lens) same in
-      let od = order-released o (g .written) (g .p) a (getD (g .window .lens) 1 0) es (row-length s _ a) h
+      let od = order-released o (g .written) (g .p) a (length-of g 1) es (row-length s _ a) h
       ∙ ap (λ t. order-of o (g .written) ++ t) (sym (first-released (g .p) s (g .window .rows) (g .window .lens) same (omega (arith, k .lens-many)))) in
       cc

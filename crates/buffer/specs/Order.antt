@@ -6,8 +6,8 @@ use native.Mathlib.Nat.{add-zero, zero-add}
 use native.Mathlib.Omega.{arith}
 use lib.ListN.{length, getD, length-map}
 use Rattle.entries.specs.declared.Entry.{Entry}
-use Rattle.entries.specs.Entries.{over, numbers, row, annotated, appended, item-of, entry-of}
-use Rattle.entries.specs.Stored.{row-other, row-suc, entry-same, over-length}
+use Rattle.entries.specs.Entries.{fits, with-entry, row, annotated, appended, item-of, entry-of}
+use Rattle.entries.specs.Stored.{row-other, row-suc, entry-same, stored-length}
 use Rattle.rules.specs.Guide.{parallelism, annotate, released}
 use Rattle.buffer.specs.View.{spans-of, order-of}
 use Rattle.buffer.specs.Rows.{row-length}
@@ -25,11 +25,11 @@ pub annotated-length : (p a b q : ℕ) (es : List Entry) → length (annotated p
 annotated-length p a b q [] = refl
 annotated-length p a b q (e ∷ es) = ap suc (annotated-length p a b (suc q) es)
 
-pub appended-row : (o : List ℕ) (n : ℕ) (es : List Entry) → 4 * (n + length es) ≤ length o → row (appended o n es) 0 (n + length es) ≡ row o 0 n ++ es
+pub appended-row : (o : List ℕ) (n : ℕ) (es : List Entry) → fits o (n + length es) → row (appended o n es) 0 (n + length es) ≡ row o 0 n ++ es
 appended-row o n [] h = rw (add-zero, append-nil)
 appended-row o n (e ∷ es) h =
-    let o1 = over o (4 * n) (numbers e) in
-    let l = over-length o n e (omega arith) in
+    let o1 = with-entry o n e in
+    let l = stored-length o n e (omega arith) in
     let g : row o1 0 (suc n) ≡ row o 0 n ++ (e ∷ []) =
     (let x : suc n ≡ n + 1 = omega arith in ap (λ t. row o1 0 t) x ∙ rw (row-suc o1 0 n, zero-add n, entry-same o n e (omega arith), row-other o n e (omega arith) 0 n (λ j a b. omega arith))) in
     let x : n + suc (length es) ≡ suc n + length es = omega arith in
@@ -40,7 +40,7 @@ unfolding order-of
 order-count o n = length-map (row o 0 n) entry-of ∙ row-length o 0 n
 
 -- the order after the release of a span
-pub order-released : (o : List ℕ) (n p a b : ℕ) (es : List Entry) → length es ≡ a → 4 * (n + a) ≤ length o
+pub order-released : (o : List ℕ) (n p a b : ℕ) (es : List Entry) → length es ≡ a → fits o (n + a)
     → order-of (appended o n (annotated p a b 0 es)) (n + a) ≡ order-of o n ++ annotate (parallelism p a b) 0 (map item-of es)
 unfolding order-of
 order-released o n p a b es e k =
@@ -64,6 +64,6 @@ first-released p s (r ∷ (q ∷ rs)) (l ∷ (m ∷ ls)) h k =
     let f = length-map (row s (q * (p + 1)) m) item-of ∙ row-length s (q * (p + 1)) m in
     rw (append-nil, e, f)
 
-pub appended-length : (o : List ℕ) (n : ℕ) (es : List Entry) → 4 * (n + length es) ≤ length o → length (appended o n es) ≡ length o
+pub appended-length : (o : List ℕ) (n : ℕ) (es : List Entry) → fits o (n + length es) → length (appended o n es) ≡ length o
 appended-length o n [] h = refl
-appended-length o n (e ∷ es) h = let l = over-length o n e (omega arith) in appended-length (over o (4 * n) (numbers e)) (suc n) es (omega arith) ∙ l
+appended-length o n (e ∷ es) h = let l = stored-length o n e (omega arith) in appended-length (with-entry o n e) (suc n) es (omega arith) ∙ l

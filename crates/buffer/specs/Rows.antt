@@ -7,7 +7,7 @@ use native.Mathlib.Nat.{suc-mul, mul-le-mul-right, add-zero}
 use native.Mathlib.Omega.{arith}
 use lib.ListN.{length, getD, set, drop, length-map}
 use Rattle.entries.specs.declared.Entry.{Entry}
-use Rattle.entries.specs.Entries.{over, numbers, row, item-of}
+use Rattle.entries.specs.Entries.{has-entry, with-entry, row, item-of}
 use Rattle.entries.specs.Stored.{row-other, row-suc, entry-same}
 use Rattle.buffer.specs.View.{spans-of, Away, Distinct, Most, upto}
 
@@ -33,7 +33,7 @@ slots-apart p x y l m q n hm hl a b e = go (less x y n)
     go (inl h) = omega (arith, row-ends p x y h)
     go (inr h) = omega (arith, row-ends p y x h)
 
-pub map-snoc : {A B : Type 0} (f : A → B) (l : List A) (x : A) → map f (l ++ (x ∷ [])) ≡ map f l ++ (f x ∷ [])
+map-snoc : {A B : Type 0} (f : A → B) (l : List A) (x : A) → map f (l ++ (x ∷ [])) ≡ map f l ++ (f x ∷ [])
 map-snoc f [] x = refl
 map-snoc f (y ∷ l) x = ap (λ t. f y ∷ t) (map-snoc f l x)
 
@@ -44,12 +44,12 @@ away-at x (y ∷ ys) zero a h = λ e. a .0 (sym e)
 away-at x (y ∷ ys) (suc i) a h = away-at x ys i (a .1) (omega arith)
 
 -- an entry stored past the last of the row R that has l entries
-module _ (p : ℕ) (s : List ℕ) (R l : ℕ) (e : Entry) (hl : l ≤ p) (fits : 4 * (R * (p + 1) + l) + 4 ≤ length s) where
+module _ (p : ℕ) (s : List ℕ) (R l : ℕ) (e : Entry) (hl : l ≤ p) (room : has-entry s (R * (p + 1) + l)) where
   abbrev s′ : List ℕ
-  s′ = over s (4 * (R * (p + 1) + l)) (numbers e)
+  s′ = with-entry s (R * (p + 1) + l) e
 
   elsewhere : (x m : ℕ) → x ≢ R → m ≤ p + 1 → row s′ (x * (p + 1)) m ≡ row s (x * (p + 1)) m
-  elsewhere x m n hm = row-other s (R * (p + 1) + l) e fits (x * (p + 1)) m (λ q a b. slots-apart p x R l m q n hm hl a b)
+  elsewhere x m n hm = row-other s (R * (p + 1) + l) e room (x * (p + 1)) m (λ q a b. slots-apart p x R l m q n hm hl a b)
 
   others : (rs ls : List ℕ) → Away R rs → Most (p + 1) ls → spans-of p s′ rs ls ≡ spans-of p s rs ls
   unfolding spans-of Away Most
@@ -59,13 +59,14 @@ module _ (p : ℕ) (s : List ℕ) (R l : ℕ) (e : Entry) (hl : l ≤ p) (fits :
 
   here : map item-of (row s′ (R * (p + 1)) (l + 1)) ≡ map item-of (row s (R * (p + 1)) l) ++ (item-of e ∷ [])
   here =
-      rw (row-suc s′ (R * (p + 1)) l, entry-same s (R * (p + 1) + l) e fits, row-other s (R * (p + 1) + l) e fits (R * (p + 1)) l (λ q a b. omega arith))
+      rw (row-suc s′ (R * (p + 1)) l, entry-same s (R * (p + 1) + l) e room, row-other s (R * (p + 1) + l) e room (R * (p + 1)) l (λ q a b. omega arith))
       (map-snoc item-of (row s (R * (p + 1)) l) e)
 
 -- one entry more in span i
 pub spans-put : (p : ℕ) (s : List ℕ) (e : Entry) (rs ls : List ℕ) (i : ℕ) → Distinct rs → Most (p + 1) ls → length rs ≡ length ls → i < length rs → getD ls i 0 ≤ p
-    → 4 * (getD rs i 0 * (p + 1) + getD ls i 0) + 4 ≤ length s
-    → spans-of p (over s (4 * (getD rs i 0 * (p + 1) + getD ls i 0)) (numbers e)) rs (set ls i (getD ls i 0 + 1)) ≡ set (spans-of p s rs ls) i (getD (spans-of p s rs ls) i [] ++ (item-of e ∷ []))
+    → has-entry s (getD rs i 0 * (p + 1) + getD ls i 0)
+    → spans-of p (with-entry s (getD rs i 0 * (p + 1) + getD ls i 0) e) rs (set ls i (getD ls i 0 + 1))
+    ≡ set (spans-of p s rs ls) i (getD (spans-of p s rs ls) i [] ++ (item-of e ∷ []))
 unfolding spans-of Distinct Most
 spans-put p s e [] ls i d m h k hl f = refl
 spans-put p s e (r ∷ rs) [] i d m h k hl f = absurd (omega arith)

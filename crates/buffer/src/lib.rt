@@ -1,8 +1,6 @@
 // The guide over its storage: spans as rows of one slice, the order as another. `release` appends span 0's entries to the order and
 // rotates the window.
 ghost use mathlib.Core.Path.{_≡_};
-ghost use Prim.Native.Nat.{_+_, _*_, _<_, _≤_};
-ghost use lib.ListN.{length, getD};
 ghost use Rattle.buffer.specs.Fit.{Fit};
 ghost use Rattle.buffer.specs.Moves.{released-guide, released-order};
 use window::Window;
@@ -17,11 +15,9 @@ pub struct Guide {
 
 // Releases span 0: its entries are appended in the old window, each with its parallelism, and then the window is rotated.
 pub fn release(g: Guide, spans: &[u32], order: &mut [u32]) -> Guide
-    requires { ⌜ Fit g (now spans) 0 ⌝ }
-    requires { ⌜ (getD (g .window .lens) 1 0 ≤ g .p + 1) × ((getD (g .window .ids) 31 0 < 4294967295) × (g .written + getD (g .window .lens) 0 0 ≤ 16777216)) ⌝ }
-    requires { ⌜ 4 * (g .written + getD (g .window .lens) 0 0) ≤ length (now order) ⌝ }
-    ensures { λ r. ⌜ r ≡ released-guide g ⌝ }
-    ensures { λ _. ⌜ now (order .exit) ≡ released-order g (now (spans .entry)) (now (order .entry)) ⌝ }
+    requires { ⌜ Fit g (now spans) (now order) ⌝ }
+    ensures rotated { λ r. ⌜ r ≡ released-guide g ⌝ }
+    ensures appended { λ _. ⌜ now (order .exit) ≡ released-order g (now (spans .entry)) (now (order .entry)) ⌝ }
 {
     let w = g.window;
     let row = w.rows[0] as usize;
@@ -29,7 +25,7 @@ pub fn release(g: Guide, spans: &[u32], order: &mut [u32]) -> Guide
     let b = w.lens[1] as u32;
     let p = g.p as usize;
     let n = g.written as usize;
-    entries::append_row(spans, row * (p + 1), g.p, a, b, order, n);
+    entries::append_row(spans, order, row * (p + 1), n, g.p, a, b);
     let v = window::rotate(w);
     let mut h = g;
     h.window = v;

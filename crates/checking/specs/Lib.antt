@@ -1,5 +1,3 @@
--- The checks of the four calls over what the session and its storage hold.
+-- The checks of the four calls over what the session and its storage hold, and the laws of those of set, flush and final.
 pub mod Parts
-pub mod Contracts
 pub mod Laws
-pub mod Claiming

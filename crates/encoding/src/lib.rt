@@ -1,10 +1,19 @@
 // A list of calls encoded as numbers: where a call ends, and how many calls there are. Nothing is written.
 ghost use mathlib.Core.Path.{_≡_};
 ghost use mathlib.Core.Option.{none};
-ghost use Prim.Native.Nat.{ℕ, _+_, _≤_, _<_};
+ghost use Prim.Native.Nat.{_+_, _<_};
 ghost use lib.ListN.{length, drop};
 ghost use Rattle.rules.specs.Encoding.{front, add-front, counted};
 ghost use Rattle.encoding.specs.Ends.{ListEnds, Ends, Counts};
+
+// The tags that calls begin with.
+pub const SET: u64 = 1;
+
+pub const ADD: u64 = 2;
+
+pub const FLUSH: u64 = 3;
+
+pub const FINAL: u64 = 4;
 
 fn short(x: u64) -> usize
     ensures { λ r. ⌜ r ≡ x ⌝ }
@@ -52,16 +61,16 @@ pub fn call_end(calls: &[u64], at: usize) -> usize
     ensures { λ r. ⌜ Ends (front (drop at (now (calls .entry)))) (now (calls .entry)) at r ⌝ }
 {
     let tag = calls[at];
-    if tag == 2 {
+    if tag == ADD {
         return add_end(calls, at + 1);
     }
-    if tag == 3 {
+    if tag == FLUSH {
         return at + 1;
     }
-    if tag == 4 {
+    if tag == FINAL {
         return at + 1;
     }
-    if tag == 1 {
+    if tag == SET {
         if at + 1 < calls.len() {
             return at + 2;
         }

@@ -1,4 +1,4 @@
-// The lists of an accepted registration: stored behind those of the others, with the number that says where they lie.
+// The lists of an accepted registration: stored behind those of the others, with the cell that says where they lie.
 ghost use Rattle.entering.specs.Entering.{Storing, Stores};
 
 // Registration r of v; `used` numbers of the pool are taken.
@@ -15,7 +15,7 @@ pub fn store_lists(
     ensures { λ _. ⌜ Stores (now (waiting .entry)) (now (pool .entry)) v r used (now (ins .entry)) (now (outs .entry)) (now (waiting .exit)) (now (pool .exit)) ⌝ }
 {
     let inputs = ins.len();
-    lists::store_list(pool, used, ins);
-    lists::store_list(pool, used + inputs, outs);
-    lists::set_cell(waiting, v, r, used, inputs);
+    pool::store_list(pool, used, ins);
+    pool::store_list(pool, used + inputs, outs);
+    pool::set_cell(waiting, v, r, used, inputs);
 }

@@ -1,10 +1,19 @@
-// Entries in flat slices, four numbers each: value, added, accepted, parallelism. A span's entry has its parallelism only once it is
-// appended to the order; until then its fourth number is 0.
+// Entries in flat slices, SIZE numbers each: value, added, accepted, parallelism. A span's entry has its parallelism only once it is
+// appended to the order, and 0 until then.
 ghost use mathlib.Core.Path.{_≡_};
-ghost use mathlib.Core.List.{_++_, _∷_, []};
-ghost use Prim.Native.Nat.{ℕ, _+_, _*_, _≤_, _<_};
-ghost use lib.ListN.{length, take, drop, getD, set};
-ghost use Rattle.entries.specs.Entries.{entry-at, held-entry, numbers, over, row, annotated, appended};
+ghost use Prim.Native.Nat.{_+_, _≤_};
+ghost use Rattle.rules.specs.Limits.{most-parallelism};
+ghost use Rattle.entries.specs.Entries.{capacity, entry-at, fits, has-entry, with-parallelism, held-entry, with-entry, row, annotated, appended};
+
+// The numbers of an entry.
+pub const SIZE: usize = 4;
+
+// How many entries a slice has room for.
+pub fn capacity(s: &[u32]) -> usize
+    ensures { λ r. ⌜ r ≡ capacity (now (s .entry)) ⌝ }
+{
+    s.len() / SIZE
+}
 
 pub struct Entry {
     pub value: u32,
@@ -15,10 +24,10 @@ pub struct Entry {
 
 // The entry at index k.
 pub fn load(s: &[u32], k: usize) -> Entry
-    requires { ⌜ 4 * k + 4 ≤ length (now s) ⌝ }
+    requires { ⌜ has-entry (now s) k ⌝ }
     ensures { λ r. ⌜ r ≡ entry-at (now (s .entry)) k ⌝ }
 {
-    let i = 4 * k;
+    let i = SIZE * k;
     Entry {
         value: s[i],
         added: s[i + 1],
@@ -27,12 +36,32 @@ pub fn load(s: &[u32], k: usize) -> Entry
     }
 }
 
+// The parallelism of the entry at index k.
+pub fn parallelism_at(s: &[u32], k: usize) -> u32
+    requires { ⌜ has-entry (now s) k ⌝ }
+    ensures { λ r. ⌜ r ≡ (entry-at (now (s .entry)) k) .parallelism ⌝ }
+{
+    s[SIZE * k + 3]
+}
+
+// An entry with another parallelism.
+pub fn with_parallelism(e: Entry, parallelism: u32) -> Entry
+    ensures { λ r. ⌜ r ≡ with-parallelism e parallelism ⌝ }
+{
+    Entry {
+        value: e.value,
+        added: e.added,
+        accepted: e.accepted,
+        parallelism: parallelism,
+    }
+}
+
 // Stores an entry at index k; all else stays.
 pub fn store(s: &mut [u32], k: usize, e: Entry)
-    requires { ⌜ 4 * k + 4 ≤ length (now s) ⌝ }
-    ensures { λ _. ⌜ now (s .exit) ≡ over (now (s .entry)) (4 * k) (numbers e) ⌝ }
+    requires { ⌜ has-entry (now s) k ⌝ }
+    ensures { λ _. ⌜ now (s .exit) ≡ with-entry (now (s .entry)) k e ⌝ }
 {
-    let i = 4 * k;
+    let i = SIZE * k;
     s[i] = e.value;
     s[i + 1] = e.added;
     s[i + 2] = e.accepted;
@@ -41,35 +70,23 @@ pub fn store(s: &mut [u32], k: usize, e: Entry)
 
 // Stores an entry as a span holds it, with 0 for its parallelism.
 pub fn store_held(s: &mut [u32], k: usize, e: Entry)
-    requires { ⌜ 4 * k + 4 ≤ length (now s) ⌝ }
-    ensures { λ _. ⌜ now (s .exit) ≡ over (now (s .entry)) (4 * k) (numbers (held-entry e)) ⌝ }
+    requires { ⌜ has-entry (now s) k ⌝ }
+    ensures { λ _. ⌜ now (s .exit) ≡ with-entry (now (s .entry)) k (held-entry e) ⌝ }
 {
-    let f = Entry {
-        value: e.value,
-        added: e.added,
-        accepted: e.accepted,
-        parallelism: 0,
-    };
-    store(s, k, f);
+    store(s, k, with_parallelism(e, 0));
 }
 
 // Appends the a entries of the row at base to the order at n, each with its parallelism, the next span having b.
-pub fn append_row(spans: &[u32], base: usize, p: u32, a: u32, b: u32, order: &mut [u32], n: usize)
-    requires { ⌜ (1 ≤ p) × ((a ≤ p + 1) × ((b ≤ p + 1) × (p < 65000))) ⌝ }
-    requires { ⌜ 4 * (base + a) ≤ length (now spans) ⌝ }
-    requires { ⌜ 4 * (n + a) ≤ length (now order) ⌝ }
+pub fn append_row(spans: &[u32], order: &mut [u32], base: usize, n: usize, p: u32, a: u32, b: u32)
+    requires { ⌜ (1 ≤ p) × ((a ≤ p + 1) × ((b ≤ p + 1) × (p ≤ most-parallelism))) ⌝ }
+    requires { ⌜ fits (now spans) (base + a) ⌝ }
+    requires { ⌜ fits (now order) (n + a) ⌝ }
     ensures { λ _. ⌜ now (order .exit) ≡ appended (now (order .entry)) n (annotated p a b 0 (row (now (spans .entry)) base a)) ⌝ }
 {
     for q in 0..a {
         let j = q as usize;
         let e = load(spans, base + j);
-        let w = window::parallelism_of(p, a, b, q);
-        let f = Entry {
-            value: e.value,
-            added: e.added,
-            accepted: e.accepted,
-            parallelism: w,
-        };
-        store(order, n + j, f);
+        let w = choice::parallelism_of(p, a, b, q);
+        store(order, n + j, with_parallelism(e, w));
     }
 }

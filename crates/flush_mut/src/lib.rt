@@ -2,7 +2,7 @@
 // the same promise. A refused call leaves session and storage as they were.
 ghost use mathlib.Core.Path.{_≡_};
 ghost use Rattle.rules.specs.Calls.{flush as flush-call};
-ghost use Rattle.session.specs.Storage.{storage};
+ghost use Rattle.session.specs.Storage.{given, before, after};
 ghost use Rattle.summary.specs.Figured.{figured};
 ghost use Rattle.admitting.specs.Promise.{Asks, Called};
 ghost use Rattle.sorter.specs.FinalWork.{Concludes};
@@ -21,8 +21,8 @@ pub fn flush(
     waiting: &mut [u64],
     pool: &mut [u32],
 ) -> u64
-    requires { ⌜ Asks (now s) (storage (now spans) (now order) (now tally) (now rows) (now marks) (now locations) (now waiting) (now pool)) ⌝ }
-    ensures { λ r. ⌜ Called flush-call r (now (s .entry)) (now (s .exit)) (storage (now (spans .entry)) (now (order .entry)) (now (tally .entry)) (now (rows .entry)) (now (marks .entry)) (now (locations .entry)) (now (waiting .entry)) (now (pool .entry))) (storage (now (spans .exit)) (now (order .exit)) (now (tally .exit)) (now (rows .exit)) (now (marks .exit)) (now (locations .exit)) (now (waiting .exit)) (now (pool .exit))) ⌝ }
+    requires { ⌜ Asks (now s) (given spans order tally rows marks locations waiting pool) ⌝ }
+    ensures { λ r. ⌜ Called flush-call r (now (s .entry)) (now (s .exit)) (before spans order tally rows marks locations waiting pool) (after spans order tally rows marks locations waiting pool) ⌝ }
 {
     let a = sorter::flush(
         *s,
@@ -51,8 +51,8 @@ pub fn finish(
     waiting: &mut [u64],
     pool: &mut [u32],
 ) -> Finished
-    requires { ⌜ Asks (now s) (storage (now spans) (now order) (now tally) (now rows) (now marks) (now locations) (now waiting) (now pool)) ⌝ }
-    ensures { λ r. ⌜ (Concludes (r .number) (now (s .entry)) (now (s .exit)) (storage (now (spans .entry)) (now (order .entry)) (now (tally .entry)) (now (rows .entry)) (now (marks .entry)) (now (locations .entry)) (now (waiting .entry)) (now (pool .entry))) (storage (now (spans .exit)) (now (order .exit)) (now (tally .exit)) (now (rows .exit)) (now (marks .exit)) (now (locations .exit)) (now (waiting .exit)) (now (pool .exit))) (figured (r .summary))) × (r .session ≡ now (s .exit)) ⌝ }
+    requires { ⌜ Asks (now s) (given spans order tally rows marks locations waiting pool) ⌝ }
+    ensures { λ r. ⌜ (Concludes (r .number) (now (s .entry)) (now (s .exit)) (before spans order tally rows marks locations waiting pool) (after spans order tally rows marks locations waiting pool) (figured (r .summary))) × (r .session ≡ now (s .exit)) ⌝ }
 {
     let a = sorter::finish(
         *s,

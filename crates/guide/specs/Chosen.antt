@@ -7,14 +7,14 @@ use Prim.Native.Nat.{ℕ, zero, suc, _+_, _*_, _-_}
 use native.Mathlib.Omega.{arith}
 use lib.Dec.{ltb, eqb}
 use lib.ListN.{length, getD, drop, length-map}
-use Rattle.window.specs.declared.MatchedSpan.{MatchedSpan}
-use Rattle.window.specs.declared.MatchedSpan.the-variants.{Existing, New}
-use Rattle.window.specs.Search.{matched, first-below, pick-span}
-use Rattle.window.specs.Chosen.{chosen-by}
+use Rattle.choice.specs.declared.MatchedSpan.{MatchedSpan}
+use Rattle.choice.specs.declared.MatchedSpan.the-variants.{Existing, New}
+use Rattle.choice.specs.Search.{matched, first-below, pick-span}
+use Rattle.choice.specs.Chosen.{chosen-by}
 use Rattle.entries.specs.Entries.{row, item-of}
-use Rattle.rules.specs.Guide.{Choice, existing, opened, choose, found, seek, begin}
+use Rattle.rules.specs.Guide.{Item, Choice, existing, opened, choose, found, seek, begin}
 use Rattle.buffer.specs.declared.Guide.{Guide}
-use Rattle.buffer.specs.View.{spans-of, view, Laid}
+use Rattle.buffer.specs.View.{length-of, number-of, spans-of, view, Laid}
 use Rattle.buffer.specs.Rows.{row-length, span-length}
 use Rattle.guide.specs.Ready.{after-of}
 
@@ -44,7 +44,8 @@ seek-below p s (r ∷ rs) (l ∷ ls) i h = go (ltb l p) refl (seek-below p s rs 
     len : length (map item-of (row s (r * (p + 1)) l)) ≡ l
     len = length-map (row s (r * (p + 1)) l) item-of ∙ row-length s (r * (p + 1)) l
 
-    go : (t : Bool) → ltb l p ≡ t → choice-of (first-below ls (suc i) p) ≡ found (seek p (suc i) (spans-of p s rs ls)) → choice-of (pick-span (ltb l p) (Existing i) (first-below ls (suc i) p)) ≡ found (seek p i (map item-of (row s (r * (p + 1)) l) ∷ spans-of p s rs ls))
+    go : (t : Bool) → ltb l p ≡ t → choice-of (first-below ls (suc i) p) ≡ found (seek p (suc i) (spans-of p s rs ls))
+        → choice-of (pick-span (ltb l p) (Existing i) (first-below ls (suc i) p)) ≡ found (seek p i (map item-of (row s (r * (p + 1)) l) ∷ spans-of p s rs ls))
     go true e k = rw (seek, len, e)
     go false e k = rw (seek, len, e) k
 
@@ -59,24 +60,41 @@ matched-is : (p : ℕ) (s rs ls : List ℕ) (i : ℕ) → length rs ≡ length l
 unfolding matched
 matched-is p s rs ls i h = seek-below p s (drop i rs) (drop i ls) i (drop-lengths rs ls i h) ∙ ap (λ t. found (seek p i t)) (sym (spans-drop p s rs ls i))
 
-pub chosen-is : (g : Guide) (s o : List ℕ) (has : Bool) (span pos : ℕ) → Laid g s → choice-of (chosen-by (getD (g .window .ids) 0 0) (g .window .lens) (g .p) has span pos) ≡ choose (g .p) (view g s o) (after-of has span pos)
-unfolding chosen-by after-of choose choice-of view begin
-chosen-is g s o false span pos k = refl
-chosen-is g s o true span pos k = go (ltb span (getD (g .window .ids) 0 0)) (eqb (span - getD (g .window .ids) 0 0) 31) (ltb (getD (g .window .lens) (span - getD (g .window .ids) 0 0 + 1) 0) pos) refl refl refl
-  where
-    same : length (g .window .rows) ≡ length (g .window .lens)
-    same = k .rows-many ∙ sym (k .lens-many)
+module _ (g : Guide) (s o : List ℕ) (span pos : ℕ) (k : Laid g s) where
+  -- how far past span 0 `after` lies
+  abbrev d : ℕ
+  d = span - number-of g 0
 
-    len : length (getD (spans-of (g .p) s (g .window .rows) (g .window .lens)) (span - getD (g .window .ids) 0 0 + 1) []) ≡ getD (g .window .lens) (span - getD (g .window .ids) 0 0 + 1) 0
-    len = span-length (g .p) s (g .window .rows) (g .window .lens) (span - getD (g .window .ids) 0 0 + 1) same
+  abbrev lens : List ℕ
+  lens = g .window .lens
 
-    begin-is : (t : Bool) → ltb (getD (g .window .lens) (span - getD (g .window .ids) 0 0 + 1) 0) pos ≡ t → choice-of (pick-span t (matched (g .window .lens) (span - getD (g .window .ids) 0 0 + 2) (g .p)) (matched (g .window .lens) (span - getD (g .window .ids) 0 0 + 1) (g .p)))
-        ≡ found (seek (g .p) (begin (span - getD (g .window .ids) 0 0) pos (spans-of (g .p) s (g .window .rows) (g .window .lens))) (drop (begin (span - getD (g .window .ids) 0 0) pos (spans-of (g .p) s (g .window .rows) (g .window .lens))) (spans-of (g .p) s (g .window .rows) (g .window .lens))))
-    begin-is true e = let x : begin (span - getD (g .window .ids) 0 0) pos (spans-of (g .p) s (g .window .rows) (g .window .lens)) ≡ span - getD (g .window .ids) 0 0 + 2 = rw (begin, len, e) in rw x (matched-is (g .p) s (g .window .rows) (g .window .lens) (span - getD (g .window .ids) 0 0 + 2) same)
-    begin-is false e = let x : begin (span - getD (g .window .ids) 0 0) pos (spans-of (g .p) s (g .window .rows) (g .window .lens)) ≡ span - getD (g .window .ids) 0 0 + 1 = rw (begin, len, e) in rw x (matched-is (g .p) s (g .window .rows) (g .window .lens) (span - getD (g .window .ids) 0 0 + 1) same)
+  abbrev spans : List (List Item)
+  spans = spans-of (g .p) s (g .window .rows) lens
 
-    go : (t u v : Bool) → ltb span (getD (g .window .ids) 0 0) ≡ t → eqb (span - getD (g .window .ids) 0 0) 31 ≡ u → ltb (getD (g .window .lens) (span - getD (g .window .ids) 0 0 + 1) 0) pos ≡ v
-        → choice-of (chosen-by (getD (g .window .ids) 0 0) (g .window .lens) (g .p) true span pos) ≡ choose (g .p) (view g s o) (some (record { span = span; pos = pos }))
-    go true u v e f h = rw (choose, e)
-    go false true v e f h = rw (choose, e, f)
-    go false false v e f h = rw (choose, e, f, h) (begin-is v h)
+  same : length (g .window .rows) ≡ length lens
+  same = k .rows-many ∙ sym (k .lens-many)
+
+  len : length (getD spans (d + 1) []) ≡ length-of g (d + 1)
+  len = span-length (g .p) s (g .window .rows) lens (d + 1) same
+
+  search-is : (t : Bool) → ltb (length-of g (d + 1)) pos ≡ t
+      → choice-of (pick-span t (matched lens (d + 2) (g .p)) (matched lens (d + 1) (g .p))) ≡ found (seek (g .p) (begin d pos spans) (drop (begin d pos spans) spans))
+  unfolding begin
+  search-is true e =
+      let x : begin d pos spans ≡ d + 2 = rw (begin, len, e) in
+      rw x (matched-is (g .p) s (g .window .rows) lens (d + 2) same)
+  search-is false e =
+      let x : begin d pos spans ≡ d + 1 = rw (begin, len, e) in
+      rw x (matched-is (g .p) s (g .window .rows) lens (d + 1) same)
+
+  by-tests : (t u v : Bool) → ltb span (number-of g 0) ≡ t → eqb d 31 ≡ u → ltb (length-of g (d + 1)) pos ≡ v
+      → choice-of (chosen-by (number-of g 0) lens (g .p) true span pos) ≡ choose (g .p) (view g s o) (some (record { span = span; pos = pos }))
+  unfolding chosen-by choose choice-of view begin
+  by-tests true u v e f h = rw (choose, e)
+  by-tests false true v e f h = rw (choose, e, f)
+  by-tests false false v e f h = rw (choose, e, f, h) (search-is v h)
+
+  pub chosen-is : (has : Bool) → choice-of (chosen-by (number-of g 0) lens (g .p) has span pos) ≡ choose (g .p) (view g s o) (after-of has span pos)
+  unfolding chosen-by after-of choose choice-of view
+  chosen-is false = refl
+  chosen-is true = by-tests (ltb span (number-of g 0)) (eqb d 31) (ltb (length-of g (d + 1)) pos) refl refl refl

@@ -4,12 +4,12 @@ use mathlib.Core.List.{List, [], _∷_}
 use native.Mathlib.Numerals.{add-one}
 use Prim.Native.Nat.{ℕ, _+_, _≤_, _<_}
 use native.Mathlib.Omega.{arith}
-use lib.ListN.{length, getD}
+use lib.ListN.{length}
 use Rattle.rules.specs.Guide.{Item, release, flush, held}
 use Rattle.laws.specs.History.{len}
 use Rattle.laws.specs.GuideInv.{release-first}
 use Rattle.buffer.specs.declared.Guide.{Guide}
-use Rattle.buffer.specs.View.{view}
+use Rattle.buffer.specs.View.{length-of, view}
 use Rattle.placing.specs.Stands.{Stands}
 use Rattle.placing.specs.Done.{Done, Free, done-none, done-next, view-length, len-view, number-view, order-view}
 use Rattle.placing.specs.Flush.{held-release}
@@ -38,7 +38,7 @@ module _ (g : Guide) (s o t : List ℕ) (k : Stands g s o t) (r : Ready (g .p) (
           low = omega (arith, r .low, number-view h s o′ (d .stands .laid) 31 (omega arith), ap (λ b. b .first) (d .is), release-first (g .p) i (view g s o));
         }
 
-    pub flush-turn : (z : Guide) (o″ t″ : List ℕ) → i < 32 → Done h z s o′ t′ s o″ t″ (release (h .p) 1 (view h s o′)) → z .written ≡ h .written + getD (h .window .lens) 0 0
+    pub flush-turn : (z : Guide) (o″ t″ : List ℕ) → i < 32 → Done h z s o′ t′ s o″ t″ (release (h .p) 1 (view h s o′)) → z .written ≡ h .written + length-of h 0
         → Flushing g z s o t o″ t″ (i + 1)
     flush-turn z o″ t″ l e w =
         let d = f .done in

@@ -1,16 +1,17 @@
 -- A fresh guide over storage whose first P + 1 counts are 0 stands for the fresh guide of `rules`. Assumes nothing.
 use mathlib.Core.Path.{_≡_, refl}
 use mathlib.Core.List.{List}
-use Prim.Native.Nat.{ℕ, zero, suc, _+_, _*_, _≤_, _<_}
+use Prim.Native.Nat.{ℕ, zero, suc, _+_, _≤_, _<_}
 use native.Mathlib.Omega.{arith}
 use lib.ListN.{length, take, replicate, getD-replicate}
-use Rattle.rules.specs.Guide.{fresh, tally, tallied, held}
-use Rattle.laws.specs.GuideInv.{len-empties}
+use Rattle.rules.specs.Limits.{most-parallelism, most-places}
+use Rattle.rules.specs.Checks.{spans-needed}
+use Rattle.rules.specs.Guide.{fresh, tally, tallied}
+use Rattle.entries.specs.Entries.{fits}
 use Rattle.buffer.specs.declared.Guide.{Guide}
 use Rattle.buffer.specs.View.{spans-of, order-of, view, Away, Distinct, Most, upto, Laid}
 use Rattle.buffer.specs.Rows.{upto-length}
 use Rattle.placing.specs.Stands.{Stands}
-use Rattle.guide.specs.Ready.{Ready}
 
 away-upto : (x n m : ℕ) → x < n → Away x (upto n m)
 unfolding Away upto
@@ -36,7 +37,7 @@ most-zeros k (suc m) = (omega arith, most-zeros k m)
 unfoldable pub first-guide : ℕ → ℕ → Guide
 first-guide p v = record { window = record { ids = upto 0 32; lens = replicate 32 0; rows = upto 0 32 }; p = p; v = v; written = 0 }
 
-module _ (p v : ℕ) (s o t : List ℕ) (hp : 1 ≤ p) (hq : p < 65000) (hv : v ≤ 16777216) (ls : 4 * (32 * (p + 1)) ≤ length s) (lo : 4 * v ≤ length o) (lt : p < length t)
+module _ (p v : ℕ) (s o t : List ℕ) (hp : 1 ≤ p) (hq : p ≤ most-parallelism) (hv : v ≤ most-places) (ls : fits s (spans-needed p)) (lo : fits o v) (lt : p < length t)
     (zt : take (p + 1) t ≡ replicate (p + 1) 0) where
   laid : Laid (first-guide p v) s
   unfolding first-guide upto
@@ -61,7 +62,3 @@ module _ (p v : ℕ) (s o t : List ℕ) (hp : 1 ≤ p) (hq : p < 65000) (hv : v 
 pub fresh-view : (p v : ℕ) (s o : List ℕ) → view (first-guide p v) s o ≡ fresh
 unfolding first-guide view fresh spans-of order-of upto
 fresh-view p v s o = refl
-
-pub fresh-ready : (P N : ℕ) → Ready P N fresh
-unfolding fresh held
-fresh-ready P N = record { later = λ i h. omega (arith, len-empties 32 i); room = omega arith; low = omega arith }

@@ -7,18 +7,20 @@ use mathlib.Core.Option.{Option}
 use Prim.Native.Nat.{ℕ, suc, _+_, _≤_, _<_}
 use native.Mathlib.Omega.{arith}
 use lib.ListN.{length, getD}
-use Rattle.window.specs.declared.MatchedSpan.{MatchedSpan}
-use Rattle.window.specs.declared.MatchedSpan.the-variants.{Existing, New}
+use Rattle.choice.specs.declared.MatchedSpan.{MatchedSpan}
+use Rattle.choice.specs.declared.MatchedSpan.the-variants.{Existing, New}
+use Rattle.rules.specs.Limits.{last-span-limit}
 use Rattle.rules.specs.Guide.{Loc, Item, Guide as GuideModel, Choice, existing, opened, choose, place, apply, put, release, settle}
 use Rattle.laws.specs.Place.{Chosen, at-one, at-short, anew, chosen}
 use Rattle.buffer.specs.declared.Guide.{Guide}
-use Rattle.buffer.specs.View.{view}
+use Rattle.buffer.specs.View.{length-of, number-of, view}
 use Rattle.buffer.specs.Rows.{most-at}
 use Rattle.placing.specs.Stands.{Stands}
 use Rattle.placing.specs.Done.{Done, view-length, len-view, number-view}
+use Rattle.placing.specs.Slices.{Borrowed}
 use Rattle.guide.specs.Chosen.{choice-of, chosen-is}
 use Rattle.guide.specs.Ready.{after-of}
-use Rattle.window.specs.Chosen.{chosen-by}
+use Rattle.choice.specs.Chosen.{chosen-by}
 
 -- g is the guide before and r after; e is placed after `after`, and lands at the location (span, pos)
 pub record Pushes (g r : Guide) (after : Option Loc) (e : Item) (s o t s′ o′ t′ : List ℕ) (span pos : ℕ) : Type 0 where
@@ -27,6 +29,11 @@ pub record Pushes (g r : Guide) (after : Option Loc) (e : Item) (s o t s′ o′
   pub at-pos : pos ≡ (place (g .p) after e (view g s o)) .loc .pos
   pub span-fits : span < 4294967266
   pub pos-fits : pos < 65001
+
+-- the same of a function's slices
+abbrev pub Lands : Guide → Guide → Borrowed → Borrowed → Borrowed → Option Loc → Item → ℕ → ℕ → Type 0
+Lands g r spans order tally after e span pos =
+    Pushes g r after e (spans .entry .now) (order .entry .now) (tally .entry .now) (spans .exit .now) (order .exit .now) (tally .exit .now) span pos
 
 existing-inj : (i j : ℕ) → existing i ≡ existing j → i ≡ j
 existing-inj i j e = cc
@@ -48,12 +55,13 @@ opened-fits P ss _ n at-one e = absurd (never 1 n e)
 opened-fits P ss _ n (at-short j a b) e = absurd (never (suc j) n e)
 opened-fits P ss _ n (anew m a b) e = let z = opened-inj m n e in (omega arith, omega arith)
 
-module _ (g : Guide) (s o t : List ℕ) (has : Bool) (span pos : ℕ) (k : Stands g s o t) (m : MatchedSpan) (em : m ≡ chosen-by (getD (g .window .ids) 0 0) (g .window .lens) (g .p) has span pos) where
+module _ (g : Guide) (s o t : List ℕ) (has : Bool) (span pos : ℕ) (k : Stands g s o t) (m : MatchedSpan)
+    (em : m ≡ chosen-by (number-of g 0) (g .window .lens) (g .p) has span pos) where
   abbrev model : GuideModel
   model = view g s o
 
   choice-is : choose (g .p) model (after-of has span pos) ≡ choice-of m
-  choice-is = sym (chosen-is g s o has span pos (k .laid)) ∙ ap choice-of (sym em)
+  choice-is = sym (chosen-is g s o span pos (k .laid) has) ∙ ap choice-of (sym em)
 
   many : length (model .spans) ≡ 32
   many = view-length g s o (k .laid)
@@ -68,40 +76,42 @@ module _ (g : Guide) (s o t : List ℕ) (has : Bool) (span pos : ℕ) (k : Stand
   unfolding choice-of
   open-fits n e = opened-fits (g .p) (model .spans) (choose (g .p) model (after-of has span pos)) n (chosen (g .p) model (after-of has span pos)) (choice-is ∙ ap choice-of e)
 
-  number-at : (i : ℕ) → i < 32 → getD (g .window .ids) i 0 ≡ model .first + i
+  number-at : (i : ℕ) → i < 32 → number-of g i ≡ model .first + i
   number-at i h = number-view g s o (k .laid) i h
 
-  length-at : (i : ℕ) → length (getD (model .spans) i []) ≡ getD (g .window .lens) i 0
+  length-at : (i : ℕ) → length (getD (model .spans) i []) ≡ length-of g i
   length-at i = len-view g s o (k .laid) i
 
-  module _ (e : Item) (r : Guide) (s′ o′ t′ : List ℕ) (low : model .first + 31 < 4294967264) where
+  module _ (e : Item) (r : Guide) (s′ o′ t′ : List ℕ) (low : model .first + 31 < last-span-limit) where
     place-is : (x : Choice) → choose (g .p) model (after-of has span pos) ≡ x → place (g .p) (after-of has span pos) e model ≡ apply (g .p) e model x
     unfolding place
     place-is x f = rw f
 
-    pub taken-pushes : (i : ℕ) → m ≡ Existing i → Done g r s o t s′ o′ t′ (settle (g .p) (getD (g .window .lens) i 0 + 1) (put i e model))
-        → Pushes g r (after-of has span pos) e s o t s′ o′ t′ (getD (g .window .ids) i 0) (getD (g .window .lens) i 0)
+    pub taken-pushes : (i : ℕ) → m ≡ Existing i → (span′ pos′ : ℕ) → span′ ≡ number-of g i → pos′ ≡ length-of g i
+        → Done g r s o t s′ o′ t′ (settle (g .p) (length-of g i + 1) (put i e model))
+        → Pushes g r (after-of has span pos) e s o t s′ o′ t′ span′ pos′
     unfolding apply choice-of
-    taken-pushes i em′ d =
+    taken-pushes i em′ span′ pos′ es ep d =
         let pl = place-is (existing i) (choice-is ∙ ap choice-of em′) in
-        let n : getD (g .window .lens) i 0 + 1 ≡ suc (length (getD (model .spans) i [])) = omega (arith, length-at i) in
+        let n : length-of g i + 1 ≡ suc (length (getD (model .spans) i [])) = omega (arith, length-at i) in
         record {
           done = rw pl (rw n at d);
-          at-span = number-at i (taken-fits i em′ .1) ∙ ap (λ x. x .loc .span) (sym pl);
-          at-pos = sym (length-at i) ∙ ap (λ x. x .loc .pos) (sym pl);
-          span-fits = omega (arith, low, number-at i (taken-fits i em′ .1), taken-fits i em′ .1);
-          pos-fits = omega (arith, most-at (g .p + 1) (g .window .lens) i (k .laid .short), k .laid .few);
+          at-span = es ∙ number-at i (taken-fits i em′ .1) ∙ ap (λ x. x .loc .span) (sym pl);
+          at-pos = ep ∙ sym (length-at i) ∙ ap (λ x. x .loc .pos) (sym pl);
+          span-fits = omega (arith, es, low, number-at i (taken-fits i em′ .1), taken-fits i em′ .1);
+          pos-fits = omega (arith, ep, most-at (g .p + 1) (g .window .lens) i (k .laid .short), k .laid .few);
         }
 
-    pub open-pushes : (n : ℕ) → m ≡ New n → Done g r s o t s′ o′ t′ (put 31 e (release (g .p) n model))
-        → Pushes g r (after-of has span pos) e s o t s′ o′ t′ (getD (g .window .ids) 31 0 + n) 0
+    pub open-pushes : (n : ℕ) → m ≡ New n → (span′ pos′ : ℕ) → span′ ≡ number-of g 31 + n → pos′ ≡ 0
+        → Done g r s o t s′ o′ t′ (put 31 e (release (g .p) n model))
+        → Pushes g r (after-of has span pos) e s o t s′ o′ t′ span′ pos′
     unfolding apply choice-of
-    open-pushes n em′ d =
+    open-pushes n em′ span′ pos′ es ep d =
         let pl = place-is (opened n) (choice-is ∙ ap choice-of em′) in
         record {
           done = rw pl d;
-          at-span = ap (λ x. x + n) (number-at 31 (omega arith)) ∙ ap (λ x. x .loc .span) (sym pl);
-          at-pos = ap (λ x. x .loc .pos) (sym pl);
-          span-fits = omega (arith, low, number-at 31 (omega arith), open-fits n em′ .1);
-          pos-fits = omega arith;
+          at-span = es ∙ ap (λ x. x + n) (number-at 31 (omega arith)) ∙ ap (λ x. x .loc .span) (sym pl);
+          at-pos = ep ∙ ap (λ x. x .loc .pos) (sym pl);
+          span-fits = omega (arith, es, low, number-at 31 (omega arith), open-fits n em′ .1);
+          pos-fits = omega (arith, ep);
         }

@@ -2,13 +2,21 @@
 // numbers, low byte first: P, V, the count of requests, and six numbers a request as `guide_replay` takes them. P is at most 64, V 512.
 // The file stdin holds the worked placements G1 to G5 and W1 to W6 and kept lists, stdout the Rust's answers to them.
 ghost use mathlib.Core.Path.{_≡_};
-ghost use Prim.Native.Nat.{ℕ, _+_, _*_, _≤_, _<_};
-ghost use lib.ListN.{length};
+ghost use Prim.Native.Nat.{_+_, _*_, _≤_, _<_};
 
 // How many numbers are read, and how many requests a list may have.
 const WORDS: usize = 65536;
 
 const REQUESTS: usize = 128;
+
+// The lengths of the storage that a list is run in.
+const SPANS: usize = entries::SIZE * window::SPANS * (rules::JOB_PARALLELISM + 1);
+
+const ORDER: usize = entries::SIZE * rules::JOB_PLACES;
+
+const TALLY: usize = rules::JOB_PARALLELISM + 1;
+
+const ANSWERS: usize = alone_list::ANSWER_SIZE * REQUESTS;
 
 fn size(x: u32) -> usize
     ensures { λ r. ⌜ r ≡ x ⌝ }
@@ -65,7 +73,7 @@ fn show_answers(answers: &[u32], n: usize)
     requires { ⌜ n < 65536 ⌝ }
 {
     for k in 0..n {
-        show_line(answers, 37 * k);
+        show_line(answers, alone_list::ANSWER_SIZE * k);
     }
 }
 
@@ -74,7 +82,7 @@ fn show_order(order: &[u32], n: usize)
     requires { ⌜ n < 65536 ⌝ }
 {
     for k in 0..n {
-        show_line(order, 4 * k);
+        show_line(order, entries::SIZE * k);
     }
 }
 
@@ -92,10 +100,10 @@ fn show_counts(tally: &[u32], n: usize) {
 fn run_list(p: u32, v: u32, requests: &[u32], n: usize)
     requires { ⌜ n ≤ 128 ⌝ }
 {
-    let mut spans = [0u32; 8320];
-    let mut order = [0u32; 2048];
-    let mut tally = [7u32; 65];
-    let mut answers = [0u32; 4736];
+    let mut spans = [0u32; SPANS];
+    let mut order = [0u32; ORDER];
+    let mut tally = [7u32; TALLY];
+    let mut answers = [0u32; ANSWERS];
     let number = alone_replay::guide_replay(
         p as u64,
         v as u64,
@@ -108,9 +116,9 @@ fn run_list(p: u32, v: u32, requests: &[u32], n: usize)
     show(number, b"\n");
     show_answers(&answers, n);
     if 0 < n {
-        let last = 37 * (n - 1) + 3;
+        let last = alone_list::ANSWER_SIZE * (n - 1) + 3;
         let written = size(answers[last]);
-        if written < 512 {
+        if written < rules::JOB_PLACES {
             show_order(&order, written);
         }
     }
@@ -135,11 +143,11 @@ fn next_list(words: &[u32], at: usize) -> usize
         return 0;
     }
     let from = at + 3;
-    let to = from + 6 * n;
+    let to = from + alone_list::REQUEST_SIZE * n;
     if words.len() < to {
         return 0;
     }
-    if 65536 < to {
+    if WORDS < to {
         return 0;
     }
     run_list(p, v, &words[from..to], n);

@@ -1,3 +1,3 @@
--- The host's call and the program's answer: what they promise, and the laws of it.
-pub mod Reply
+-- The host's call: what it promises, and the laws of it.
+pub mod Called
 pub mod Laws

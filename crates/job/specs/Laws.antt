@@ -1,41 +1,43 @@
 -- Laws of running a job: what remains of it is kept by each turn. Assumes nothing.
 use mathlib.Core.Bool.{Bool, true, false}
-use mathlib.Core.List.{List, [], _∷_}
+use mathlib.Core.List.{List}
 use mathlib.Core.Logic.{_⊎_, inl, inr}
 use mathlib.Core.Option.{Option, some, none}
 use mathlib.Core.Path.{_≡_, refl, sym, ap, _∙_, subst}
-use Prim.Native.Nat.{ℕ, _+_, _*_, _/_, _≤_, _<_}
+use Prim.Native.Nat.{ℕ, _+_, _/_, _≤_, _<_}
 use native.Mathlib.Omega.{arith}
 use lib.ListN.{length, drop}
-use lib.Dec.{ltb, eqb}
+use lib.Dec.{eqb}
 use borrow.Author.Tests.{lt-ltb, le-ltb, eq-eqb, ne-eqb}
 use Rattle.rules.specs.Model.{Model, initial}
 use Rattle.rules.specs.Checks.{verdict, check-open}
 use Rattle.rules.specs.Calls as calls
-use Rattle.rules.specs.Calls.{Call, step}
-use Rattle.rules.specs.Job.{Outcome, finished, rejected, outcome, lines, ragged, run-lines, on-line, job-sizes, job-pool, Reached, reached, reached-lines}
-use Rattle.laws.specs.Sound.{Between, between-initial}
+use Rattle.rules.specs.Calls.{step}
+use Rattle.rules.specs.Limits.{most-job-bytes, job-pool}
+use Rattle.rules.specs.Refusals as refusal
+use Rattle.rules.specs.Job.{Outcome, rejected, outcome, lines, ragged, run-lines, on-line, job-sizes, Reached, reached, reached-lines}
+use Rattle.laws.specs.Sound.{between-initial}
 use Rattle.guide.specs.Fresh.{first-guide}
 use Rattle.session.specs.declared.Session.{Session}
 use Rattle.session.specs.Storage.{Storage, Beyond, Frame, beyond-refl, beyond-drop, beyond-trans, frame-refl, frame-trans}
 use Rattle.session.specs.Rep.{Rep}
-use Rattle.admitting.specs.Promise.{Asks}
 use Rattle.opening.specs.Opened.{Opens, enough-of}
-use Rattle.jobcalls.specs.Told.{Run, whole-run, HeadRead}
+use Rattle.jobcalls.specs.Told.{HeadRead}
+use Rattle.jobcalls.specs.Runs.{Run, whole-run, opens, head-runs}
 use Rattle.jobcalls.specs.declared.Head.{Head}
 use Rattle.jobcalls.specs.declared.Head.the-variants as head
 use Rattle.jobturn.specs.declared.Step.{Step}
 use Rattle.jobturn.specs.declared.Step.the-variants as step′
-use Rattle.jobturn.specs.Turned.{remains, Held, Refuses, Surplus, Turned, MayTurn}
-use Rattle.job.specs.declared.End.{End}
-use Rattle.job.specs.declared.End.the-variants as end
+use Rattle.jobturn.specs.Turned.{remains, StandsFor, Refuses, Surplus, Turned, MayTurn}
+use Rattle.jobturn.specs.declared.End.{End}
+use Rattle.jobturn.specs.declared.End.the-variants as end
 use Rattle.jobturn.specs.Laws.{open-low}
-use Rattle.job.specs.Run.{Standing, Left, Refused, Closed, Tells, Low, MayRun, outcome-as, Figures, Stopped, Runs, Room, Ran}
+use Rattle.job.specs.Run.{Standing, Left, Refused, Tells, MayRun, outcome-as, Stopped, Runs, Room, Ran}
 
 -- begun with s and σ, the calls up to `at` lead to a model, for which what remains is what remained at the start
 pub record Going (P N W : ℕ) (s : Session) (σ : Storage) (job : List ℕ) (start : ℕ) (s′ : Session) (σ′ : Storage) (at n : ℕ) : Type 0 where
   pub model : Model
-  pub held : Held P N W s′ σ′ model
+  pub stands : StandsFor P N W s′ σ′ model
   pub same : remains P N W job start 3 initial ≡ remains P N W job at n model
   pub frame : Frame P N (s .guide .written) (s′ .guide .written) σ σ′
 
@@ -51,7 +53,7 @@ module _ {P N W : ℕ} {s : Session} {σ : Storage} {job : List ℕ} {start : �
   frame-on : (t : Session) (τ : Storage) → Frame (s′ .guide .p) (s′ .guide .v) (s′ .guide .written) (t .guide .written) σ′ τ
       → Frame P N (s .guide .written) (t .guide .written) σ τ
   frame-on t τ f =
-      let h = g .held .rep .core .guided in
+      let h = g .stands .rep .core .guided in
       frame-trans P N (s .guide .written) (s′ .guide .written) (t .guide .written) σ σ′ τ (g .frame)
       (subst (λ (x : ℕ). Frame x N (s′ .guide .written) (t .guide .written) σ′ τ) (h .p-is)
       (subst (λ (x : ℕ). Frame (s′ .guide .p) x (s′ .guide .written) (t .guide .written) σ′ τ) (h .v-is) f))
@@ -65,7 +67,7 @@ module _ {s : Session} {σ : Storage} {job : List ℕ} {room start : ℕ} (m : M
         stands = λ P N hP r.
             record {
               model = initial;
-              held = record { rep = r; between = between-initial P N (length (σ .pool)) hP; pool = refl };
+              stands = record { rep = r; between = between-initial P N (length (σ .pool)) hP; pool = refl };
               same = refl;
               frame = frame-refl P N (s .guide .written) σ;
             };
@@ -77,7 +79,7 @@ module _ {s : Session} {σ : Storage} {job : List ℕ} {room start : ℕ} (m : M
     running-may room′ e =
         let h = r .stands (m .parallelism) (m .places) (m .positive) (m .rep) in
         record {
-          asks = record { parallelism = m .parallelism; places = m .places; model = h .model; rep = h .held .rep; between = rw (h .held .pool) (h .held .between) };
+          asks = record { parallelism = m .parallelism; places = m .places; model = h .model; rep = h .stands .rep; between = rw (h .stands .pool) (h .stands .between) };
           inside = r .inside;
           half = rw e (m .half);
           low = omega (arith, r .low, r .inside, m .short);
@@ -95,10 +97,10 @@ module _ {s : Session} {σ : Storage} {job : List ℕ} {room start : ℕ} (m : M
             low = omega (arith, d′ .further, r .low);
             stands = λ P N hP q.
                 let h = r .stands P N hP q in
-                let g = d′ .tells P N (length (σ .pool)) (h .model) hP (h .held) in
+                let g = d′ .tells P N (length (σ .pool)) (h .model) hP (h .stands) in
                 record {
                   model = step P N (length (σ .pool)) (g .0) (h .model);
-                  held = g .1 .0 .held;
+                  stands = g .1 .0 .stands;
                   same = h .same ∙ g .1 .1;
                   frame = frame-on h t τ (d′ .frame);
                 };
@@ -108,56 +110,54 @@ module _ {s : Session} {σ : Storage} {job : List ℕ} {room start : ℕ} (m : M
       pub falls : (next i : ℕ) → x ≡ step′.On next i → (at < next) × (next ≤ length job)
       falls next i e = let d′ = subst (λ (y : Step). Turned job at n s′ y t σ′ τ b b′) e d in (d′ .further .0, d′ .further .1 .0)
 
-      pub runs-finished : x ≡ step′.Finished → Runs s σ job start (end.Finished (t .guide .written) (t .places) (t .guide .p)) τ a b′
-      runs-finished e =
+      pub runs-ended : (e : End) → x ≡ step′.Ended e → Runs s σ job start e τ a b′
+      runs-ended (end.Finished w pl md) e =
           let d′ = subst (λ (y : Step). Turned job at n s′ y t σ′ τ b b′) e d in
           record {
             tells = λ P N hP q.
                 let h = r .stands P N hP q in
-                let g = d′ .tells P N (length (σ .pool)) (h .model) hP (h .held) in
+                let g = d′ .tells P N (length (σ .pool)) (h .model) hP (h .stands) in
                 record {
                   model = step P N (length (σ .pool)) calls.final (h .model);
                   session = t;
-                  held = g .0 .held;
-                  is = h .same ∙ g .1;
+                  stands = g .final .stands;
+                  is = h .same ∙ g .is;
                   frame = frame-on h t τ (d′ .frame);
-                  figures = (refl, (refl, refl));
+                  figures = g .figures;
                 };
             low = tt;
             into = numbers;
           }
-
-      pub runs-rejected : (i code : ℕ) → x ≡ step′.Rejected i code → Runs s σ job start (end.Rejected i code) τ a b′
-      runs-rejected i code e =
+      runs-ended (end.Rejected i code) e =
           let d′ = subst (λ (y : Step). Turned job at n s′ y t σ′ τ b b′) e d in
           record {
             tells = λ P N hP q.
                 let h = r .stands P N hP q in
-                stopped P N h (d′ .frame) (d′ .tells P N (length (σ .pool)) (h .model) hP (h .held));
+                stopped i code P N h (d′ .frame) (d′ .tells P N (length (σ .pool)) (h .model) hP (h .stands));
             low = (omega (arith, d′ .further, r .low, r .inside, m .short), d′ .further .1);
             into = numbers;
           }
         where
-          stopped : (P N : ℕ) (h : Going P N (length (σ .pool)) s σ job start s′ σ′ at n)
+          stopped : (i code P N : ℕ) (h : Going P N (length (σ .pool)) s σ job start s′ σ′ at n)
               → Frame (s′ .guide .p) (s′ .guide .v) (s′ .guide .written) (t .guide .written) σ′ τ
               → Refuses (h .model) s′ t σ′ τ i code (remains P N (length (σ .pool)) job at n (h .model))
               ⊎ Surplus P N (length (σ .pool)) (h .model) t τ i code (remains P N (length (σ .pool)) job at n (h .model))
               → Stopped P N (length (σ .pool)) s σ τ (end.Rejected i code) (remains P N (length (σ .pool)) job start 3 initial)
-          stopped P N h f (inl y) =
+          stopped i code P N h f (inl y) =
               record {
                 model = h .model;
                 session = t;
-                held = subst (λ (z : Session). Held P N (length (σ .pool)) z τ (h .model)) (sym (y .session))
-                    (subst (λ (z : Storage). Held P N (length (σ .pool)) s′ z (h .model)) (sym (y .storage)) (h .held));
+                stands = subst (λ (z : Session). StandsFor P N (length (σ .pool)) z τ (h .model)) (sym (y .session))
+                    (subst (λ (z : Storage). StandsFor P N (length (σ .pool)) s′ z (h .model)) (sym (y .storage)) (h .stands));
                 is = h .same ∙ y .is;
                 frame = frame-on h t τ f;
                 figures = tt;
               }
-          stopped P N h f (inr y) =
+          stopped i code P N h f (inr y) =
               record {
                 model = step P N (length (σ .pool)) calls.final (h .model);
                 session = t;
-                held = y .final .held;
+                stands = y .final .stands;
                 is = h .same ∙ y .is;
                 frame = frame-on h t τ f;
                 figures = tt;
@@ -194,23 +194,23 @@ lengths-trans x y =
     }
 
 -- a job too long, one with a bad head, one that opening refuses, and one that is run
-pub ran-long : (job : List ℕ) (σ : Storage) (a : List ℕ) → 65536 < length job → Ran job (end.Rejected 1 16) σ σ a a
+pub ran-long : (job : List ℕ) (σ : Storage) (a : List ℕ) → most-job-bytes < length job → Ran job (end.Rejected 1 refusal.long-job) σ σ a a
 unfolding outcome reached
 ran-long job σ a h =
-    let n : reached job ≡ none = rw (reached, lt-ltb 65536 (length job) h) in
+    let n : reached job ≡ none = rw (reached, lt-ltb most-job-bytes (length job) h) in
     record {
-      tells = record { is = rw (outcome, lt-ltb 65536 (length job) h); left = subst (λ (x : Option Reached). Left x σ σ) (sym n) refl };
+      tells = record { is = rw (outcome, lt-ltb most-job-bytes (length job) h); left = subst (λ (x : Option Reached). Left x σ σ) (sym n) refl };
       low = (omega arith, omega arith);
       into = beyond-refl _ a;
     }
 
-module _ (job : List ℕ) (short : length job ≤ 65536) where
+module _ (job : List ℕ) (short : length job ≤ most-job-bytes) where
   abbrev whole : Outcome × Option Reached
   whole = (outcome job, reached job)
 
   not-long : whole ≡ whole-run (lines job) (ragged job)
   unfolding outcome reached
-  not-long = rw (outcome, reached, le-ltb 65536 (length job) short)
+  not-long = rw (outcome, reached, le-ltb most-job-bytes (length job) short)
 
   -- no session was opened
   unopened : (σ : Storage) (n code : ℕ) → whole ≡ (rejected n code, none) → Refused job σ σ n code
@@ -220,11 +220,12 @@ module _ (job : List ℕ) (short : length job ≤ 65536) where
         left = subst (λ (x : Option Reached). Left x σ σ) (sym (ap (λ (x : Outcome × Option Reached). x .1) q)) refl;
       }
 
-  pub ran-malformed : (n : ℕ) (h : Head) (a b : List ℕ) → HeadRead job h a b → length b ≡ length a → h ≡ head.Malformed n → (σ : Storage) → Ran job (end.Rejected n 15) σ σ a b
+  pub ran-malformed : (n : ℕ) (h : Head) (a b : List ℕ) → HeadRead job h a b → length b ≡ length a → h ≡ head.Malformed n → (σ : Storage) → Ran job (end.Rejected n refusal.malformed) σ σ a b
+  unfolding opens
   ran-malformed n h a b r l e σ =
       let r′ = subst (λ (x : Head). HeadRead job x a b) e r in
       record {
-        tells = unopened σ n 15 (not-long ∙ r′ .runs (ragged job));
+        tells = unopened σ n refusal.malformed (not-long ∙ head-runs r′ (ragged job));
         low = (omega (arith, r′ .starts), omega arith);
         into = beyond-drop (length job / 2) (length job / 2) a b (omega arith) l (r′ .into);
       }
@@ -244,8 +245,8 @@ module _ (job : List ℕ) (short : length job ≤ 65536) where
     )
 
     opening-next : whole ≡ opened (verdict (check-open P N job-sizes))
-    unfolding opened
-    opening-next = not-long ∙ sized .runs (ragged job)
+    unfolding opened opens
+    opening-next = not-long ∙ head-runs sized (ragged job)
 
     module _ (number : ℕ) (s : Session) (σ τ : Storage) (room : ℕ) (R : Room σ room) (o : Opens P N number s σ τ) where
       number-is : number ≡ verdict (check-open P N job-sizes)
@@ -293,7 +294,7 @@ module _ (job : List ℕ) (short : length job ≤ 65536) where
         standing x υ u =
             let w : s .guide .written ≡ 0 = ap (λ (y : Session). y .guide .written) (o .session z) in
             record {
-              held = u .held;
+              stands = u .stands;
               frame = frame-trans P N 0 0 (u .session .guide .written) σ τ υ (o .frame z)
                   (subst (λ (y : ℕ). Frame P N y (u .session .guide .written) τ υ) w (u .frame));
             }
@@ -316,16 +317,14 @@ module _ (job : List ℕ) (short : length job ≤ 65536) where
               is = is-outcome (end.Rejected i code) υ u;
               left = subst (λ (y : Option Reached). Left y σ υ) (sym (is-reached (end.Rejected i code) υ u)) (u .session, standing (end.Rejected i code) υ u);
             }
-        told (end.Finished w pl p) υ u =
+        told (end.Finished w pl md) υ u =
             record {
-              last = there (end.Finished w pl p) υ u;
-              reached-is = is-reached (end.Finished w pl p) υ u;
-              is = is-outcome (end.Finished w pl p) υ u;
+              last = there (end.Finished w pl md) υ u;
+              reached-is = is-reached (end.Finished w pl md) υ u;
+              is = is-outcome (end.Finished w pl md) υ u;
               session = u .session;
-              standing = standing (end.Finished w pl p) υ u;
-              written-is = u .figures .0;
-              places-is = u .figures .1 .0;
-              parallelism-is = u .figures .1 .1;
+              standing = standing (end.Finished w pl md) υ u;
+              figures = u .figures;
             }
 
         pub ran-all : (x : End) (υ : Storage) (b′ : List ℕ) → Runs s τ job start x υ b b′ → length (τ .pool) ≡ length (σ .pool) → Ran job x σ υ a b′
@@ -341,11 +340,11 @@ module _ (job : List ℕ) (short : length job ≤ 65536) where
 pub nothing-written : {job : List ℕ} {n code : ℕ} {σ σ′ : Storage} {a b : List ℕ} → reached job ≡ none → Ran job (end.Rejected n code) σ σ′ a b → σ′ ≡ σ
 nothing-written {job} {n} {code} {σ} {σ′} {a} {b} e r = subst (λ (x : Option Reached). Left x σ σ′) e (r .tells .left)
 
--- a wrong program shut out: a job opened with another V, or one that tells another P. The storage stands for the model reached with the P
--- and V of the job's first two lines, the session's V is that V, and the P told is that P
-pub own-numbers : {job : List ℕ} {w pl p : ℕ} {σ σ′ : Storage} {a b : List ℕ} → Ran job (end.Finished w pl p) σ σ′ a b
-    → (r : Reached) × ((reached job ≡ some r) × ((s : Session) × (Rep (r .parallelism) (r .places) (r .model) s σ′ × ((s .guide .v ≡ r .places) × (p ≡ r .parallelism)))))
+-- a wrong program shut out: a job opened with another P or V. The storage stands for the model reached with the P and V of the job's first
+-- two lines, and the session's are these
+pub own-numbers : {job : List ℕ} {w pl md : ℕ} {σ σ′ : Storage} {a b : List ℕ} → Ran job (end.Finished w pl md) σ σ′ a b
+    → (r : Reached) × ((reached job ≡ some r) × ((s : Session) × (Rep (r .parallelism) (r .places) (r .model) s σ′ × ((s .guide .v ≡ r .places) × (s .guide .p ≡ r .parallelism)))))
 own-numbers r =
     let c = r .tells in
-    let g = c .standing .held .rep in
-    (c .last, (c .reached-is, (c .session, (g, (g .core .guided .v-is, c .parallelism-is ∙ g .core .guided .p-is)))))
+    let g = c .standing .stands .rep in
+    (c .last, (c .reached-is, (c .session, (g, (g .core .guided .v-is, g .core .guided .p-is)))))

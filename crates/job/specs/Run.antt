@@ -1,24 +1,25 @@
 -- What running a job promises: its end is document 01's outcome of the job, and the lent storage is as it was where no session was opened,
 -- else it stands, with a session, for the model that the job's accepted calls reach (rules, Job). Assumes nothing.
-use mathlib.Core.List.{List, [], _∷_}
+use mathlib.Core.List.{List}
 use mathlib.Core.Option.{Option, some, none}
 use mathlib.Core.Path.{_≡_}
-use Prim.Native.Nat.{ℕ, _+_, _*_, _/_, _≤_, _<_}
+use Prim.Native.Nat.{ℕ, _+_, _*_, _/_, _≤_}
 use lib.ListN.{length}
 use Rattle.rules.specs.Model.{Model, initial}
-use Rattle.rules.specs.Job.{Outcome, finished, rejected, outcome, job-pool, Reached, reached}
+use Rattle.rules.specs.Limits.{most-job-bytes, job-pool}
+use Rattle.rules.specs.Job.{Outcome, finished, rejected, outcome, Reached, reached}
 use Rattle.session.specs.declared.Session.{Session}
 use Rattle.session.specs.Storage.{Storage, Beyond, Frame}
 use Rattle.session.specs.Rep.{Rep}
-use Rattle.jobcalls.specs.Told.{Run}
-use Rattle.jobturn.specs.Turned.{remains, Held}
-use Rattle.job.specs.declared.End.{End}
-use Rattle.job.specs.declared.End.the-variants as end
+use Rattle.jobcalls.specs.Runs.{Run}
+use Rattle.jobturn.specs.Turned.{Number, remains, StandsFor, Figures}
+use Rattle.jobturn.specs.declared.End.{End}
+use Rattle.jobturn.specs.declared.End.the-variants as end
 
 -- a session and the storage stand for the model that a job reaches, P and V being the numbers of its first two lines, and what lies
 -- beyond the needed lengths, and the order past its length, is as it was lent
 pub record Standing (r : Reached) (s : Session) (σ σ′ : Storage) : Type 0 where
-  pub held : Held (r .parallelism) (r .places) job-pool s σ′ (r .model)
+  pub stands : StandsFor (r .parallelism) (r .places) job-pool s σ′ (r .model)
   pub frame : Frame (r .parallelism) (r .places) 0 (s .guide .written) σ σ′
 
 -- what is left of the lent storage: all of it as it was, where no session was opened
@@ -31,25 +32,26 @@ pub record Refused (job : List ℕ) (σ σ′ : Storage) (n code : ℕ) : Type 0
   pub is : outcome job ≡ rejected n code
   pub left : Left (reached job) σ σ′
 
--- a job that is finished, with the order's length, the places that final fixed and P of the session
-pub record Closed (job : List ℕ) (σ σ′ : Storage) (written places parallelism : ℕ) : Type 0 where
+-- a job that is finished, with the numbers of its listing's head: the order's length, the places that final fixed and the median
+pub record Closed (job : List ℕ) (σ σ′ : Storage) (written places median : ℕ) : Type 0 where
   pub last : Reached
   pub reached-is : reached job ≡ some last
   pub is : outcome job ≡ finished (last .parallelism) (last .model)
   pub session : Session
   pub standing : Standing last session σ σ′
-  pub written-is : written ≡ session .guide .written
-  pub places-is : places ≡ session .places
-  pub parallelism-is : parallelism ≡ session .guide .p
+  pub figures : Figures (last .parallelism) (last .model) written places median
 
 abbrev pub Tells : List ℕ → Storage → Storage → End → Type 0
 Tells job σ σ′ (end.Rejected n code) = Refused job σ σ′ n code
-Tells job σ σ′ (end.Finished w pl p) = Closed job σ σ′ w pl p
+Tells job σ σ′ (end.Finished w pl md) = Closed job σ σ′ w pl md
 
--- a refusal's line and number are small
+-- a refusal's line and number are small: the line is at most five past the bytes of a job
+abbrev pub refusal-low : ℕ → ℕ → Type 0
+refusal-low n code = (n ≤ most-job-bytes + 5) × Number code
+
 abbrev pub Low : End → Type 0
-Low (end.Rejected n code) = (n ≤ 65541) × (code ≤ 16)
-Low (end.Finished w pl p) = Unit {0}
+Low (end.Rejected n code) = refusal-low n code
+Low (end.Finished w pl md) = Unit {0}
 
 -- calls may be run from `start` on: the session is fresh, and there is room for the numbers of lists
 pub record MayRun (s : Session) (σ : Storage) (job : List ℕ) (room start : ℕ) : Type 0 where
@@ -59,25 +61,25 @@ pub record MayRun (s : Session) (σ : Storage) (job : List ℕ) (room start : �
   pub rep : Rep parallelism places initial s σ
   pub inside : start ≤ length job
   pub half : length job ≤ 2 * room
-  pub short : length job ≤ 65536
+  pub short : length job ≤ most-job-bytes
 
--- the outcome that an end tells, the model being k, and the session's numbers that it tells
+-- the outcome that an end tells, the model being k, and that its numbers are the model's
 abbrev pub outcome-as : End → ℕ → Model → Outcome
 outcome-as (end.Rejected n code) P k = rejected n code
-outcome-as (end.Finished w pl p) P k = finished P k
+outcome-as (end.Finished w pl md) P k = finished P k
 
-abbrev pub Figures : End → Session → Type 0
-Figures (end.Rejected n code) s = Unit {0}
-Figures (end.Finished w pl p) s = (w ≡ s .guide .written) × ((pl ≡ s .places) × (p ≡ s .guide .p))
+abbrev pub figures-of : End → ℕ → Model → Type 0
+figures-of (end.Rejected n code) P k = Unit {0}
+figures-of (end.Finished w pl md) P k = Figures P k w pl md
 
 -- the calls were run to the end e: o is what remained at the start, with session s and storage σ
 pub record Stopped (P N W : ℕ) (s : Session) (σ σ′ : Storage) (e : End) (o : Run) : Type 0 where
   pub model : Model
   pub session : Session
-  pub held : Held P N W session σ′ model
+  pub stands : StandsFor P N W session σ′ model
   pub is : o ≡ (outcome-as e P model, model)
   pub frame : Frame P N (s .guide .written) (session .guide .written) σ σ′
-  pub figures : Figures e session
+  pub figures : figures-of e P model
 
 -- a and b are the storage for numbers before and after: the job's lists have at most half as many numbers as it has bytes
 pub record Runs (s : Session) (σ : Storage) (job : List ℕ) (start : ℕ) (e : End) (σ′ : Storage) (a b : List ℕ) : Type 0 where

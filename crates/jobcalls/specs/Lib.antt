@@ -1,3 +1,4 @@
--- The calls of a job: what reading one promises, and the laws of it.
+-- The calls of a job: what reading one promises, the laws of it, and what a run makes of what is read.
 pub mod Told
 pub mod Laws
+pub mod Runs

@@ -1,11 +1,8 @@
 // The calls of a job, read line by line: the two lines of its head, then one call after another, each from the place after the one before.
-ghost use mathlib.Core.Path.{_≡_};
-ghost use Prim.Native.Nat.{ℕ, _+_, _*_, _≤_, _<_};
+ghost use Prim.Native.Nat.{_+_, _*_, _≤_};
 ghost use lib.ListN.{length};
-ghost use Rattle.jobcalls.specs.Told.{LineAt, first-of, outputs-of, parallelism-of, places-of, NextCall, HeadRead};
+ghost use Rattle.jobcalls.specs.Told.{LineAt, NextCall, HeadRead};
 use jobline::Line;
-use jobtext::Items;
-use jobtext::Number;
 
 // A line, and the place after it. A missing line is malformed, and the place is where it was looked for.
 pub struct Got {
@@ -18,7 +15,7 @@ pub fn line_at(job: &[u8], at: usize, into: &mut [u64], off: usize) -> Got
     requires { ⌜ (at ≤ length (now job)) × (2 * off + length (now job) ≤ 2 * length (now into) + at) ⌝ }
     ensures { λ r. ⌜ LineAt (now (job .entry)) at (now (into .entry)) (now (into .exit)) off (r .line) (r .next) ⌝ }
 {
-    let e = jobtext::find(job, at, 10);
+    let e = jobtext::find(job, at, b'\n');
     if e == job.len() {
         return Got {
             line: Line::Malformed,
@@ -32,148 +29,58 @@ pub fn line_at(job: &[u8], at: usize, into: &mut [u64], off: usize) -> Got
     }
 }
 
-// What can stand first of a call.
-pub enum First {
-    Set(u64),
-    Inputs(usize),
+// A call that others may follow. The numbers of an add's lists stand in storage, the inputs first, the outputs behind them.
+pub enum Call {
+    Set { place: u64 },
+    Add { inputs: usize, outputs: usize },
     Flush,
-    Final,
-    Malformed,
 }
 
-pub fn starting(l: Line) -> First
-    ensures { λ r. ⌜ r ≡ first-of l ⌝ }
-{
-    match l {
-        Line::Set(x) => First::Set(x),
-        Line::Inputs(n) => First::Inputs(n),
-        Line::Flush => First::Flush,
-        Line::Final => First::Final,
-        Line::Parallelism(_) => First::Malformed,
-        Line::Places(_) => First::Malformed,
-        Line::Outputs(_) => First::Malformed,
-        Line::Malformed => First::Malformed,
-    }
-}
-
-// The count of an `out=` line.
-pub fn outputs(l: Line) -> Items
-    ensures { λ r. ⌜ r ≡ outputs-of l ⌝ }
-{
-    match l {
-        Line::Outputs(n) => Items::Count(n),
-        Line::Set(_) => Items::Malformed,
-        Line::Inputs(_) => Items::Malformed,
-        Line::Flush => Items::Malformed,
-        Line::Final => Items::Malformed,
-        Line::Parallelism(_) => Items::Malformed,
-        Line::Places(_) => Items::Malformed,
-        Line::Malformed => Items::Malformed,
-    }
-}
-
-// The numbers of the head's lines.
-pub fn parallelism(l: Line) -> Number
-    ensures { λ r. ⌜ r ≡ parallelism-of l ⌝ }
-{
-    match l {
-        Line::Parallelism(n) => Number::Value(n),
-        Line::Outputs(_) => Number::Malformed,
-        Line::Set(_) => Number::Malformed,
-        Line::Inputs(_) => Number::Malformed,
-        Line::Flush => Number::Malformed,
-        Line::Final => Number::Malformed,
-        Line::Places(_) => Number::Malformed,
-        Line::Malformed => Number::Malformed,
-    }
-}
-
-pub fn places(l: Line) -> Number
-    ensures { λ r. ⌜ r ≡ places-of l ⌝ }
-{
-    match l {
-        Line::Places(n) => Number::Value(n),
-        Line::Outputs(_) => Number::Malformed,
-        Line::Set(_) => Number::Malformed,
-        Line::Inputs(_) => Number::Malformed,
-        Line::Flush => Number::Malformed,
-        Line::Final => Number::Malformed,
-        Line::Parallelism(_) => Number::Malformed,
-        Line::Malformed => Number::Malformed,
-    }
-}
-
-// A call of a job. The numbers of an add's lists stand in storage, the inputs first, the outputs behind them.
-pub enum Act {
-    Set(u64),
-    Add(usize, usize),
-    Flush,
-    Final,
-    Malformed,
-}
-
-// A call, the line that it is refused on, and the place after it.
-pub struct Next {
-    pub act: Act,
-    pub line: u64,
-    pub next: usize,
+// The next call of a job, or final, with the line that it is refused on and the place after it; or the line of it that is missing or
+// malformed.
+pub enum Next {
+    Call { call: Call, line: u64, next: usize },
+    Final { line: u64, next: usize },
+    Malformed { line: u64 },
 }
 
 // Reads the call whose first line is `line`, at `at`.
 pub fn next_call(job: &[u8], at: usize, line: u64, into: &mut [u64]) -> Next
     requires { ⌜ (at ≤ length (now job)) × ((length (now job) ≤ 2 * length (now into)) × (line ≤ 4294967296)) ⌝ }
-    ensures { λ r. ⌜ NextCall (now (job .entry)) at line (now (into .entry)) (now (into .exit)) (r .act) (r .line) (r .next) ⌝ }
+    ensures { λ r. ⌜ NextCall (now (job .entry)) at line (now (into .entry)) (now (into .exit)) r ⌝ }
 {
     let a = line_at(job, at, into, 0);
     let l = a.line;
-    let after = a.next;
-    let f = starting(l);
-    match f {
-        First::Set(x) => Next {
-            act: Act::Set(x),
-            line: line,
-            next: after,
-        },
-        First::Inputs(n) => {
-            let b = line_at(job, after, into, n);
-            let m = b.line;
-            let end = b.next;
-            let o = outputs(m);
-            match o {
-                Items::Count(k) => Next {
-                    act: Act::Add(n, k),
-                    line: line + 1,
-                    next: end,
-                },
-                Items::Malformed => Next {
-                    act: Act::Malformed,
-                    line: line + 1,
-                    next: end,
-                },
-            }
+    let next = a.next;
+    match l {
+        Line::Set(place) => {
+            let call = Call::Set { place };
+            Next::Call { call, line, next }
         }
-        First::Flush => Next {
-            act: Act::Flush,
-            line: line,
-            next: after,
-        },
-        First::Final => Next {
-            act: Act::Final,
-            line: line,
-            next: after,
-        },
-        First::Malformed => Next {
-            act: Act::Malformed,
-            line: line,
-            next: after,
-        },
+        Line::Inputs(inputs) => {
+            let b = line_at(job, next, into, inputs);
+            let m = b.line;
+            let line = line + 1;
+            let Line::Outputs(outputs) = m else {
+                return Next::Malformed { line };
+            };
+            let call = Call::Add { inputs, outputs };
+            let next = b.next;
+            Next::Call { call, line, next }
+        }
+        Line::Flush => {
+            let call = Call::Flush;
+            Next::Call { call, line, next }
+        }
+        Line::Final => Next::Final { line, next },
+        _ => Next::Malformed { line },
     }
 }
 
-// P and V, and the place after the head; or the line that is missing or malformed.
+// P and V, and the place after the head; or the line of it that is missing or malformed.
 pub enum Head {
-    Sizes(u64, u64, usize),
-    Malformed(u64),
+    Sizes { p: u64, v: u64, next: usize },
+    Malformed { line: u64 },
 }
 
 // Reads the two lines of the head.
@@ -184,16 +91,14 @@ pub fn read_head(job: &[u8], into: &mut [u64]) -> Head
     let a = line_at(job, 0, into, 0);
     let l = a.line;
     let after = a.next;
-    let x = parallelism(l);
-    let Number::Value(p) = x else {
-        return Head::Malformed(1);
+    let Line::Parallelism(p) = l else {
+        return Head::Malformed { line: 1 };
     };
     let b = line_at(job, after, into, 0);
     let m = b.line;
-    let end = b.next;
-    let y = places(m);
-    let Number::Value(v) = y else {
-        return Head::Malformed(2);
+    let next = b.next;
+    let Line::Places(v) = m else {
+        return Head::Malformed { line: 2 };
     };
-    Head::Sizes(p, v, end)
+    Head::Sizes { p, v, next }
 }

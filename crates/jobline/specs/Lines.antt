@@ -1,13 +1,11 @@
 -- What reading a line promises: how the cases of the code's enums stand for document 01's lines (rules, Job). Assumes nothing.
 use mathlib.Core.Bool.{Bool, true, false}
-use mathlib.Core.List.{List, [], _∷_}
+use mathlib.Core.List.{List}
 use mathlib.Core.Option.{Option, some, none}
 use mathlib.Core.Path.{_≡_}
 use Prim.Native.Nat.{ℕ, _+_, _*_, _/_, _≤_}
 use lib.ListN.{length, take, drop}
 use Rattle.rules.specs.Job as rule
-use Rattle.jobline.specs.declared.Key.{Key}
-use Rattle.jobline.specs.declared.Key.the-variants as key
 use Rattle.jobline.specs.declared.Line.{Line}
 use Rattle.jobline.specs.declared.Line.the-variants as line
 
@@ -18,33 +16,6 @@ is-some (some l) = true
 
 unfoldable pub begins : List ℕ → List ℕ → Bool
 begins ks s = is-some (rule.after-key ks s)
-
--- the bytes of a key
-abbrev pub size : Key → ℕ
-size key.Parallelism = 12
-size key.Places = 7
-size key.Set = 4
-size key.Inputs = 3
-size key.Outputs = 4
-size key.Flush = 7
-size key.Final = 7
-size key.Other = 0
-
--- the line that a key makes of what follows it
-abbrev pub keyed : Key → List ℕ → rule.Line
-keyed key.Parallelism r = rule.with-number rule.parallelism-line (rule.number r)
-keyed key.Places r = rule.with-number rule.places-line (rule.number r)
-keyed key.Set r = rule.with-number rule.set-line (rule.number r)
-keyed key.Inputs r = rule.with-list rule.in-line (rule.list r)
-keyed key.Outputs r = rule.with-list rule.out-line (rule.list r)
-keyed key.Flush r = rule.whole rule.flush-line r
-keyed key.Final r = rule.whole rule.final-line r
-keyed key.Other r = rule.malformed
-
--- the key of the line s is k
-pub record Keyed (s : List ℕ) (k : Key) : Type 0 where
-  pub says : keyed k (drop (size k) s) ≡ rule.line-of s
-  pub within : size k ≤ length s
 
 -- the line that an answer tells, the numbers of its list standing at the start of `read`
 abbrev pub line-as : Line → List ℕ → rule.Line
@@ -67,6 +38,11 @@ listed (line.Outputs n) = n
 listed line.Flush = 0
 listed line.Final = 0
 listed line.Malformed = 0
+
+-- the line s, which has no list, was read
+pub record PlainRead (s : List ℕ) (r : Line) : Type 0 where
+  pub reads : (read : List ℕ) → line-as r read ≡ rule.line-of s
+  pub bare : listed r ≡ 0
 
 -- the line s was read, its list into storage from `off` on: it is document 01's, it lies within, and what stands before and past it is as
 -- it was; of a malformed line some numbers may stand there, at most half as many as it has bytes

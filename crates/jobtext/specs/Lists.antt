@@ -2,18 +2,17 @@
 use mathlib.Core.List.{List, [], _∷_, _++_, append-assoc}
 use mathlib.Core.Option.{Option, none, some}
 use mathlib.Core.Path.{_≡_, refl, sym, ap, _∙_}
-use Prim.Native.Nat.{ℕ, zero, suc, _+_, _-_, _*_, _/_, _≤_, _<_, zero-le, suc-le-suc}
+use Prim.Native.Nat.{ℕ, suc, _+_, _-_, _*_, _/_, _≤_, _<_, zero-le}
 use native.Mathlib.Decide.{decLt}
 use native.Mathlib.Nat.{suc-ne-zero}
 use native.Mathlib.Numerals.{add-one}
 use native.Mathlib.Omega.{arith}
-use lib.ListN.{length, getD, take, drop, set, length-drop, length-take, length-set}
+use lib.ListN.{length, take, drop, set, length-drop, length-take, length-set}
 use lib.Seq.{take-all, drop-drop, take-suc-set, drop-set-add, drop-set-lt, take-set-le}
 use Rattle.rules.specs.Job.{fields-from, both, number, numbers, list}
 use Rattle.jobtext.specs.Text.{before, ListRead}
 use Rattle.jobtext.specs.Pieces.{before-le, fields-more, fields-last}
 use Rattle.jobtext.specs.Numbers.{number-some}
-use Rattle.jobtext.specs.declared.Items.{Items}
 use Rattle.jobtext.specs.declared.Items.the-variants as items
 
 -- lists that agree from n on agree from any later place on

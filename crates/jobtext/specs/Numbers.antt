@@ -1,16 +1,15 @@
 -- Laws of `digits-from` and `number` for the loop that reads digits: what is left is read with the value so far. Assumes nothing.
 use mathlib.Core.List.{List, [], _∷_}
-use mathlib.Core.Bool.{Bool, true, false, not, _&&_}
+use mathlib.Core.Bool.{true, false, _&&_}
 use mathlib.Core.Logic.{_⊎_, inl, inr}
-use mathlib.Core.Option.{Option, some, none}
+use mathlib.Core.Option.{some, none}
 use mathlib.Core.Path.{_≡_, refl, sym, ap, _∙_}
-use Prim.Native.Nat.{ℕ, zero, suc, _+_, _-_, _*_, _^_, _≤_, _<_, zero-le, suc-le-suc}
+use Prim.Native.Nat.{ℕ, _+_, _-_, _*_, _^_, _≤_, _<_, zero-le, suc-le-suc}
 use native.Mathlib.Numerals.{add-one}
 use native.Mathlib.Omega.{arith}
-use native.Mathlib.Nat.{suc-ne-zero}
 use lib.ListN.{length, getD, drop, drop-of-length-le}
 use lib.Seq.{drop-cons}
-use lib.Dec.{ltb, leb, eqb}
+use lib.Dec.{leb}
 use borrow.Author.Tests.{lt-ltb, le-ltb, le-leb, lt-leb, eq-eqb, ne-eqb}
 use Rattle.rules.specs.Job.{digits-from, leading-zero, in-64-bits, number}
 use Rattle.jobtext.specs.Pieces.{bool}
@@ -24,9 +23,6 @@ past n (b ∷ bs) h = go (bool (leb 48 b && leb b 57)) (past (n * 10 + (b - 48))
     go : (leb 48 b && leb b 57 ≡ true) ⊎ (leb 48 b && leb b 57 ≡ false) → in-64-bits (digits-from (n * 10 + (b - 48)) bs) ≡ none → in-64-bits (digits-from n (b ∷ bs)) ≡ none
     go (inl e) i = rw (digits-from, e) i
     go (inr e) i = rw (digits-from, e)
-
-both-true : (a b : Bool) → a ≡ true → b ≡ true → a && b ≡ true
-both-true a b e f = rw (e, f)
 
 module _ (s : List ℕ) (i x : ℕ) (inside : i < length s) (inv : in-64-bits (digits-from x (drop i s)) ≡ in-64-bits (digits-from 0 s)) where
   at-byte : in-64-bits (digits-from x (getD s i 0 ∷ drop (i + 1) s)) ≡ in-64-bits (digits-from 0 s)

@@ -1,6 +1,6 @@
 // The text of a job below its lines: the first byte of a kind, a number, a list of numbers.
 ghost use mathlib.Core.Path.{_≡_};
-ghost use Prim.Native.Nat.{ℕ, _+_, _*_, _≤_, _<_};
+ghost use Prim.Native.Nat.{_+_, _*_, _≤_, _<_};
 ghost use lib.ListN.{length, drop};
 ghost use Rattle.rules.specs.Job.{digits-from, in-64-bits, number as Job·number, list};
 ghost use Rattle.jobtext.specs.Text.{before, value-of, ListRead};
@@ -33,13 +33,13 @@ fn digits(s: &[u8]) -> Number
     let mut i = 0;
     while i < s.len() {
         let b = s[i];
-        if b < 48 {
+        if b < b'0' {
             return Number::Malformed;
         }
-        if b > 57 {
+        if b > b'9' {
             return Number::Malformed;
         }
-        let d = (b - 48) as u64;
+        let d = (b - b'0') as u64;
         if x > (18446744073709551615 - d) / 10 {
             return Number::Malformed;
         }
@@ -62,7 +62,7 @@ pub fn read_number(s: &[u8]) -> Number
     if s.len() == 1 {
         return digits(s);
     }
-    if s[0] == 48 {
+    if s[0] == b'0' {
         return Number::Malformed;
     }
     digits(s)
@@ -84,7 +84,7 @@ pub fn read_list(s: &[u8], into: &mut [u64], off: usize) -> Items
     let mut at = 0;
     let mut n = 0;
     while at <= s.len() {
-        let e = find(s, at, 44);
+        let e = find(s, at, b',');
         let x = read_number(&s[at..e]);
         let Number::Value(v) = x else {
             return Items::Malformed;

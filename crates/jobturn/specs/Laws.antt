@@ -1,35 +1,43 @@
--- Laws of a turn: a call refused, one that goes on, and final. Assumes nothing.
+-- Laws of a turn: a malformed call, one that is refused or goes on, and final. Assumes nothing.
 use mathlib.Core.Bool.{Bool, true, false}
 use mathlib.Core.List.{List, [], _∷_}
 use mathlib.Core.Logic.{_⊎_, inl, inr}
-use mathlib.Core.Option.{Option, some, none}
 use mathlib.Core.Path.{_≡_, refl, sym, ap, _∙_, subst}
-use Prim.Native.Nat.{ℕ, zero, suc, _+_, _-_, _*_, _/_, _≤_, _<_}
+use mathlib.Core.Option.{none}
+use Prim.Native.Nat.{ℕ, zero, suc, _+_, _-_, _/_, _≤_}
 use native.Mathlib.Decide.{decLt}
+use native.Mathlib.Nat.{suc-ne-zero}
 use native.Mathlib.Numerals.{add-one}
 use native.Mathlib.Omega.{arith}
 use lib.ListN.{length, take, drop, length-drop}
-use lib.Dec.{eqb}
 use borrow.Author.Tests.{eq-eqb, ne-eqb}
 use Rattle.rules.specs.Model.{Model}
 use Rattle.rules.specs.Calls as calls
-use Rattle.rules.specs.Calls.{Call, checks, answer, step}
+use Rattle.rules.specs.Calls.{checks, answer, step}
 use Rattle.rules.specs.Checks.{Check, Sizes, verdict, check-range, check-open, check-set, check-add, check-flush, check-final, check-closed, check-places}
-use Rattle.rules.specs.Job.{Outcome, finished, rejected, lines, lines-from, ragged, run-lines, on-line, closing}
-use Rattle.laws.specs.Sound.{Between}
+use Rattle.rules.specs.Job.{Outcome, finished, rejected, lines, lines-from, ragged, on-line, closing}
+use Rattle.rules.specs.Record.{summary}
+use Rattle.rules.specs.Refusals as refusal
+use Rattle.rules.specs.Summary as rule
 use Rattle.jobtext.specs.Text.{before}
-use Rattle.jobtext.specs.Pieces.{bool, lines-more, lines-last, ragged-last, before-le}
+use Rattle.jobtext.specs.Pieces.{bool, lines-more, lines-last, ragged-last}
 use Rattle.session.specs.declared.Session.{Session}
-use Rattle.session.specs.Storage.{Storage, Beyond, Frame, beyond-drop, frame-refl}
-use Rattle.session.specs.Rep.{Rep}
+use Rattle.session.specs.Storage.{Storage, Beyond, beyond-drop, frame-refl}
+use Rattle.session.specs.Showing.{shows}
 use Rattle.admitting.specs.Promise.{Asks, Called, step-refused}
 use Rattle.sorter.specs.Chain.{follows-step}
-use Rattle.jobcalls.specs.declared.Act.{Act}
-use Rattle.jobcalls.specs.declared.Act.the-variants as act
-use Rattle.jobcalls.specs.Told.{call-of, taken-by, Run, reads, makes, goes, NextCall}
+use Rattle.sorter.specs.FinalWork.{Concludes}
+use Rattle.jobcalls.specs.declared.Call.{Call}
+use Rattle.jobcalls.specs.declared.Call.the-variants as call
+use Rattle.jobcalls.specs.declared.Next.{Next}
+use Rattle.jobcalls.specs.declared.Next.the-variants as next
+use Rattle.jobcalls.specs.Told.{call-of, taken-by, FirstCall, found, first-as, NextCall}
+use Rattle.jobcalls.specs.Laws.{line-of, line-near}
+use Rattle.jobcalls.specs.Runs.{reads, makes, goes, call-runs}
+use Rattle.jobturn.specs.declared.End.the-variants as end
 use Rattle.jobturn.specs.declared.Step.{Step}
 use Rattle.jobturn.specs.declared.Step.the-variants as step′
-use Rattle.jobturn.specs.Turned.{kind-of, Makes, remains, Held, Accepts, Refuses, Surplus, Tells, Further, MayTurn, Turned}
+use Rattle.jobturn.specs.Turned.{Number, AfterCall, AfterFinal, remains, StandsFor, Accepts, Figures, Turned}
 
 -- the end of a job: nothing may follow final
 ends : (P n : ℕ) (k : Model) (l : List ℕ) → length l ≡ 0 → closing P n (lines l) (ragged l) k ≡ finished P k
@@ -37,7 +45,7 @@ unfolding closing lines lines-from ragged
 ends P n k [] e = refl
 ends P n k (b ∷ l) e = absurd (omega arith)
 
-surplus : (P n : ℕ) (k : Model) (l : List ℕ) → (length l ≡ 0 → ⊥) → closing P n (lines l) (ragged l) k ≡ rejected n 15
+surplus : (P n : ℕ) (k : Model) (l : List ℕ) → (length l ≡ 0 → ⊥) → closing P n (lines l) (ragged l) k ≡ rejected n refusal.malformed
 unfolding closing lines
 surplus P n k [] h = absurd (h refl)
 surplus P n k (b ∷ l) h =
@@ -48,51 +56,47 @@ surplus P n k (b ∷ l) h =
 
 -- the run from a call on, by its number
 module _ (P N W m : ℕ) (rest : List (List ℕ)) (rag : Bool) (k : Model) where
-  makes-refused : (c : Call) → (answer N W c k ≡ 0 → ⊥) → makes P N W m c rest rag k ≡ (rejected m (answer N W c k), k)
+  makes-refused : (c : calls.Call) → (answer N W c k ≡ 0 → ⊥) → makes P N W m c rest rag k ≡ (rejected m (answer N W c k), k)
   unfolding on-line
   makes-refused c h = rw (on-line, ne-eqb (answer N W c k) 0 h)
 
-  makes-on : (c : Call) → answer N W c k ≡ 0 → makes P N W m c rest rag k ≡ reads P N W (suc m) none rest rag (step P N W c k)
+  makes-on : (c : calls.Call) → answer N W c k ≡ 0 → makes P N W m c rest rag k ≡ reads P N W (suc m) none rest rag (step P N W c k)
   unfolding on-line
   makes-on c h = rw (on-line, eq-eqb (answer N W c k) 0 h)
 
-  goes-refused : (c : Call) → (answer N W c k ≡ 0 → ⊥) → goes P N W m (some c) rest rag k ≡ (rejected m (answer N W c k), k)
+  goes-refused : (c : calls.Call) → (answer N W c k ≡ 0 → ⊥) → goes P N W (found c m rest) rag k ≡ (rejected m (answer N W c k), k)
   unfolding goes on-line
   goes-refused (calls.set x) h = makes-refused (calls.set x) h
   goes-refused (calls.add i o) h = makes-refused (calls.add i o) h
   goes-refused calls.flush h = makes-refused calls.flush h
   goes-refused calls.final h = rw (on-line, ne-eqb (answer N W calls.final k) 0 h, step-refused P N W calls.final k h)
 
-  goes-on : (a : Act) (read : List ℕ) → kind-of a ≡ 1 → (c : Call) → call-of a read ≡ some c → answer N W c k ≡ 0
-      → goes P N W m (call-of a read) rest rag k ≡ reads P N W (suc m) none rest rag (step P N W c k)
+  goes-on : (c : Call) (read : List ℕ) → answer N W (call-of c read) k ≡ 0
+      → goes P N W (found (call-of c read) m rest) rag k ≡ reads P N W (suc m) none rest rag (step P N W (call-of c read) k)
   unfolding goes
-  goes-on (act.Set x) read e c q h = let r : calls.set x ≡ c = cc in ap (λ (y : Call). makes P N W m y rest rag k) r ∙ makes-on c h
-  goes-on (act.Add i o) read e c q h =
-      let r : calls.add (take i read) (take o (drop i read)) ≡ c = cc in
-      ap (λ (y : Call). makes P N W m y rest rag k) r ∙ makes-on c h
-  goes-on act.Flush read e c q h = let r : calls.flush ≡ c = cc in ap (λ (y : Call). makes P N W m y rest rag k) r ∙ makes-on c h
-  goes-on act.Final read e c q h = absurd (omega arith)
-  goes-on act.Malformed read e c q h = absurd (omega arith)
+  goes-on (call.Set x) read h = makes-on (calls.set x) h
+  goes-on (call.Add i o) read h = makes-on (calls.add (take i read) (take o (drop i read))) h
+  goes-on call.Flush read h = makes-on calls.flush h
 
   goes-final : answer N W calls.final k ≡ 0
-      → goes P N W m (some calls.final) rest rag k ≡ (closing P (suc m) rest rag (step P N W calls.final k), step P N W calls.final k)
+      → goes P N W (found calls.final m rest) rag k ≡ (closing P (suc m) rest rag (step P N W calls.final k), step P N W calls.final k)
   unfolding goes on-line
   goes-final h = rw (on-line, eq-eqb (answer N W calls.final k) 0 h)
 
 -- a call's number is small, since every check's is
-verdict-low : (c : Check) (cs : List Check) → c .number ≤ 16 → verdict cs ≤ 16 → verdict (c ∷ cs) ≤ 16
+verdict-low : (c : Check) (cs : List Check) → Number (c .number) → Number (verdict cs) → Number (verdict (c ∷ cs))
 unfolding verdict
 verdict-low c cs h i = go (bool (c .fails))
   where
-    go : (c .fails ≡ true) ⊎ (c .fails ≡ false) → verdict (c ∷ cs) ≤ 16
+    go : (c .fails ≡ true) ⊎ (c .fails ≡ false) → Number (verdict (c ∷ cs))
     go (inl e) = rw (verdict, e) h
     go (inr e) = rw (verdict, e) i
 
-none-low : verdict [] ≤ 16
+none-low : Number (verdict [])
 unfolding verdict
 none-low = omega arith
 
-answer-low : (N W : ℕ) (c : Call) (k : Model) → answer N W c k ≤ 16
+answer-low : (N W : ℕ) (c : calls.Call) (k : Model) → Number (answer N W c k)
 unfolding answer checks check-set check-add check-flush check-final check-closed check-places
 answer-low N W (calls.set x) k =
     verdict-low _ _ (omega arith) (verdict-low _ _ (omega arith) (verdict-low _ _ (omega arith) (verdict-low _ _ (omega arith) none-low)))
@@ -105,176 +109,187 @@ answer-low N W (calls.add i o) k =
 answer-low N W calls.flush k = verdict-low _ _ (omega arith) (verdict-low _ _ (omega arith) none-low)
 answer-low N W calls.final k = verdict-low _ _ (omega arith) (verdict-low _ _ (omega arith) none-low)
 
-pub open-low : (P N : ℕ) (s : Sizes) → verdict (check-open P N s) ≤ 16
+pub open-low : (P N : ℕ) (s : Sizes) → Number (verdict (check-open P N s))
 unfolding check-open check-range
 open-low P N s = verdict-low _ _ (omega arith) (verdict-low _ _ (omega arith) (verdict-low _ _ (omega arith) none-low))
 
--- acts by their kind
-is-malformed : (a : Act) → kind-of a ≡ 0 → a ≡ act.Malformed
-is-malformed act.Malformed e = refl
-is-malformed (act.Set x) e = absurd (omega arith)
-is-malformed (act.Add i o) e = absurd (omega arith)
-is-malformed act.Flush e = absurd (omega arith)
-is-malformed act.Final e = absurd (omega arith)
+-- a call whose number is 0, or one that is refused
+by-number : (n : ℕ) → (n ≡ 0) ⊎ (n ≡ 0 → ⊥)
+by-number zero = inl refl
+by-number (suc n) = inr (λ e. suc-ne-zero n e)
 
-is-final : (a : Act) → (kind-of a ≡ 0 → ⊥) → (kind-of a ≡ 1 → ⊥) → a ≡ act.Final
-is-final act.Final z o = refl
-is-final (act.Set x) z o = absurd (o refl)
-is-final (act.Add i o′) z o = absurd (o refl)
-is-final act.Flush z o = absurd (o refl)
-is-final act.Malformed z o = absurd (z refl)
+-- a call by what is told of it
+pub read-as : {job entry read : List ℕ} {at n : ℕ} {r x : Next} → NextCall job at n entry read r → r ≡ x → NextCall job at n entry read x
+read-as {job} {entry} {read} {at} {n} c e = subst (λ (y : Next). NextCall job at n entry read y) e c
 
-call-some : (a : Act) (read : List ℕ) → (kind-of a ≡ 0 → ⊥) → (c : Call) × (call-of a read ≡ some c)
-call-some (act.Set x) read z = (calls.set x, refl)
-call-some (act.Add i o) read z = (calls.add (take i read) (take o (drop i read)), refl)
-call-some act.Flush read z = (calls.flush, refl)
-call-some act.Final read z = (calls.final, refl)
-call-some act.Malformed read z = absurd (z refl)
-
-module _ {job entry read : List ℕ} {at n m next : ℕ} {a : Act} (s : Session) (σ : Storage) (c : NextCall job at n entry read a m next)
-    (same : length read ≡ length entry) where
-  begins : (P N W : ℕ) (k : Model) → remains P N W job at n k ≡ goes P N W m (call-of a read) (lines (drop next job)) (ragged (drop next job)) k
+module _ {job entry read : List ℕ} {at n : ℕ} {r : Next} (c : NextCall job at n entry read r) where
+  begins : (P N W : ℕ) (k : Model) → remains P N W job at n k ≡ goes P N W (first-as job read r) (ragged (drop at job)) k
   unfolding remains
-  begins P N W k = c .runs P N W (ragged (drop at job)) k ∙ ap (λ (b : Bool). goes P N W m (call-of a read) (lines (drop next job)) b k) (sym (c .end))
+  begins P N W k = call-runs c P N W (ragged (drop at job)) k
 
-  numbers : Beyond (length job / 2) entry read
-  numbers = beyond-drop (length job / 2) (length job / 2) entry read (omega arith) same (c .into-beyond)
+  numbers : length read ≡ length entry → Beyond (length job / 2) entry read
+  numbers same = beyond-drop (length job / 2) (length job / 2) entry read (omega arith) same (c .into-beyond)
 
-  pub turn-malformed : kind-of a ≡ 0 → Turned job at n s (step′.Rejected m 15) s σ σ entry read
+  -- its line is the first, or the one after it
+  pub near : (n ≤ line-of (first-as job read r)) × (line-of (first-as job read r) ≤ n + 1)
+  near = subst (λ (f : FirstCall). (n ≤ line-of f) × (line-of f ≤ n + 1)) (c .is) (line-near n (lines (drop at job)))
+
+-- a call that was made leads from the model before it to the one after it
+stepped : {d : calls.Call} {num : ℕ} {s s′ : Session} {σ σ′ : Storage} → Called d num s s′ σ σ′ → (P N W : ℕ) (k : Model) → 1 ≤ P → StandsFor P N W s σ k
+    → (num ≡ answer N W d k) × StandsFor P N W s′ σ′ (step P N W d k)
+stepped {d} {num} {s} {s′} {σ} {σ′} made P N W k hP h =
+    let f = follows-step P N W hP d k num s s′ σ σ′ (h .pool) (h .rep) (h .between) made in
+    (f .0, record { rep = f .1; between = f .2; pool = f .3 })
+
+module _ {job entry read : List ℕ} {at n : ℕ} (s : Session) (σ : Storage) (same : length read ≡ length entry) where
+  pub turn-malformed : (m : ℕ) → NextCall job at n entry read (next.Malformed m) → Turned job at n s (step′.Ended (end.Rejected m refusal.malformed)) s σ σ entry read
   unfolding goes
-  turn-malformed e =
+  turn-malformed m c =
       record {
-        tells = λ P N W k hP h.
-            inl (record {
-              session = refl;
-              storage = refl;
-              is = begins P N W k ∙ ap (λ (x : Act). goes P N W m (call-of x read) (lines (drop next job)) (ragged (drop next job)) k) (is-malformed a e);
-            });
-        further = (omega (arith, c .low), omega arith);
+        tells = λ P N W k hP h. inl (record { session = refl; storage = refl; is = begins c P N W k });
+        further = (omega (arith, near c), omega arith);
         frame = frame-refl _ _ _ σ;
-        into = numbers;
+        into = numbers c same;
       }
 
-  module _ (z : kind-of a ≡ 0 → ⊥) {num : ℕ} {s′ : Session} {σ′ : Storage} (made : Makes a read num s s′ σ σ′) where
-    abbrev made-call : Call
-    made-call = call-some a read z .0
-
-    was-made : Called made-call num s s′ σ σ′
-    was-made = made made-call (call-some a read z .1)
-
-    stepped : (P N W : ℕ) (k : Model) → 1 ≤ P → Held P N W s σ k → (num ≡ answer N W made-call k) × Held P N W s′ σ′ (step P N W made-call k)
-    stepped P N W k hP h =
-        let f = follows-step P N W hP made-call k num s s′ σ σ′ (h .pool) (h .rep) (h .between) was-made in
-        (f .0, record { rep = f .1; between = f .2; pool = f .3 })
-
-    pub turn-refused : Asks s σ → (num ≡ 0 → ⊥) → Turned job at n s (step′.Rejected m num) s σ σ′ entry read
-    turn-refused q r =
-        let d = was-made .keeps (q .parallelism) (q .places) (q .model) (q .rep) (q .between) in
-        let u : σ′ ≡ σ = was-made .refused r .1 in
+  -- a call that was made, or final
+  module _ (d : calls.Call) {num : ℕ} {s′ : Session} {σ′ : Storage} (made : Called d num s s′ σ σ′) where
+    -- refused on line m
+    stopped : (m : ℕ) {r : Next} (c : NextCall job at n entry read r) (after : ℕ) → first-as job read r ≡ found d m (lines (drop after job)) → Asks s σ → (num ≡ 0 → ⊥)
+        → Turned job at n s (step′.Ended (end.Rejected m num)) s′ σ σ′ entry read
+    stopped m {r} c after e q z =
+        let x = made .keeps (q .parallelism) (q .places) (q .model) (q .rep) (q .between) in
+        let at-m : line-of (first-as job read r) ≡ m = ap line-of e in
         record {
           tells = λ P N W k hP h.
-              let f = stepped P N W k hP h in
+              let f = stepped made P N W k hP h in
               inl (record {
-                session = refl;
-                storage = u;
-                is = begins P N W k ∙ ap (λ (o : Option Call). goes P N W m o (lines (drop next job)) (ragged (drop next job)) k) (call-some a read z .1)
-                    ∙ goes-refused P N W m (lines (drop next job)) (ragged (drop next job)) k made-call (λ e. r (f .0 ∙ e))
+                session = made .refused z .0;
+                storage = made .refused z .1;
+                is = begins c P N W k ∙ ap (λ (y : FirstCall). goes P N W y (ragged (drop at job)) k) e
+                    ∙ goes-refused P N W m (lines (drop after job)) (ragged (drop at job)) k d (λ y. z (f .0 ∙ y))
                     ∙ ap (λ (i : ℕ). (rejected m i, k)) (sym (f .0));
               });
-          further = (omega (arith, c .low), rw (d .0) (answer-low (q .places) (length (σ .pool)) made-call (q .model)));
-          frame = subst (λ (x : Storage). Frame (s .guide .p) (s .guide .v) (s .guide .written) (s .guide .written) σ x) (sym u) (frame-refl _ _ _ σ);
-          into = numbers;
+          further = (omega (arith, near c, at-m), rw (x .0) (answer-low (q .places) (length (σ .pool)) d (q .model)));
+          frame = made .frame;
+          into = numbers c same;
         }
 
-    module _ (ok : num ≡ 0) where
-      pub turn-on : kind-of a ≡ 1 → Turned job at n s (step′.On next (m + 1)) s′ σ σ′ entry read
-      unfolding remains
-      turn-on e =
+  pub turn-call : (x : Call) (m after : ℕ) → NextCall job at n entry read (next.Call x m after)
+      → {num : ℕ} {s′ : Session} {σ′ : Storage} → Called (call-of x read) num s s′ σ σ′ → Asks s σ
+      → {r : Step} → AfterCall num m after r → Turned job at n s r s′ σ σ′ entry read
+  unfolding remains
+  turn-call x m after c {num} {s′} {σ′} made q {r} told = go (by-number num)
+    where
+      accepted : num ≡ 0 → Turned job at n s (step′.On after (m + 1)) s′ σ σ′ entry read
+      accepted z =
           record {
             tells = λ P N W k hP h.
-                let f = stepped P N W k hP h in (
-                  made-call,
+                let f = stepped made P N W k hP h in
+                let ok : answer N W (call-of x read) k ≡ 0 = sym (f .0) ∙ z in (
+                  call-of x read,
                   (
-                    record { accepted = sym (f .0) ∙ ok; held = f .1 },
-                    begins P N W k ∙ goes-on P N W m (lines (drop next job)) (ragged (drop next job)) k a read e made-call (call-some a read z .1) (sym (f .0) ∙ ok)
-                        ∙ ap (λ (i : ℕ). reads P N W i none (lines (drop next job)) (ragged (drop next job)) (step P N W made-call k)) (sym (add-one m)),
+                    record { accepted = ok; stands = f .1 },
+                    begins c P N W k ∙ goes-on P N W m (lines (drop after job)) (ragged (drop at job)) k x read ok
+                        ∙ ap (λ (i : ℕ). reads P N W i none (lines (drop after job)) (ragged (drop at job)) (step P N W (call-of x read) k)) (sym (add-one m))
+                        ∙ ap (λ (b : Bool). reads P N W (m + 1) none (lines (drop after job)) b (step P N W (call-of x read) k)) (sym (c .next .end)),
                   ),
                 );
-            further = go (c .past);
-            frame = was-made .frame;
-            into = numbers;
+            further = (omega (arith, near c, c .next .past), (c .next .within, omega (arith, c .next .past)));
+            frame = made .frame;
+            into = numbers c same;
           }
-        where
-          go : (a ≡ act.Malformed) ⊎ (at + m + 1 ≤ next + n) → (at < next) × ((next ≤ length job) × (at + (m + 1) ≤ next + n))
-          go (inl q) = absurd (z (ap kind-of q))
-          go (inr h) = (omega (arith, c .high), (c .within, omega arith))
 
-      module _ (o : kind-of a ≡ 1 → ⊥) where
-        closed : (P N W : ℕ) (k : Model) → 1 ≤ P → Held P N W s σ k
-            → Accepts P N W calls.final k s′ σ′
-            × (remains P N W job at n k
-            ≡ (closing P (suc m) (lines (drop next job)) (ragged (drop next job)) (step P N W calls.final k), step P N W calls.final k))
-        closed P N W k hP h =
-            let e = is-final a z o in
-            let x : call-of a read ≡ some calls.final = ap (λ (y : Act). call-of y read) e in
-            let f = follows-step P N W hP calls.final k num s s′ σ σ′ (h .pool) (h .rep) (h .between) (made calls.final x) in (
-              record { accepted = sym (f .0) ∙ ok; held = record { rep = f .1; between = f .2; pool = f .3 } },
-              begins P N W k ∙ ap (λ (y : Option Call). goes P N W m y (lines (drop next job)) (ragged (drop next job)) k) x
-                  ∙ goes-final P N W m (lines (drop next job)) (ragged (drop next job)) k (sym (f .0) ∙ ok),
-            )
+      go : (num ≡ 0) ⊎ (num ≡ 0 → ⊥) → Turned job at n s r s′ σ σ′ entry read
+      go (inl z) = rw (told .accepted z) (accepted z)
+      go (inr z) = rw (told .refused z) (stopped (call-of x read) made m c after refl q z)
 
-        pub turn-finished : next ≡ length job → Turned job at n s step′.Finished s′ σ σ′ entry read
-        turn-finished e =
-            record {
-              tells = λ P N W k hP h.
-                  let f = closed P N W k hP h in
-                  let k′ = step P N W calls.final k in
-                  (f .0, f .1 ∙ ap (λ (y : Outcome). (y, k′)) (ends P (suc m) k′ (drop next job) (rw (length-drop next job) (omega arith))));
-              further = tt;
-              frame = was-made .frame;
-              into = numbers;
-            }
+  module _ (m after : ℕ) (c : NextCall job at n entry read (next.Final m after)) {num : ℕ} {s′ : Session} {σ′ : Storage} {f : rule.Figures}
+      (done : Concludes num s s′ σ σ′ f) (q : Asks s σ) where
+    module _ (z : num ≡ 0) (P N W : ℕ) (k : Model) (hP : 1 ≤ P) (h : StandsFor P N W s σ k) where
+      abbrev closed : Model
+      closed = step P N W calls.final k
 
-        pub turn-surplus : (next ≡ length job → ⊥) → Turned job at n s (step′.Rejected (m + 1) 15) s′ σ σ′ entry read
-        turn-surplus e =
-            record {
-              tells = λ P N W k hP h.
-                  let f = closed P N W k hP h in
-                  let k′ = step P N W calls.final k in
-                  let more = surplus P (suc m) k′ (drop next job) (λ q. e (omega (arith, c .within, simp length-drop at q))) in
-                  inr (record {
-                    final = f .0;
-                    number = refl;
-                    is = f .1 ∙ ap (λ (y : Outcome). (y, k′)) (more ∙ ap (λ (i : ℕ). rejected i 15) (sym (add-one m)));
-                  });
-              further = (omega (arith, c .low), omega arith);
-              frame = was-made .frame;
-              into = numbers;
-            }
+      accepted : Accepts P N W calls.final k s′ σ′
+      accepted = let x = stepped (done .called) P N W k hP h in record { accepted = sym (x .0) ∙ z; stands = x .1 }
 
--- a call that was made is the act's
-module _ (a : Act) (numbers : List ℕ) (n : ℕ) (s s′ : Session) (σ σ′ : Storage) where
-  pub made-as : (d : Call) → call-of a numbers ≡ some d → Called d n s s′ σ σ′ → Makes a numbers n s s′ σ σ′
-  made-as d e h c q = let r : d ≡ c = cc in subst (λ (x : Call). Called x n s s′ σ σ′) r h
+      -- what remains after it
+      left : remains P N W job at n k ≡ (closing P (m + 1) (lines (drop after job)) (ragged (drop after job)) closed, closed)
+      left =
+          begins c P N W k ∙ goes-final P N W m (lines (drop after job)) (ragged (drop at job)) k (accepted .accepted)
+          ∙ ap (λ (i : ℕ). (closing P i (lines (drop after job)) (ragged (drop at job)) closed, closed)) (sym (add-one m))
+          ∙ ap (λ (b : Bool). (closing P (m + 1) (lines (drop after job)) b closed, closed)) (sym (c .next .end))
 
-  pub made-add : (i o : ℕ) → a ≡ act.Add i o → Called (calls.add (take i numbers) (take (i + o - i) (drop i numbers))) n s s′ σ σ′ → Makes a numbers n s s′ σ σ′
-  made-add i o e h =
-      let q : i + o - i ≡ o = omega arith in
-      made-as (calls.add (take i numbers) (take (i + o - i) (drop i numbers)))
-      (ap (λ (x : Act). call-of x numbers) e ∙ ap (λ (j : ℕ). some (calls.add (take i numbers) (take j (drop i numbers)))) (sym q)) h
+      figures : Figures P closed (s′ .guide .written) (s′ .places) (f .median)
+      unfolding summary rule.figures
+      figures =
+          let x = shows P N closed s′ σ′ (accepted .stands .rep) in
+          let e = done .summary z P N k (h .rep) (rw (h .pool) (h .between)) in
+          record { written-is = x .written; places-is = x .places; median-is = ap (λ (y : rule.Figures). y .median) (rw (h .pool) at e) }
 
-  pub made-none : a ≡ act.Malformed → Makes a numbers n s s′ σ σ′
-  made-none e c q =
-      let x : none ≡ some c = sym (ap (λ (y : Act). call-of y numbers) e) ∙ q in
-      let z : _≡_ {A = ℕ} 0 1 = cc in
-      absurd (omega arith)
+    finished-turn : num ≡ 0 → after ≡ length job → Turned job at n s (step′.Ended (end.Finished (s′ .guide .written) (s′ .places) (f .median))) s′ σ σ′ entry read
+    finished-turn z e =
+        record {
+          tells = λ P N W k hP h.
+              record {
+                final = accepted z P N W k hP h;
+                figures = figures z P N W k hP h;
+                is = left z P N W k hP h
+                    ∙ ap (λ (y : Outcome). (y, closed z P N W k hP h)) (ends P (m + 1) (closed z P N W k hP h) (drop after job) (rw (length-drop after job) (omega arith)));
+              };
+          further = tt;
+          frame = done .called .frame;
+          into = numbers c same;
+        }
+
+    surplus-turn : num ≡ 0 → (after ≡ length job → ⊥) → Turned job at n s (step′.Ended (end.Rejected (m + 1) refusal.malformed)) s′ σ σ′ entry read
+    surplus-turn z e =
+        record {
+          tells = λ P N W k hP h.
+              inr (record {
+                final = accepted z P N W k hP h;
+                number = refl;
+                is = left z P N W k hP h
+                    ∙ ap (λ (y : Outcome). (y, closed z P N W k hP h))
+                    (surplus P (m + 1) (closed z P N W k hP h) (drop after job) (λ y. e (omega (arith, c .next .within, simp length-drop at y))));
+              });
+          further = (omega (arith, near c), omega arith);
+          frame = done .called .frame;
+          into = numbers c same;
+        }
+
+    pub turn-final : {r : Step} → AfterFinal num m after (length job) (s′ .guide .written) (s′ .places) (f .median) r → Turned job at n s r s′ σ σ′ entry read
+    turn-final {r} told = go (by-number num)
+      where
+        ended : num ≡ 0 → (after ≡ length job) ⊎ (after ≡ length job → ⊥) → Turned job at n s r s′ σ σ′ entry read
+        ended z (inl e) = rw (told .last z e) (finished-turn z e)
+        ended z (inr e) = rw (told .surplus z e) (surplus-turn z e)
+
+        same? : (after ≡ length job) ⊎ (after ≡ length job → ⊥)
+        same? = elim (decLt after (length job)) [ yes lt ↦ inr (λ e. omega arith) | no ge ↦ inl (omega (arith, c .next .within)) ]
+
+        go : (num ≡ 0) ⊎ (num ≡ 0 → ⊥) → Turned job at n s r s′ σ σ′ entry read
+        go (inl z) = ended z same?
+        go (inr z) = rw (told .refused z) (stopped calls.final (done .called) m c after refl q z)
+
+-- a call by what is told of it
+pub called-as : (numbers : List ℕ) {x y : Call} {n : ℕ} {s s′ : Session} {σ σ′ : Storage} → x ≡ y → Called (call-of y numbers) n s s′ σ σ′
+    → Called (call-of x numbers) n s s′ σ σ′
+called-as numbers {n = n} {s} {s′} {σ} {σ′} e h = subst (λ (c : Call). Called (call-of c numbers) n s s′ σ σ′) (sym e) h
 
 -- the lists of an add lie within the numbers
-pub lists-in : (a : Act) (numbers : List ℕ) (i o : ℕ) → a ≡ act.Add i o → taken-by a ≤ length numbers → i + o ≤ length numbers
-lists-in a numbers i o e h = omega (arith, ap taken-by e)
+pub lists-in : {x : Call} {i o n : ℕ} → x ≡ call.Add i o → taken-by x ≤ n → i + o ≤ n
+lists-in e h = omega (arith, ap taken-by e)
+
+-- the lists of an add are its call's
+pub made-add : (i o : ℕ) (numbers : List ℕ) {n : ℕ} {s s′ : Session} {σ σ′ : Storage}
+    → Called (calls.add (take i numbers) (take (i + o - i) (drop i numbers))) n s s′ σ σ′ → Called (call-of (call.Add i o) numbers) n s s′ σ σ′
+made-add i o numbers {n} {s} {s′} {σ} {σ′} h =
+    let q : i + o - i ≡ o = omega arith in
+    subst (λ (j : ℕ). Called (calls.add (take i numbers) (take j (drop i numbers))) n s s′ σ σ′) q h
 
 -- a wrong program shut out: a call refused by its own number, not for text after final, that changes session or storage
-pub refused-changes-none : {P N W m code at n : ℕ} {k : Model} {job a b : List ℕ} {s s′ : Session} {σ σ′ : Storage} → (code ≡ 15 → ⊥) → 1 ≤ P → Held P N W s σ k
-    → Turned job at n s (step′.Rejected m code) s′ σ σ′ a b → (s′ ≡ s) × (σ′ ≡ σ)
+pub refused-changes-none : {P N W m code at n : ℕ} {k : Model} {job a b : List ℕ} {s s′ : Session} {σ σ′ : Storage} → (code ≡ refusal.malformed → ⊥) → 1 ≤ P
+    → StandsFor P N W s σ k → Turned job at n s (step′.Ended (end.Rejected m code)) s′ σ σ′ a b → (s′ ≡ s) × (σ′ ≡ σ)
 refused-changes-none {P} {N} {W} {k = k} other hP h t =
     elim (t .tells P N W k hP h) [ inl r ↦ (r .session, r .storage) | inr x ↦ absurd (other (x .number)) ]

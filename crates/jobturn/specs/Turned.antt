@@ -1,49 +1,49 @@
 -- What a turn of a job promises: where session and storage stand for a model, what remains of the job for that model is what the answer
 -- tells. An accepted call leaves them standing for the model after it, a refused one leaves them as they were. Assumes nothing.
-use mathlib.Core.Bool.{Bool, true, false}
-use mathlib.Core.List.{List, [], _∷_}
+use mathlib.Core.List.{List}
 use mathlib.Core.Logic.{_⊎_}
-use mathlib.Core.Option.{Option, some, none}
+use mathlib.Core.Option.{none}
 use mathlib.Core.Path.{_≡_}
-use Prim.Native.Nat.{ℕ, suc, _+_, _*_, _/_, _≤_, _<_}
+use Prim.Native.Nat.{ℕ, _+_, _*_, _/_, _≤_, _<_}
 use lib.ListN.{length, drop}
+use Rattle.rules.specs.Guide.{tally}
 use Rattle.rules.specs.Model.{Model}
 use Rattle.rules.specs.Calls as calls
 use Rattle.rules.specs.Calls.{Call, answer, step}
 use Rattle.rules.specs.Job.{finished, rejected, lines, ragged}
+use Rattle.rules.specs.Refusals as refusal
+use Rattle.rules.specs.Summary.{median}
 use Rattle.laws.specs.Sound.{Between}
 use Rattle.session.specs.declared.Session.{Session}
 use Rattle.session.specs.Storage.{Storage, Beyond, Frame}
 use Rattle.session.specs.Rep.{Rep}
-use Rattle.admitting.specs.Promise.{Asks, Called}
-use Rattle.jobcalls.specs.declared.Act.{Act}
-use Rattle.jobcalls.specs.declared.Act.the-variants as act
-use Rattle.jobcalls.specs.Told.{call-of, taken-by, Run, reads}
+use Rattle.admitting.specs.Promise.{Asks}
+use Rattle.jobcalls.specs.Runs.{Run, reads}
+use Rattle.jobturn.specs.declared.End.the-variants as end
 use Rattle.jobturn.specs.declared.Step.{Step}
 use Rattle.jobturn.specs.declared.Step.the-variants as step′
 
-abbrev pub kind-of : Act → ℕ
-kind-of (act.Set x) = 1
-kind-of (act.Add i o) = 1
-kind-of act.Flush = 1
-kind-of act.Final = 2
-kind-of act.Malformed = 0
+-- a refusal's number is below 64, since the host's call tells it beside 64 times its line
+abbrev pub Number : ℕ → Type 0
+Number code = code < 64
 
--- a call may be made: the session is as the calls before left it, and the numbers of the call's lists are there
-pub record MayMake (s : Session) (σ : Storage) (a : Act) (numbers : List ℕ) : Type 0 where
-  pub asks : Asks s σ
-  pub there : taken-by a ≤ length numbers
+-- what follows a call with this number on line m, the next starting at `next`
+pub record AfterCall (number m next : ℕ) (r : Step) : Type 0 where
+  pub accepted : number ≡ 0 → r ≡ step′.On next (m + 1)
+  pub refused : (number ≡ 0 → ⊥) → r ≡ step′.Ended (end.Rejected m number)
 
--- the call that the act tells was made
-abbrev pub Makes : Act → List ℕ → ℕ → Session → Session → Storage → Storage → Type 0
-Makes a numbers n s s′ σ σ′ = (c : Call) → call-of a numbers ≡ some c → Called c n s s′ σ σ′
+-- what follows final with this number on line m, whose line ends before `next`, in a job of `long` bytes
+pub record AfterFinal (number m next long written places med : ℕ) (r : Step) : Type 0 where
+  pub refused : (number ≡ 0 → ⊥) → r ≡ step′.Ended (end.Rejected m number)
+  pub surplus : number ≡ 0 → (next ≡ long → ⊥) → r ≡ step′.Ended (end.Rejected (m + 1) refusal.malformed)
+  pub last : number ≡ 0 → next ≡ long → r ≡ step′.Ended (end.Finished written places med)
 
 -- what the rules make of the job from `at` on, which is line n, for the model k: how it ends, and the model that it reaches
 unfoldable pub remains : ℕ → ℕ → ℕ → List ℕ → ℕ → ℕ → Model → Run
 remains P N W job at n k = reads P N W n none (lines (drop at job)) (ragged (drop at job)) k
 
 -- a session and storage stand for a model k, reached by calls
-pub record Held (P N W : ℕ) (s : Session) (σ : Storage) (k : Model) : Type 0 where
+pub record StandsFor (P N W : ℕ) (s : Session) (σ : Storage) (k : Model) : Type 0 where
   pub rep : Rep P N k s σ
   pub between : Between P N W k
   pub pool : length (σ .pool) ≡ W
@@ -51,7 +51,7 @@ pub record Held (P N W : ℕ) (s : Session) (σ : Storage) (k : Model) : Type 0 
 -- the call c was accepted: session and storage stand for the model after it
 pub record Accepts (P N W : ℕ) (c : Call) (k : Model) (s : Session) (σ : Storage) : Type 0 where
   pub accepted : answer N W c k ≡ 0
-  pub held : Held P N W s σ (step P N W c k)
+  pub stands : StandsFor P N W s σ (step P N W c k)
 
 -- a call that is malformed or was refused: session and storage are as they were
 pub record Refuses (k : Model) (s s′ : Session) (σ σ′ : Storage) (m code : ℕ) (o : Run) : Type 0 where
@@ -62,21 +62,32 @@ pub record Refuses (k : Model) (s s′ : Session) (σ σ′ : Storage) (m code :
 -- text after final, which was accepted
 pub record Surplus (P N W : ℕ) (k : Model) (s′ : Session) (σ′ : Storage) (m code : ℕ) (o : Run) : Type 0 where
   pub final : Accepts P N W calls.final k s′ σ′
-  pub number : code ≡ 15
+  pub number : code ≡ refusal.malformed
   pub is : o ≡ (rejected m code, step P N W calls.final k)
+
+-- the numbers that the end of a job tells are its model's: the order's length, the places that final fixed and the median of its summary
+pub record Figures (P : ℕ) (k : Model) (written places med : ℕ) : Type 0 where
+  pub written-is : written ≡ length (k .guide .order)
+  pub places-is : places ≡ k .recorded .places
+  pub median-is : med ≡ median (tally P (k .guide .order))
+
+-- final was accepted, and nothing follows it
+pub record Finishes (P N W : ℕ) (k : Model) (s′ : Session) (σ′ : Storage) (written places med : ℕ) (o : Run) : Type 0 where
+  pub final : Accepts P N W calls.final k s′ σ′
+  pub figures : Figures P (step P N W calls.final k) written places med
+  pub is : o ≡ (finished P (step P N W calls.final k), step P N W calls.final k)
 
 -- what remained, o, is what the answer tells, with session and storage before and after it
 abbrev pub Tells : ℕ → ℕ → ℕ → List ℕ → Model → Session → Session → Storage → Storage → Step → Run → Type 0
-Tells P N W job k s s′ σ σ′ (step′.Rejected m code) o = Refuses k s s′ σ σ′ m code o ⊎ Surplus P N W k s′ σ′ m code o
-Tells P N W job k s s′ σ σ′ step′.Finished o =
-    Accepts P N W calls.final k s′ σ′ × (o ≡ (finished P (step P N W calls.final k), step P N W calls.final k))
+Tells P N W job k s s′ σ σ′ (step′.Ended (end.Rejected m code)) o = Refuses k s s′ σ σ′ m code o ⊎ Surplus P N W k s′ σ′ m code o
+Tells P N W job k s s′ σ σ′ (step′.Ended (end.Finished w pl md)) o = Finishes P N W k s′ σ′ w pl md o
 Tells P N W job k s s′ σ σ′ (step′.On at n) o =
     (c : Call) × (Accepts P N W c k s′ σ′ × (o ≡ remains P N W job at n (step P N W c k)))
 
 -- the next call lies further on, within the job, and a line has a byte at least; a refusal's line and number are small
 abbrev pub Further : List ℕ → ℕ → ℕ → Step → Type 0
-Further job at n (step′.Rejected m code) = (m ≤ n + 2) × (code ≤ 16)
-Further job at n step′.Finished = Unit {0}
+Further job at n (step′.Ended (end.Rejected m code)) = (m ≤ n + 2) × Number code
+Further job at n (step′.Ended (end.Finished w pl md)) = Unit {0}
 Further job at n (step′.On next m) = (at < next) × ((next ≤ length job) × (at + m ≤ next + n))
 
 pub record MayTurn (s : Session) (σ : Storage) (job : List ℕ) (room at n : ℕ) : Type 0 where
@@ -87,7 +98,7 @@ pub record MayTurn (s : Session) (σ : Storage) (job : List ℕ) (room at n : �
 
 -- a and b are the storage for numbers before and after: the job's lists have at most half as many numbers as it has bytes
 pub record Turned (job : List ℕ) (at n : ℕ) (s : Session) (r : Step) (s′ : Session) (σ σ′ : Storage) (a b : List ℕ) : Type 0 where
-  pub tells : (P N W : ℕ) (k : Model) → 1 ≤ P → Held P N W s σ k → Tells P N W job k s s′ σ σ′ r (remains P N W job at n k)
+  pub tells : (P N W : ℕ) (k : Model) → 1 ≤ P → StandsFor P N W s σ k → Tells P N W job k s s′ σ σ′ r (remains P N W job at n k)
   pub further : Further job at n r
   pub frame : Frame (s .guide .p) (s .guide .v) (s .guide .written) (s′ .guide .written) σ σ′
   pub into : Beyond (length job / 2) a b

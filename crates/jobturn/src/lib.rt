@@ -1,34 +1,47 @@
 // One turn of a job: its next call is read and made.
-ghost use mathlib.Core.Path.{_≡_};
-ghost use Prim.Native.Nat.{ℕ, _+_, _*_, _≤_, _<_};
+ghost use Prim.Native.Nat.{_+_, _≤_, _<_, _^_};
 ghost use lib.ListN.{length};
-ghost use Rattle.session.specs.Storage.{storage};
-ghost use Rattle.jobturn.specs.Turned.{kind-of, MayMake, Makes, MayTurn, Turned};
-use jobcalls::Act;
+ghost use Rattle.session.specs.Storage.{given, before, after};
+ghost use Rattle.admitting.specs.Promise.{Asks, Called};
+ghost use Rattle.jobcalls.specs.Told.{call-of, taken-by};
+ghost use Rattle.jobturn.specs.Turned.{AfterCall, AfterFinal, MayTurn, Turned};
+use jobcalls::Call;
+use jobcalls::Next;
 use session::Session;
 use sorter::Answer;
 
-// Makes a call of a job on the session. There is none to make where the act is malformed.
+// Makes a call of a job on the session. The numbers of an add's lists stand at the start of `numbers`.
 fn make(
+    s: Session,
     spans: &mut [u32],
     order: &mut [u32],
     tally: &mut [u32],
     rows: &mut [u32],
     marks: &mut [u16],
-    locs: &mut [u64],
+    locations: &mut [u64],
     waiting: &mut [u64],
     pool: &mut [u32],
     numbers: &[u64],
-    s: Session,
-    a: Act,
+    call: Call,
 ) -> Answer
-    requires { ⌜ MayMake s (storage (now spans) (now order) (now tally) (now rows) (now marks) (now locs) (now waiting) (now pool)) a (now numbers) ⌝ }
-    ensures { λ r. ⌜ Makes a (now (numbers .entry)) (r .number) s (r .session) (storage (now (spans .entry)) (now (order .entry)) (now (tally .entry)) (now (rows .entry)) (now (marks .entry)) (now (locs .entry)) (now (waiting .entry)) (now (pool .entry))) (storage (now (spans .exit)) (now (order .exit)) (now (tally .exit)) (now (rows .exit)) (now (marks .exit)) (now (locs .exit)) (now (waiting .exit)) (now (pool .exit))) ⌝ }
+    requires { ⌜ (Asks s (given spans order tally rows marks locations waiting pool)) × (taken-by call ≤ length (now numbers)) ⌝ }
+    ensures { λ r. ⌜ Called (call-of call (now (numbers .entry))) (r .number) s (r .session) (before spans order tally rows marks locations waiting pool) (after spans order tally rows marks locations waiting pool) ⌝ }
 {
-    match a {
-        Act::Set(x) => sorter::set(s, spans, order, tally, rows, marks, locs, waiting, pool, x),
-        Act::Add(i, o) => {
-            let m = i + o;
+    match call {
+        Call::Set { place } => sorter::set(
+            s,
+            spans,
+            order,
+            tally,
+            rows,
+            marks,
+            locations,
+            waiting,
+            pool,
+            place,
+        ),
+        Call::Add { inputs, outputs } => {
+            let end = inputs + outputs;
             sorter::add(
                 s,
                 spans,
@@ -36,37 +49,92 @@ fn make(
                 tally,
                 rows,
                 marks,
-                locs,
+                locations,
                 waiting,
                 pool,
-                &numbers[..i],
-                &numbers[i..m],
+                &numbers[..inputs],
+                &numbers[inputs..end],
             )
         }
-        Act::Flush => sorter::flush(s, spans, order, tally, rows, marks, locs, waiting, pool),
-        Act::Final => {
-            let f = sorter::finish(s, spans, order, tally, rows, marks, locs, waiting, pool);
-            let z = f.session;
-            Answer {
-                number: f.number,
-                session: z,
-            }
-        }
-        Act::Malformed => Answer {
-            number: 15,
-            session: s,
-        },
+        Call::Flush => sorter::flush(
+            s,
+            spans,
+            order,
+            tally,
+            rows,
+            marks,
+            locations,
+            waiting,
+            pool,
+        ),
     }
 }
 
-// What follows a call: the place and the line of the next one, or the job's end with its line and number.
-pub enum Step {
-    On(usize, u64),
-    Finished,
-    Rejected(u64, u64),
+// How a job ends: with final accepted, and then the order's length, the places that final fixed and the median of its summary; or refused
+// on a line with a number.
+pub enum End {
+    Finished {
+        written: u32,
+        places: u32,
+        median: u32,
+    },
+    Rejected {
+        line: u64,
+        code: u64,
+    },
 }
 
-// That, with the session after the call.
+// What follows a call: the place and the line of the next one, or the job's end.
+pub enum Step {
+    On { next: usize, line: u64 },
+    Ended { end: End },
+}
+
+// After a call with this number on `line`: a refused one ends the job.
+fn after_call(number: u64, line: u64, next: usize) -> Step
+    requires { ⌜ line + 1 < 2 ^ 64 ⌝ }
+    ensures { λ r. ⌜ AfterCall number line next r ⌝ }
+{
+    if number != 0 {
+        let end = End::Rejected { line, code: number };
+        return Step::Ended { end };
+    }
+    let line = line + 1;
+    Step::On { next, line }
+}
+
+// After final with this number on `line`, where the job has `length` bytes and final's line ends before `next`: nothing may follow it.
+fn after_final(
+    number: u64,
+    line: u64,
+    next: usize,
+    length: usize,
+    written: u32,
+    places: u32,
+    median: u32,
+) -> Step
+    requires { ⌜ line + 1 < 2 ^ 64 ⌝ }
+    ensures { λ r. ⌜ AfterFinal number line next length written places median r ⌝ }
+{
+    if number != 0 {
+        let end = End::Rejected { line, code: number };
+        return Step::Ended { end };
+    }
+    if next != length {
+        let line = line + 1;
+        let code = rules::MALFORMED;
+        let end = End::Rejected { line, code };
+        return Step::Ended { end };
+    }
+    let end = End::Finished {
+        written,
+        places,
+        median,
+    };
+    Step::Ended { end }
+}
+
+// What follows a call, with the session after it.
 pub struct Turn {
     pub step: Step,
     pub session: Session,
@@ -74,82 +142,74 @@ pub struct Turn {
 
 // Reads the call at `at`, whose first line is `line`, and makes it.
 pub fn run_call(
+    s: Session,
     spans: &mut [u32],
     order: &mut [u32],
     tally: &mut [u32],
     rows: &mut [u32],
     marks: &mut [u16],
-    locs: &mut [u64],
+    locations: &mut [u64],
     waiting: &mut [u64],
     pool: &mut [u32],
     into: &mut [u64],
     job: &[u8],
-    s: Session,
     at: usize,
     line: u64,
 ) -> Turn
-    requires { ⌜ MayTurn s (storage (now spans) (now order) (now tally) (now rows) (now marks) (now locs) (now waiting) (now pool)) (now job) (length (now into)) at line ⌝ }
-    ensures { λ r. ⌜ Turned (now (job .entry)) at line s (r .step) (r .session) (storage (now (spans .entry)) (now (order .entry)) (now (tally .entry)) (now (rows .entry)) (now (marks .entry)) (now (locs .entry)) (now (waiting .entry)) (now (pool .entry))) (storage (now (spans .exit)) (now (order .exit)) (now (tally .exit)) (now (rows .exit)) (now (marks .exit)) (now (locs .exit)) (now (waiting .exit)) (now (pool .exit))) (now (into .entry)) (now (into .exit)) ⌝ }
+    requires { ⌜ MayTurn s (given spans order tally rows marks locations waiting pool) (now job) (length (now into)) at line ⌝ }
+    ensures { λ r. ⌜ Turned (now (job .entry)) at line s (r .step) (r .session) (before spans order tally rows marks locations waiting pool) (after spans order tally rows marks locations waiting pool) (now (into .entry)) (now (into .exit)) ⌝ }
 {
-    let c = jobcalls::next_call(job, at, line, into);
-    let act = c.act;
-    let on = c.line;
-    let next = c.next;
-    let k = kind(act);
-    if k == 0 {
-        return Turn {
-            step: Step::Rejected(on, 15),
-            session: s,
-        };
-    }
-    let r = make(
-        spans,
-        order,
-        tally,
-        rows,
-        marks,
-        locs,
-        waiting,
-        pool,
-        into,
-        s,
-        act,
-    );
-    let number = r.number;
-    if number != 0 {
-        return Turn {
-            step: Step::Rejected(on, number),
-            session: s,
-        };
-    }
-    let z = r.session;
-    if k == 1 {
-        return Turn {
-            step: Step::On(next, on + 1),
-            session: z,
-        };
-    }
-    if next == job.len() {
-        return Turn {
-            step: Step::Finished,
-            session: z,
-        };
-    }
-    Turn {
-        step: Step::Rejected(on + 1, 15),
-        session: z,
-    }
-}
-
-// 0 where there is no call, 2 for final, 1 for the others.
-fn kind(a: Act) -> u8
-    ensures { λ r. ⌜ r ≡ kind-of a ⌝ }
-{
-    match a {
-        Act::Set(_) => 1,
-        Act::Add(_, _) => 1,
-        Act::Flush => 1,
-        Act::Final => 2,
-        Act::Malformed => 0,
+    let read = jobcalls::next_call(job, at, line, into);
+    match read {
+        Next::Call { call, line, next } => {
+            let a = make(
+                s,
+                spans,
+                order,
+                tally,
+                rows,
+                marks,
+                locations,
+                waiting,
+                pool,
+                into,
+                call,
+            );
+            let step = after_call(a.number, line, next);
+            let session = a.session;
+            Turn { step, session }
+        }
+        Next::Final { line, next } => {
+            let f = sorter::finish(
+                s,
+                spans,
+                order,
+                tally,
+                rows,
+                marks,
+                locations,
+                waiting,
+                pool,
+            );
+            let session = f.session;
+            let guide = session.guide;
+            let summary = f.summary;
+            let step = after_final(
+                f.number,
+                line,
+                next,
+                job.len(),
+                guide.written,
+                session.places,
+                summary.median,
+            );
+            Turn { step, session }
+        }
+        Next::Malformed { line } => {
+            let code = rules::MALFORMED;
+            let end = End::Rejected { line, code };
+            let step = Step::Ended { end };
+            Turn { step, session: s }
+        }
     }
 }

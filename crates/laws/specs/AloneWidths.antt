@@ -43,7 +43,8 @@ module _ (P N : ℕ) (hP : 1 ≤ P) (tP : P ≤ 64999) (hN : N ≤ 16777216) (a 
       let p = place P after e (a .guide) in
       let t = place-step P (a .guide) (s .past) e hP (s .core) (s .later) after in
       let wide = (s .past ++ a .guide .spans) ++ replicate (t .fresh-spans) [] in
-      let one-more : len (t .past′ ++ p .guide .spans) (p .loc .span) ≡ len wide (p .loc .span) + 1 = ap (λ (H : List (List Item)). len H (p .loc .span)) (t .hist) ∙ len-grow-same wide (p .loc .span) e (t .fits) in (
+      let one-more : len (t .past′ ++ p .guide .spans) (p .loc .span) ≡ len wide (p .loc .span) + 1 = ap (λ (H : List (List Item)). len H (p .loc .span)) (t .hist)
+      ∙ len-grow-same wide (p .loc .span) e (t .fits) in (
         omega (arith, in-range (t .past′ ++ p .guide .spans) (p .loc .span) 0 (omega (arith, one-more)), length-append (t .past′) (p .guide .spans), t .core .past-is, t .core .window-is, t .advances),
         omega (arith, t .pos-is, s .core .capped (p .loc .span)),
       )

@@ -8,14 +8,13 @@ use Prim.Native.Nat.{ℕ, zero, suc, _≤_, _<_}
 use native.Mathlib.Omega.{arith}
 use lib.ListN.{length, getD}
 use Rattle.rules.specs.Model.{with-record, Reg, Model, member, reg-of, place-one, keep, rest, with-set, with-add, with-flush, initial}
-use Rattle.rules.specs.Calls.{Call, run}
 use Rattle.rules.specs.Checks.{written-by, taken}
 use Rattle.laws.specs.ModelBase.{In, bool-cases, in-member}
 use Rattle.laws.specs.Accepted.{set-passed, add-passed}
 use Rattle.laws.specs.History.{lt-or-le}
 use Rattle.laws.specs.GuideInv.{eq-or-ne}
 use Rattle.laws.specs.CallInv.{reg-of-old, reg-of-new, reg-of-beyond}
-use Rattle.laws.specs.Kept.{Kept, kept}
+use Rattle.laws.specs.Kept.{Kept}
 
 written-in : (i : ℕ) (l : List Reg) (r : ℕ) (d : Reg) → d .outs ≡ [] → In i ((getD l r d) .outs) → written-by i l ≡ true
 unfolding written-by
@@ -105,7 +104,3 @@ module _ (P N W : ℕ) (hP : 1 ≤ P) where
         closing = λ k v a p. same-apart k _ [] [] refl refl p;
         recording = λ d k v n p. same-apart k _ [] [] refl refl p;
       }
-
-  -- it holds after every list of calls
-  pub apart : (cs : List Call) → Apart (run P N W cs initial) []
-  apart cs = kept P N W hP Apart apart-kept apart-initial cs

@@ -13,10 +13,9 @@ use Rattle.rules.specs.Guide.{Item, Entry, Guide, annotate, released, fresh, Pl
 use Rattle.laws.specs.GuideInv.{Core, grow, flush-core, regroup}
 use Rattle.laws.specs.Place.{Step, place-step}
 use Rattle.rules.specs.Model.{with-record, Reg, Pending, Model, watermark, greatest, reg-of, after, place-one, keep, queue, push, due, left, off, rest, with-set, with-add, with-flush, initial}
-use Rattle.rules.specs.Calls.{Call, run}
 use Rattle.laws.specs.ModelBase.{bool-cases}
 use Rattle.laws.specs.ModelInv.{Inv}
-use Rattle.laws.specs.Kept.{Kept, kept}
+use Rattle.laws.specs.Kept.{Kept}
 
 module _ (φ : ℕ → ℕ) where
   -- the sums of a weight over a span, spans, the order, the pending ones, a stack, and the numbers below n
@@ -87,7 +86,8 @@ module _ (φ : ℕ → ℕ) where
   grow-sum (l ∷ H) (suc s) e h = omega (arith, grow-sum H s e (omega arith))
 
   -- a placing adds the weight of what is placed, a flush adds nothing
-  pub step-sum : (P : ℕ) (g : Guide) (past : List (List Item)) (e : Item) (p : Placed) → Core P g past → Step P g past e p → wsum (p .guide .order) + hsum (p .guide .spans) ≡ wsum (g .order) + hsum (g .spans) + φ (e .added)
+  pub step-sum : (P : ℕ) (g : Guide) (past : List (List Item)) (e : Item) (p : Placed) → Core P g past → Step P g past e p → wsum (p .guide .order) + hsum (p .guide .spans)
+      ≡ wsum (g .order) + hsum (g .spans) + φ (e .added)
   step-sum P g past e p c s =
       omega (
         arith,
@@ -99,7 +99,8 @@ module _ (φ : ℕ → ℕ) where
         hsum-empties (s .fresh-spans),
       )
 
-  pub flush-sum : (P : ℕ) (g : Guide) (past : List (List Item)) → Core P g past → Core P (flush-guide P g) (past ++ take 32 (g .spans)) → wsum ((flush-guide P g) .order) + hsum ((flush-guide P g) .spans) ≡ wsum (g .order) + hsum (g .spans)
+  pub flush-sum : (P : ℕ) (g : Guide) (past : List (List Item)) → Core P g past → Core P (flush-guide P g) (past ++ take 32 (g .spans))
+      → wsum ((flush-guide P g) .order) + hsum ((flush-guide P g) .spans) ≡ wsum (g .order) + hsum (g .spans)
   unfolding flush-guide release
   flush-sum P g past c d =
       omega (
@@ -175,6 +176,3 @@ module _ (φ : ℕ → ℕ) where
           closing = λ k v a b. omega (arith, flush-sum P (k .guide) (v .past) (v .core) (flush-core P (k .guide) (v .past) hP (v .core) (v .later 31 (omega arith))), b);
           recording = λ d k v n b. b;
         }
-
-    pub balance : (cs : List Call) → Balance (run P N W cs initial) []
-    balance cs = kept P N W hP Balance balance-kept balance-initial cs

@@ -13,7 +13,8 @@ use Rattle.rules.specs.Guide.{Loc, Item, release, released, fresh, flush as flu
 use Rattle.laws.specs.History.{len}
 use Rattle.laws.specs.Together.{Behind}
 use Rattle.laws.specs.GuideInv.{Later, flush-core, release-later, regroup, len-empties}
-use Rattle.rules.specs.Model.{note-add, note-flush, note-final, do-flush, do-final, Reg, Pending, Model, marked, tracked, watermark, greatest, loc-of, reg-of, keep, off, rest, with-set, with-add, ready, queue, do-set, do-add, with-flush, initial}
+use Rattle.rules.specs.Model.{note-add, note-flush, note-final, do-flush, do-final, Reg, Pending, Model, marked, tracked, watermark, greatest, loc-of, reg-of, keep, off, rest}
+use Rattle.rules.specs.Model.{with-set, with-add, ready, queue, do-set, do-add, with-flush, initial}
 use Rattle.rules.specs.Calls.{unless-refused, step, run, answer, apply-call, Call, set, add, flush, final}
 use Rattle.laws.specs.ModelBase.{In, bool-cases, watermark-tracked, entry-at, greatest-ge, get-extend}
 use Rattle.laws.specs.ModelInv.{hist, Writes, Reads, Locations, Known, Inv, record-inv}

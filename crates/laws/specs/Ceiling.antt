@@ -9,14 +9,13 @@ use lib.ListN.{length, length-append}
 use lib.Dec.{ltb}
 use mathlib.Core.Logic.{_⊎_, inl, inr}
 use Rattle.laws.specs.ModelBase.{bool-cases}
-use Rattle.rules.specs.Guide.{Item, fresh, release, flush as flush-guide}
+use Rattle.rules.specs.Guide.{Item, release, flush as flush-guide}
 use Rattle.laws.specs.Place.{place-step}
-use Rattle.rules.specs.Model.{with-record, Pending, Model, reg-of, after, place-one, keep, queue, push, off, rest, with-set, with-add, with-flush, initial}
-use Rattle.rules.specs.Calls.{Call, run}
+use Rattle.rules.specs.Model.{with-record, Pending, Model, reg-of, after, place-one, keep, queue, push, off, rest, with-set, with-add, with-flush}
 use Rattle.laws.specs.ModelInv.{Inv}
 use Rattle.laws.specs.CascadeInv.{push-length, off-rest}
 use Rattle.laws.specs.Accepted.{final-passed}
-use Rattle.laws.specs.Kept.{Kept, kept}
+use Rattle.laws.specs.Kept.{Kept}
 
 -- the flush of final
 unfoldable pub ended : Bool → ℕ
@@ -58,8 +57,3 @@ module _ (P N W : ℕ) (hP : 1 ≤ P) where
         closing = λ k v a b. omega (arith, ap ended (final-passed N W k a .not-closed), b);
         recording = λ d k v n b. b;
       }
-
-  -- it holds after every list of calls
-  pub ceiling : (cs : List Call) → Ceiling (run P N W cs initial) []
-  unfolding initial fresh
-  ceiling cs = kept P N W hP Ceiling ceiling-kept (omega arith) cs

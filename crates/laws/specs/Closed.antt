@@ -18,7 +18,7 @@ use Rattle.laws.specs.ModelBase.{bool-cases}
 use Rattle.laws.specs.ModelInv.{Inv}
 use Rattle.laws.specs.CallInv.{run-inv, step-inv, initial-inv}
 use Rattle.laws.specs.Accepted.{set-passed, add-passed, flush-passed, final-passed}
-use Rattle.laws.specs.Kept.{Kept, kept, run-kept, run-noted, step-noted, initial-noted, set-same, add-same}
+use Rattle.laws.specs.Kept.{Kept, run-kept, run-noted, step-noted, initial-noted, set-same, add-same}
 use Rattle.laws.specs.Balance.{hsum, hsum-empties}
 use Rattle.laws.specs.Demand.{FinalAccepted}
 
@@ -151,8 +151,3 @@ module _ (P N W : ℕ) (hP : 1 ≤ P) where
         closing = λ k v a d e. (refl, final-passed N W k a .none, flushed-empty k v);
         recording = λ r k v n d. d;
       }
-
-  -- it holds after every list of calls
-  pub done : (cs : List Call) → Done (run P N W cs initial) []
-  unfolding initial
-  done cs = kept P N W hP Done done-kept (λ e. absurd (false≢true e)) cs

@@ -9,7 +9,8 @@ use native.Mathlib.Omega.{arith}
 use lib.ListN.{length, length-append}
 use lib.Dec.{ltb}
 use borrow.Author.Tests.{ltb-true, ltb-false, lt-ltb, le-ltb}
-use Rattle.rules.specs.Model.{Recorded, with-record, Reg, Pending, Model, watermark, run-from, marked, tracked, ready, greatest, reg-of, place-one, keep, queue, left, rest, with-set, with-add, with-flush, initial}
+use Rattle.rules.specs.Model.{Recorded, with-record, Reg, Pending, Model, watermark, run-from, marked, tracked, ready, greatest, reg-of, place-one, keep, queue, left, rest}
+use Rattle.rules.specs.Model.{with-set, with-add, with-flush, initial}
 use Rattle.rules.specs.Calls.{Call, run}
 use Rattle.laws.specs.ModelBase.{In, bool-cases, tracked-cases, tracked-of, marked-append}
 use Rattle.laws.specs.History.{lt-or-le}
@@ -101,7 +102,8 @@ unfolding left
 left-or-due m [] w h = absurd (List·Memᴰ·not-nil h)
 left-or-due m (v ∷ ws) w h = go (bool-cases (ltb (v .under) m)) (List·Memᴰ·cases-cons h) (λ y. left-or-due m ws w y)
   where
-    go : (ltb (v .under) m ≡ true) ⊎ (ltb (v .under) m ≡ false) → (w ≡ v) ⊎ List·Memᴰ w ws → (List·Memᴰ w ws → List·Memᴰ w (left m ws) ⊎ (w .under < m)) → List·Memᴰ w (left m (v ∷ ws)) ⊎ (w .under < m)
+    go : (ltb (v .under) m ≡ true) ⊎ (ltb (v .under) m ≡ false) → (w ≡ v) ⊎ List·Memᴰ w ws → (List·Memᴰ w ws → List·Memᴰ w (left m ws) ⊎ (w .under < m))
+        → List·Memᴰ w (left m (v ∷ ws)) ⊎ (w .under < m)
     go (inl e) (inl y) r = inr (rw y (ltb-true (v .under) m e))
     go (inl e) (inr y) r = rw (e, left) (r y)
     go (inr e) y r = inl (rw (e, left) h)
@@ -173,7 +175,8 @@ unfolding rest keep reg-of
 rest-reg N j r = refl
 
 -- when the watermark has moved, what comes off leaves the sentence true
-module _ (P N : ℕ) (k j : Model) (st st′ : List ℕ) (v : Inv P N k st) (p : Delaying N k st) (adds-same : j .adds ≡ k .adds) (pending-same : j .pending ≡ k .pending) (reg-same : (r : ℕ) → reg-of j r ≡ reg-of k r) (grows : (i : ℕ) → tracked k i ≡ true → tracked j i ≡ true) where
+module _ (P N : ℕ) (k j : Model) (st st′ : List ℕ) (v : Inv P N k st) (p : Delaying N k st) (adds-same : j .adds ≡ k .adds) (pending-same : j .pending ≡ k .pending)
+    (reg-same : (r : ℕ) → reg-of j r ≡ reg-of k r) (grows : (i : ℕ) → tracked k i ≡ true → tracked j i ≡ true) where
   mono : watermark N k ≤ watermark N j
   mono = watermark-mono N k j grows
 
@@ -191,7 +194,8 @@ module _ (P N : ℕ) (k j : Model) (st st′ : List ℕ) (v : Inv P N k st) (p :
       over : (w : Pending) → List·Memᴰ w (left (watermark N j) (k .pending)) → ready (watermark N (rest N j)) ((reg-of (rest N j) (w .reg)) .ins) ≡ false
       over w h =
           let o = left-from (watermark N j) (k .pending) w h in
-          rw (watermark-rest, rest-reg, reg-same) (ready-off (watermark N k) (watermark N j) ((reg-of k (w .reg)) .ins) (omega (arith, left-above (watermark N j) (k .pending) (p .sorted) w h, v .pending-ok w o .1)) (p .above w o))
+          rw (watermark-rest, rest-reg, reg-same) (ready-off (watermark N k) (watermark N j) ((reg-of k (w .reg)) .ins)
+          (omega (arith, left-above (watermark N j) (k .pending) (p .sorted) w h, v .pending-ok w o .1)) (p .above w o))
 
       go : (r : ℕ) → IsPending k r ⊎ (ready (watermark N k) ((reg-of k r) .ins) ≡ true) → IsPending (rest N j) r ⊎ (ready (watermark N j) ((reg-of k r) .ins) ≡ true)
       go r (inr e) = inr (ready-up (watermark N k) (watermark N j) ((reg-of k r) .ins) mono e)
@@ -248,11 +252,13 @@ module _ (P N W : ℕ) (hP : 1 ≤ P) where
       over w (inl y) = rw (y, reg-of-new a k) e
       over w (inr y) = rw (reg-of-old a k (w .reg) (v .pending-ok w y .0)) (p .above w y)
 
-      still : (r : ℕ) → IsPending k r ⊎ (ready (watermark N k) ((reg-of k r) .ins) ≡ true) → ((w : Pending) × List·Memᴰ w (queue x (k .pending)) × (w .reg ≡ r)) ⊎ (ready (watermark N k) ((reg-of k r) .ins) ≡ true)
+      still : (r : ℕ) → IsPending k r ⊎ (ready (watermark N k) ((reg-of k r) .ins) ≡ true) → ((w : Pending) × List·Memᴰ w (queue x (k .pending)) × (w .reg ≡ r))
+          ⊎ (ready (watermark N k) ((reg-of k r) .ins) ≡ true)
       still r (inl y) = inl (y .0, stays-queued x (k .pending) (y .0) (y .1), y .2)
       still r (inr y) = inr y
 
-      go : (r : ℕ) → (r < length (k .adds)) ⊎ (length (k .adds) ≤ r) → r < length (k .adds) + 1 → ((w : Pending) × List·Memᴰ w (queue x (k .pending)) × (w .reg ≡ r)) ⊎ (ready (watermark N k) ((reg-of (with-add a k) r) .ins) ≡ true)
+      go : (r : ℕ) → (r < length (k .adds)) ⊎ (length (k .adds) ≤ r) → r < length (k .adds) + 1 → ((w : Pending) × List·Memᴰ w (queue x (k .pending)) × (w .reg ≡ r))
+          ⊎ (ready (watermark N k) ((reg-of (with-add a k) r) .ins) ≡ true)
       go r (inl y) h = rw (reg-of-old a k r y) (still r (p .others r y))
       go r (inr y) h = inl (x, in-queue x (k .pending), omega arith)
 

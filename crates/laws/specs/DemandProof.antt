@@ -96,7 +96,12 @@ module _ (P N W : ℕ) (hP : 1 ≤ P) (k : Model) (o : Sound P N W k []) where
       go (inl x) = inl x
       go (inr x) =
           let l = x .0 in
-          inr (start H (l .span) + l .pos, omega (arith, a .index, behind-before H (l .span) (l .pos) (a .s) (a .q) (x .1 .0) (a .within) (x .2)), rw (order-here P hP (k .guide) (v .past) (v .core) (l .span) (l .pos) (omega (arith, a .out, behind-span (l .span) (l .pos) (a .s) (a .q) (x .2))) (x .1 .0)) (x .1 .1))
+          inr (
+            start H (l .span) + l .pos,
+            omega (arith, a .index, behind-before H (l .span) (l .pos) (a .s) (a .q) (x .1 .0) (a .within) (x .2)),
+            rw
+                (order-here P hP (k .guide) (v .past) (v .core) (l .span) (l .pos) (omega (arith, a .out, behind-span (l .span) (l .pos) (a .s) (a .q) (x .2))) (x .1 .0)) (x .1 .1),
+          )
 
   -- the history weighs no more than the accepted registrations
   light : (φ : ℕ → ℕ) → hsum φ H ≤ below φ (length (k .adds))

@@ -9,7 +9,8 @@ use Prim.Native.Nat.{ℕ, zero, suc, _≤_, _<_}
 use native.Mathlib.Omega.{arith}
 use lib.ListN.{length, drop, getD, set, replicate, length-append}
 use lib.Dec.{leb}
-use Rattle.rules.specs.Guide.{Loc, Item, Entry, Guide, parallelism, last-parallelism, annotate, released, fresh, release, flush as flush-guide, Choice, existing, opened, choose, put, settle, apply, place}
+use Rattle.rules.specs.Guide.{Loc, Item, Entry, Guide, parallelism, last-parallelism, annotate, released, fresh, release, flush as flush-guide, Choice, existing, opened, choose}
+use Rattle.rules.specs.Guide.{put, settle, apply, place}
 use Rattle.rules.specs.Model.{Recorded, with-record, Model, watermark, reg-of, after, place-one, keep, rest, with-set, with-add, with-flush, initial}
 use Rattle.laws.specs.History.{len}
 use Rattle.laws.specs.ModelBase.{In, bool-cases, entry-at, no-entry, watermark-le}
@@ -72,7 +73,8 @@ module _ (Φ : Item → Type 0) where
   released-each P zero ss h = tt
   released-each P (suc n) [] h = tt
   released-each P (suc n) (s ∷ []) h = annotated (last-parallelism (length s)) 0 s (h .0)
-  released-each P (suc n) (s ∷ (t ∷ ss)) h = entries-append (annotate (parallelism P (length s) (length t)) 0 s) (released P n (t ∷ ss)) (annotated (parallelism P (length s) (length t)) 0 s (h .0)) (released-each P n (t ∷ ss) (h .1))
+  released-each P (suc n) (s ∷ (t ∷ ss)) h = entries-append (annotate (parallelism P (length s) (length t)) 0 s) (released P n (t ∷ ss))
+      (annotated (parallelism P (length s) (length t)) 0 s (h .0)) (released-each P n (t ∷ ss) (h .1))
 
   -- of what the window holds and of what the order has
   pub record Throughout (g : Guide) : Type 0 where

@@ -26,7 +26,8 @@ annotate-cong f g q (e ∷ l) h =
     rw (here, there)
 
 annotate-last : (P : ℕ) (l : List Item) → 1 ≤ P → length l ≤ P → annotate (last-parallelism (length l)) 0 l ≡ annotate (parallelism P (length l) 0) 0 l
-annotate-last P l hP h = annotate-cong (last-parallelism (length l)) (parallelism P (length l) 0) 0 l (λ i k. rw zero-add (last-width-flat P (length l) i k h ∙ sym (width-flat P (length l) 0 i hP k (omega arith))))
+annotate-last P l hP h = annotate-cong (last-parallelism (length l)) (parallelism P (length l) 0) 0 l
+    (λ i k. rw zero-add (last-width-flat P (length l) i k h ∙ sym (width-flat P (length l) 0 i hP k (omega arith))))
 
 released-put : (P : ℕ) (past ss : List (List Item)) (i : ℕ) (x : List Item) → released P (length past) (past ++ set ss (suc i) x) ≡ released P (length past) (past ++ ss)
 unfolding released
@@ -100,7 +101,8 @@ release-core P n g past hn h c =
     record {
       past-is = simp (length-append, length-take) (omega (arith, c .past-is, c .window-is));
       window-is = simp (length-append, length-drop, length-replicate) (omega (arith, c .window-is));
-      order-is = ap (λ o. o ++ released P n (g .spans)) (c .order-is) ∙ released-release P n past (g .spans) (omega (arith, c .window-is)) (omega (arith, c .window-is)) (released-extend P n (g .spans) (replicate n []) (omega (arith, c .window-is)));
+      order-is = ap (λ o. o ++ released P n (g .spans)) (c .order-is) ∙ released-release P n past (g .spans) (omega (arith, c .window-is)) (omega (arith, c .window-is))
+          (released-extend P n (g .spans) (replicate n []) (omega (arith, c .window-is)));
       capped = λ s. rw (regroup past (g .spans) n, len-extend) (c .capped s);
     }
 

@@ -10,7 +10,8 @@ use native.Mathlib.Omega.{arith}
 use lib.ListN.{length, length-append, length-set, set as set-at}
 use lib.Dec.{eqb}
 use borrow.Author.Tests.{eqb-true}
-use Rattle.rules.specs.Model.{Recorded, with-record, note-add, note-flush, note-final, do-flush, do-final, Reg, Model, watermark, greatest, ready, place-one, keep, queue, push, off, rest, with-set, with-add, with-flush, cascade, settle-all, do-set, do-add, initial}
+use Rattle.rules.specs.Model.{Recorded, with-record, note-add, note-flush, note-final, do-flush, do-final, Reg, Model, watermark, greatest, ready, place-one, keep, queue, push}
+use Rattle.rules.specs.Model.{off, rest, with-set, with-add, with-flush, cascade, settle-all, do-set, do-add, initial}
 use Rattle.rules.specs.Calls.{unless-refused, Call, set, add, flush, final, apply-call, answer, step, run}
 use Rattle.laws.specs.ModelBase.{In, bool-cases}
 use Rattle.laws.specs.ModelInv.{Inv, place-one-inv, record-inv}
@@ -181,7 +182,8 @@ module _ (P N W : ℕ) (hP : 1 ≤ P) (Q : Model → List ℕ → Type 0) (κ : 
       more = simp length-append (omega arith)
 
       go : (ready (watermark N k) ins ≡ true) ⊎ (ready (watermark N k) ins ≡ false) → Q (do-add P N (record { ins = ins; outs = outs }) k) []
-      go (inl e) = rw (e, do-add) (settle-kept (length (k .adds)) (length (k .adds) ∷ []) (with-add _ k) more (add-stack P N hP k v (record { ins = ins; outs = outs }) e) (κ .adding ins outs k v a e q))
+      go (inl e) = rw (e, do-add) (settle-kept (length (k .adds)) (length (k .adds) ∷ []) (with-add _ k) more (add-stack P N hP k v (record { ins = ins; outs = outs }) e)
+          (κ .adding ins outs k v a e q))
       go (inr e) = rw (e, do-add) (κ .delaying ins outs k v a e q)
 
   call-kept : (c : Call) (k : Model) → Inv P N k [] → Noted k → answer N W c k ≡ 0 → Q k [] → Q (apply-call P N c k) []
@@ -193,7 +195,8 @@ module _ (P N W : ℕ) (hP : 1 ≤ P) (Q : Model → List ℕ → Type 0) (κ : 
       κ .recording _ j (flush-inv P N hP k v _ _) (flush-notes N j n) (κ .flushing k v a q)
   call-kept final k v n a q =
       let j = with-flush P (k .flushes) true k in
-      κ .recording _ (note-flush j) (record-inv P N _ _ [] (flush-inv P N hP k v _ _)) (final-notes N (note-flush j) (flush-notes N j n .many)) (κ .recording _ j (flush-inv P N hP k v _ _) (flush-notes N j n) (κ .closing k v a q))
+      κ .recording _ (note-flush j) (record-inv P N _ _ [] (flush-inv P N hP k v _ _)) (final-notes N (note-flush j) (flush-notes N j n .many))
+      (κ .recording _ j (flush-inv P N hP k v _ _) (flush-notes N j n) (κ .closing k v a q))
 
   -- a call keeps Q, refused or not
   pub step-kept : (c : Call) (k : Model) → Inv P N k [] → Noted k → Q k [] → Q (step P N W c k) []

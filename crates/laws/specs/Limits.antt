@@ -40,13 +40,13 @@ pub record Inside (N : ℕ) (k : Model) (st : List ℕ) : Type 0 where
   pub lists : (r : ℕ) → Bounded N (reg-of k r)
   pub sets-below : AllBelow N (k .sets)
 
-pooled-append : (l : List Reg) (a : Reg) → pooled (l ++ (a ∷ [])) ≡ pooled l + length (a .ins) + length (a .outs)
+pub pooled-append : (l : List Reg) (a : Reg) → pooled (l ++ (a ∷ [])) ≡ pooled l + length (a .ins) + length (a .outs)
 unfolding pooled
 pooled-append [] a = omega arith
 pooled-append (x ∷ l) a = omega (arith, pooled-append l a)
 
 -- after one more is accepted a registration is what it was, or it is the new one
-reg-cases : (a : Reg) (k : Model) (r : ℕ) → (reg-of (with-add a k) r ≡ reg-of k r) ⊎ (reg-of (with-add a k) r ≡ a)
+pub reg-cases : (a : Reg) (k : Model) (r : ℕ) → (reg-of (with-add a k) r ≡ reg-of k r) ⊎ (reg-of (with-add a k) r ≡ a)
 unfolding reg-of with-add
 reg-cases a k r = go (lt-or-le r (length (k .adds))) (eq-or-ne r (length (k .adds)))
   where
@@ -56,7 +56,8 @@ reg-cases a k r = go (lt-or-le r (length (k .adds))) (eq-or-ne r (length (k .add
     go (inr h) (inr e) = inl (List·getD-eq-default (k .adds ++ (a ∷ [])) _ {n = r} (simp length-append (omega arith)) ∙ sym (List·getD-eq-default (k .adds) _ {n = r} h))
 
 module _ (P N W : ℕ) where
-  limits-adding : (ins outs : List ℕ) (k : Model) (st : List ℕ) → length (k .adds) < N → pooled (k .adds) + length ins + length outs ≤ W → Limits N W k [] → Limits N W (with-add (record { ins = ins; outs = outs }) k) st
+  limits-adding : (ins outs : List ℕ) (k : Model) (st : List ℕ) → length (k .adds) < N → pooled (k .adds) + length ins + length outs ≤ W → Limits N W k []
+      → Limits N W (with-add (record { ins = ins; outs = outs }) k) st
   unfolding with-add
   limits-adding ins outs k st h p l =
       record {
@@ -74,7 +75,8 @@ module _ (P N W : ℕ) where
         placing = λ c r st k h v l. record { many = l .many; pool = l .pool; few = l .few; rows = l .rows };
         setting = λ x k v a l. record { many = l .many; pool = l .pool; few = l .few; rows = l .rows };
         adding = λ ins outs k v a e l. let p = add-passed N W ins outs k a in limits-adding ins outs k _ (p .more) (p .room) l;
-        delaying = λ ins outs k v a e l. let p = add-passed N W ins outs k a in let m = limits-adding ins outs k [] (p .more) (p .room) l in record { many = m .many; pool = m .pool; few = m .few; rows = m .rows };
+        delaying = λ ins outs k v a e l. let p = add-passed N W ins outs k a in let m = limits-adding ins outs k [] (p .more) (p .room) l in
+            record { many = m .many; pool = m .pool; few = m .few; rows = m .rows };
         flushing = λ k v a l. record { many = l .many; pool = l .pool; few = omega (arith, flush-passed N W k a .few); rows = l .rows };
         closing = λ k v a l. record { many = l .many; pool = l .pool; few = l .few; rows = l .rows };
         recording = λ d k v n l. record { many = l .many; pool = l .pool; few = l .few; rows = omega (arith, n .many) };

@@ -269,7 +269,8 @@ unfolding loc-of marked
 loc-of-none [] x h = (refl, refl)
 loc-of-none (y ∷ ss) x h = go (bool-cases (eqb x (y .at))) (λ k. loc-of-none ss x k)
   where
-    go : (eqb x (y .at) ≡ true) ⊎ (eqb x (y .at) ≡ false) → (marked x ss ≡ false → ((loc-of ss x) .span ≡ 0) × ((loc-of ss x) .pos ≡ 0)) → ((loc-of (y ∷ ss) x) .span ≡ 0) × ((loc-of (y ∷ ss) x) .pos ≡ 0)
+    go : (eqb x (y .at) ≡ true) ⊎ (eqb x (y .at) ≡ false) → (marked x ss ≡ false → ((loc-of ss x) .span ≡ 0) × ((loc-of ss x) .pos ≡ 0)) → ((loc-of (y ∷ ss) x) .span ≡ 0)
+        × ((loc-of (y ∷ ss) x) .pos ≡ 0)
     go (inl e) r = absurd (false≢true (sym (rw e at h)))
     go (inr e) r = rw (e, loc-of) (r (rw e at h))
 

@@ -13,7 +13,8 @@ use Rattle.laws.specs.Together.{Behind}
 use Rattle.laws.specs.GuideInv.{Core, Later}
 use Rattle.laws.specs.Place.{Step, place-step, place-behind}
 use Rattle.rules.specs.Model.{Recorded, with-record, Reg, Pending, Model, marked, tracked, greatest, loc-of, top, after, spotted, reg-of, place-one}
-use Rattle.laws.specs.ModelBase.{In, bool-cases, tracked-cases, top-ge, top-le, behind-le, loc-of-left, loc-of-right, loc-of-none, marked-append, spotted-in, entry-at, in-range, after-some, Grown, grown, tracked-of}
+use Rattle.laws.specs.ModelBase.{In, bool-cases, tracked-cases, top-ge, top-le, behind-le, loc-of-left, loc-of-right, loc-of-none, marked-append, spotted-in, entry-at}
+use Rattle.laws.specs.ModelBase.{in-range, after-some, Grown, grown, tracked-of}
 
 -- all spans from number 0 on
 abbrev pub hist : Model → List (List Item) → List (List Item)
@@ -85,7 +86,8 @@ module _ (P N c r : ℕ) (st : List ℕ) (k : Model) (hP : 1 ≤ P) (v : Inv P N
       go (inr e) = omega (arith, loc-of-none (k .located) i e .0)
 
   -- an input of r is set, or r lies behind the one that writes it
-  input-behind : (i : ℕ) → In i ((reg-of k r) .ins) → In i (k .sets) ⊎ (Writes k H (loc-of (k .located) i) i × Behind ((loc-of (k .located) i) .span) ((loc-of (k .located) i) .pos) (plc .loc .span) (plc .loc .pos))
+  input-behind : (i : ℕ) → In i ((reg-of k r) .ins) → In i (k .sets) ⊎ (Writes k H (loc-of (k .located) i) i
+      × Behind ((loc-of (k .located) i) .span) ((loc-of (k .located) i) .pos) (plc .loc .span) (plc .loc .pos))
   unfolding H plc
   input-behind i h = go (tracked-cases k i (v .stack-ok r (List·Memᴰ·head refl) .1 i h))
     where
@@ -95,7 +97,8 @@ module _ (P N c r : ℕ) (st : List ℕ) (k : Model) (hP : 1 ≤ P) (v : Inv P N
       behind : Behind (tp .span) (tp .pos) (plc .loc .span) (plc .loc .pos)
       behind = rw (after-some (k .located) i ((reg-of k r) .ins) h) (place-behind P (k .guide) tp ent (top-le (k .located) _ ((reg-of k r) .ins) (λ x y. located-span x)))
 
-      go : In i (k .sets) ⊎ (marked i (k .located) ≡ true) → In i (k .sets) ⊎ (Writes k H (loc-of (k .located) i) i × Behind ((loc-of (k .located) i) .span) ((loc-of (k .located) i) .pos) (plc .loc .span) (plc .loc .pos))
+      go : In i (k .sets) ⊎ (marked i (k .located) ≡ true) → In i (k .sets) ⊎ (Writes k H (loc-of (k .located) i) i
+          × Behind ((loc-of (k .located) i) .span) ((loc-of (k .located) i) .pos) (plc .loc .span) (plc .loc .pos))
       go (inl e) = inl e
       go (inr e) = inr (v .located-ok i e, behind-le (loc-of (k .located) i) tp (plc .loc .span) (plc .loc .pos) (top-ge (k .located) i ((reg-of k r) .ins) h) behind)
 
@@ -132,7 +135,8 @@ module _ (P N c r : ℕ) (st : List ℕ) (k : Model) (hP : 1 ≤ P) (v : Inv P N
       lifted (inl a) = inl a
       lifted (inr a) = inr (a .0, lift (a .0) i (a .1), a .2)
 
-      placed : (s ≡ plc .loc .span) × (q ≡ plc .loc .pos) → In i (k .sets) ⊎ (Writes k H (loc-of (k .located) i) i × Behind ((loc-of (k .located) i) .span) ((loc-of (k .located) i) .pos) (plc .loc .span) (plc .loc .pos))
+      placed : (s ≡ plc .loc .span) × (q ≡ plc .loc .pos) → In i (k .sets) ⊎ (Writes k H (loc-of (k .located) i) i
+          × Behind ((loc-of (k .located) i) .span) ((loc-of (k .located) i) .pos) (plc .loc .span) (plc .loc .pos))
           → In i (k .sets) ⊎ ((l : Loc) × Writes k H l i × Behind (l .span) (l .pos) s q)
       placed x (inl a) = inl a
       placed x (inr a) = inr (loc-of (k .located) i, a .0, rw (x .0, x .1) (a .1))

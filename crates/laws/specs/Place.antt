@@ -15,7 +15,8 @@ use borrow.Author.Tests.{ltb-true, ltb-false, leb-false, eqb-true, eqb-false}
 use Rattle.rules.specs.Guide.{Loc, Item, Entry, released, Guide, release, seek, Choice, existing, opened, found, begin, choose, Placed, put, settle, apply, place}
 use Rattle.laws.specs.History.{len, lt-or-le}
 use Rattle.laws.specs.Together.{Behind}
-use Rattle.laws.specs.GuideInv.{Core, Later, release-core, release-later, put-core, grow, grow-skip, grow-left, put-later, len-append, len-extend, regroup, put-spans, put-order, put-first, release-spans, release-order, release-first}
+use Rattle.laws.specs.GuideInv.{Core, Later, release-core, release-later, put-core, grow, grow-skip, grow-left, put-later, len-append, len-extend, regroup, put-spans}
+use Rattle.laws.specs.GuideInv.{put-order, put-first, release-spans, release-order, release-first}
 
 data Sought (P i : ℕ) (ss : List (List Item)) : Option ℕ → Type 0 where
   missing : Sought P i ss none
@@ -188,7 +189,8 @@ module _ (P : ℕ) (g : Guide) (past : List (List Item)) (e : Item) (hP : 1 ≤ 
       record {
         past′ = past ++ take n (g .spans);
         core = put-core P 30 e (release P n g) (past ++ take n (g .spans)) (omega arith) (omega (arith, beyond P n g (c .window-is) h)) rc;
-        later = put-later P 1 31 e (release P n g) (omega (arith, rc .window-is)) (release-later P 1 n g (omega arith) (c .window-is) (λ j x. l j (omega arith))) (λ x. omega (arith, beyond P n g (c .window-is) h));
+        later = put-later P 1 31 e (release P n g) (omega (arith, rc .window-is)) (release-later P 1 n g (omega arith) (c .window-is) (λ j x. l j (omega arith)))
+            (λ x. omega (arith, beyond P n g (c .window-is) h));
         fresh-spans = n;
         hist = rw (put-spans, release-spans, ← grow-skip (past ++ take n (g .spans)) (drop n (g .spans) ++ replicate n []) 31 e, regroup past (g .spans) n, index);
         fits = simp (length-append, length-replicate) (omega (arith, c .past-is, c .window-is));

@@ -8,12 +8,12 @@ use Prim.Native.Nat.{ℕ, _≤_}
 use native.Mathlib.Omega.{arith}
 use lib.ListN.{length}
 use Rattle.rules.specs.Guide.{fresh}
-use Rattle.rules.specs.Model.{Model, watermark, ready, greatest, place-one, keep, queue, push, off, rest, with-set, with-add, settle-all, initial}
+use Rattle.rules.specs.Model.{Model, watermark, ready, greatest, place-one, keep, queue, push, off, rest, with-set, with-add, initial}
 use Rattle.rules.specs.Calls.{Call, set, add, answer, step, run}
 use Rattle.laws.specs.ModelInv.{Inv, place-one-inv, record-inv}
 use Rattle.laws.specs.CascadeInv.{off-inv, push-from}
 use Rattle.laws.specs.CallInv.{with-set-inv, queued-inv, flush-inv, initial-inv, add-stack}
-use Rattle.laws.specs.Kept.{Kept, every, equivalent, settle-kept, step-kept, step-noted, initial-noted}
+use Rattle.laws.specs.Kept.{Kept, every, equivalent, step-kept, step-noted, initial-noted}
 use Rattle.laws.specs.Balance.{Balance, balance-kept, balance-initial}
 use Rattle.laws.specs.Apart.{Apart, apart-kept, apart-initial}
 use Rattle.laws.specs.Delaying.{Delaying, delaying-kept, delaying-initial}
@@ -118,9 +118,6 @@ module _ (P N W : ℕ) (hP : 1 ≤ P) where
   -- the same for a caller that has `Sound` alone
   pub sound-placing : (c r : ℕ) (st : List ℕ) (k : Model) → c ≤ length (k .adds) → Sound P N W k (r ∷ st) → Sound P N W (rest N (place-one P c r k)) (push (off N (place-one P c r k)) st)
   sound-placing c r st k l s = sound-kept .placing c r st k l (s .inv) s
-
-  pub sound-settled : (c : ℕ) (st : List ℕ) (k : Model) → c ≤ length (k .adds) → Sound P N W k st → Sound P N W (settle-all P N c st k) []
-  sound-settled c st k l s = settle-kept P N W hP (Sound P N W) sound-kept c st k l (s .inv) s
 
   pub sound-setting : (x : ℕ) (k : Model) → answer N W (set x) k ≡ 0 → Sound P N W k [] → Sound P N W (rest N (with-set x k)) (off N (with-set x k))
   sound-setting x k a s = sound-kept .setting x k (s .inv) a s

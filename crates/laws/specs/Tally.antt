@@ -40,7 +40,12 @@ count-sum : (P : ℕ) (l : List Entry) (t : List ℕ) → length t ≡ P + 1 →
 unfolding tallied
 count-sum P [] t h f = omega arith
 count-sum P (x ∷ l) t h f =
-    omega (arith, count-sum P l (set t (x .parallelism) (getD t (x .parallelism) 0 + 1)) (rw length-set h) (λ j i. f (suc j) (omega arith)), sum-set t (x .parallelism) (omega (arith, f 0 (omega arith))))
+    omega (
+      arith,
+      count-sum P l (set t (x .parallelism) (getD t (x .parallelism) 0 + 1)) (rw length-set h) (λ j i. f (suc j) (omega arith)),
+      sum-set t (x .parallelism)
+          (omega (arith, f 0 (omega arith))),
+    )
 
 count-each : (P p : ℕ) (l : List Entry) (t : List ℕ) → length t ≡ P + 1 → AtMost P l → getD (tallied t l) p 0 ≡ getD t p 0 + having p l
 unfolding tallied having
@@ -49,7 +54,8 @@ count-each P p (x ∷ l) t h f =
     omega (arith, count-each P p l (set t (x .parallelism) (getD t (x .parallelism) 0 + 1)) (rw length-set h) (λ j i. f (suc j) (omega arith)), one (eq-or-ne p (x .parallelism)))
   where
     one : (p ≡ x .parallelism) ⊎ (p ≢ x .parallelism) → getD (set t (x .parallelism) (getD t (x .parallelism) 0 + 1)) p 0 ≡ getD t p 0 + one-of p (x .parallelism)
-    one (inl e) = rw (one-same p (x .parallelism) e, ap (λ i. getD t i 0) e, ap (λ i. getD (set t (x .parallelism) (getD t (x .parallelism) 0 + 1)) i 0) e) (getD-set-same t (x .parallelism) _ 0 (omega (arith, f 0 (omega arith))))
+    one (inl e) = rw (one-same p (x .parallelism) e, ap (λ i. getD t i 0) e, ap (λ i. getD (set t (x .parallelism) (getD t (x .parallelism) 0 + 1)) i 0) e)
+        (getD-set-same t (x .parallelism) _ 0 (omega (arith, f 0 (omega arith))))
     one (inr e) = omega (arith, one-other p (x .parallelism) e, getD-set-other t (x .parallelism) p (getD t (x .parallelism) 0 + 1) 0 e)
 
 module _ (P : ℕ) (l : List Entry) (f : AtMost P l) where

@@ -31,7 +31,15 @@ module _ (P : ℕ) (H : List (List Item)) (hP : 1 ≤ P) (cap : (s : ℕ) → le
       go (inl i) j = past (lt-or-le (suc s) t)
         where
           past : (suc s < t) ⊎ (t ≤ suc s) → start H s + q + flat P (len H s) (len H (suc s)) q ≤ start H t + r + flat P (len H t) (len H (suc t)) r
-          past (inl k) = omega (arith, start-suc H s, start-suc H (suc s), start-mono H (suc (suc s)) t k, reach-high P (len H s) (len H (suc s)) q hP hq, reach-low P (len H t) (len H (suc t)) r hP hr)
+          past (inl k) = omega (
+            arith,
+            start-suc H s,
+            start-suc H (suc s),
+            start-mono H (suc (suc s)) t k,
+            reach-high P (len H s) (len H (suc s)) q hP hq,
+            reach-low P (len H t)
+                (len H (suc t)) r hP hr,
+          )
           past (inr k) =
               let e : suc s ≡ t = omega arith in
               let l = reach-low P (len H t) (len H (suc t)) r hP hr in

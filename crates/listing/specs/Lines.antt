@@ -1,75 +1,64 @@
 -- Laws of writing a listing: an entry's line by its fields, the lines one after another, the floor, the head. Assumes nothing.
 use mathlib.Core.List.{List, [], _∷_, _++_, append-assoc, append-nil}
 use mathlib.Core.Path.{_≡_, refl, sym, ap, _∙_, subst}
-use Prim.Native.Nat.{ℕ, zero, suc, _+_, _-_, _*_, _≤_, _<_, _^_, min}
+use Prim.Native.Nat.{ℕ, suc, _+_, _-_, _*_, _≤_, _<_, min}
 use native.Mathlib.Numerals.{add-one}
 use native.Mathlib.Omega.{arith}
-use lib.ListN.{length, length-append, getD}
-use Rattle.rules.specs.Guide.{Item, Entry}
-use Rattle.rules.specs.Listing.{field, line, floor, entry-line, rejection, word-status, word-line, word-entries, word-places, word-floor, word-median, word-order, word-added, word-accepted, word-parallelism, word-written}
+use lib.ListN.{length}
+use Rattle.rules.specs.Guide.{Entry as OrderEntry}
+use Rattle.rules.specs.Listing.{field, line, floor, entry-line, rejection, word-status, word-line, word-entries, word-places, word-floor}
+use Rattle.rules.specs.Listing.{word-median, word-order, word-added, word-accepted, word-parallelism, word-written}
+use Rattle.entries.specs.declared.Entry.{Entry}
+use Rattle.entries.specs.Entries.{entry-at, entry-of, item-of}
 use Rattle.writer.specs.Wrote.{Wrote, wrote-then, wrote-none}
-use Rattle.writer.specs.Lines.{line-few, field-few, length-field, length-line}
-use Rattle.listing.specs.Listed.{entry-in, entries-from, line-at, lines-from, listed}
+use Rattle.listing.specs.Listed.{line-bytes, entries-from, line-in, lines-from, listed}
 
 -- an entry's line, by its fields; the last is a line
-pub wrote-entry : {o a b c d e : List ℕ} {at p q r s t : ℕ} (index added accepted parallelism written : ℕ)
-    → Wrote o a at p (field word-order index) → Wrote a b p q (field word-added added) → Wrote b c q r (field word-accepted accepted)
-    → Wrote c d r s (field word-parallelism parallelism) → Wrote d e s t (line word-written written)
-    → Wrote o e at t (line-at index added accepted parallelism written)
-unfolding line-at entry-line line
-wrote-entry index added accepted parallelism written v w x y z = wrote-then v (wrote-then w (wrote-then x (wrote-then y z)))
-
--- it has at most 96 bytes
-pub line-short : (index added accepted parallelism written : ℕ) → index < 2 ^ 32 → added < 2 ^ 32 → accepted < 2 ^ 32 → parallelism < 2 ^ 32 → written < 2 ^ 32
-    → length (line-at index added accepted parallelism written) ≤ 96
-unfolding line-at entry-line
-line-short index added accepted parallelism written a b c d e =
-    simp length-append (omega (arith, field-few word-order index a, field-few word-added added b, field-few word-accepted accepted c, field-few word-parallelism parallelism d, field-few word-written written e))
+pub wrote-entry : {o a b c d f : List ℕ} {at p q r s t : ℕ} (index : ℕ) (e : Entry) (written : ℕ)
+    → Wrote o a at p (field word-order index) → Wrote a b p q (field word-added (e .added)) → Wrote b c q r (field word-accepted (e .accepted))
+    → Wrote c d r s (field word-parallelism (e .parallelism)) → Wrote d f s t (line word-written written)
+    → Wrote o f at t (entry-line index (entry-of e) written)
+unfolding entry-line entry-of item-of line
+wrote-entry index e written v w x y z = wrote-then v (wrote-then w (wrote-then x (wrote-then y z)))
 
 -- a loop over the entries: i of them are written, and the others are left
-pub more : (o rows : List ℕ) (i n : ℕ) → i < n
-    → lines-from o rows i (n - i)
-    ≡ line-at i (getD o (4 * i + 1) 0) (getD o (4 * i + 2) 0) (getD o (4 * i + 3) 0) (getD rows (5 * getD o (4 * i + 1) 0 + 2) 0) ++ lines-from o rows (i + 1) (n - (i + 1))
+more : (o rows : List ℕ) (i n : ℕ) → i < n → lines-from o rows i (n - i) ≡ line-in o rows i ++ lines-from o rows (i + 1) (n - (i + 1))
 unfolding lines-from
 more o rows i n h = let e : n - i ≡ suc (n - (i + 1)) = omega arith in rw (e, add-one i)
 
-pub none-left : (o rows : List ℕ) (i n : ℕ) → n ≤ i → lines-from o rows i (n - i) ≡ []
+none-left : (o rows : List ℕ) (i n : ℕ) → n ≤ i → lines-from o rows i (n - i) ≡ []
 unfolding lines-from
 none-left o rows i n h = let e : n - i ≡ 0 = omega arith in rw e
 
-pub none-yet : (o rows : List ℕ) (n : ℕ) → lines-from o rows 0 (n - 0) ≡ lines-from o rows 0 n
+none-yet : (o rows : List ℕ) (n : ℕ) → lines-from o rows 0 (n - 0) ≡ lines-from o rows 0 n
 none-yet o rows n = ap (lines-from o rows 0) (omega arith)
 
--- where the loop stands: the text of the first i entries is written, up to `end`; each took at most 96 bytes
+-- where the loop stands: the text of the first i entries is written, up to `end`
 pub record Writing (o rows : List ℕ) (n at i : ℕ) (entry out : List ℕ) (end : ℕ) : Type 0 where
   pub text : List ℕ
   pub upto : i ≤ n
   pub same : length out ≡ length entry
   pub wrote : Wrote entry out at end text
   pub left : text ++ lines-from o rows i (n - i) ≡ lines-from o rows 0 n
-  pub short : end ≤ at + 96 * i
+  pub short : end ≤ at + line-bytes * i
 
 pub writing-begins : (o rows : List ℕ) (n at : ℕ) (out : List ℕ) → Writing o rows n at 0 out out at
 writing-begins o rows n at out =
     record { text = []; upto = omega arith; same = refl; wrote = wrote-none out at; left = none-yet o rows n; short = omega arith }
 
--- an entry's line as it is read from storage
-abbrev pub line-of-entry : List ℕ → List ℕ → ℕ → List ℕ
-line-of-entry o rows i = line-at i (getD o (4 * i + 1) 0) (getD o (4 * i + 2) 0) (getD o (4 * i + 3) 0) (getD rows (5 * getD o (4 * i + 1) 0 + 2) 0)
-
 pub writes-on : {o rows : List ℕ} {n at i : ℕ} {entry out : List ℕ} {end : ℕ} → Writing o rows n at i entry out end → i < n
-    → {next : List ℕ} {r : ℕ} → length next ≡ length out → Wrote out next end r (line-of-entry o rows i) → length (line-of-entry o rows i) ≤ 96
+    → {next : List ℕ} {r : ℕ} → length next ≡ length out → Wrote out next end r (line-in o rows i) → r ≤ end + line-bytes
     → Writing o rows n at (i + 1) entry next r
 writes-on {o} {rows} {n} {at} {i} {entry} {out} {end} w h {next} {r} l x few =
     record {
-      text = w .text ++ line-of-entry o rows i;
+      text = w .text ++ line-in o rows i;
       upto = omega arith;
       same = l ∙ w .same;
       wrote = wrote-then (w .wrote) x;
       left =
-          append-assoc (w .text) (line-of-entry o rows i) (lines-from o rows (i + 1) (n - (i + 1)))
+          append-assoc (w .text) (line-in o rows i) (lines-from o rows (i + 1) (n - (i + 1)))
           ∙ ap (λ (t : List ℕ). w .text ++ t) (sym (more o rows i n h)) ∙ w .left;
-      short = omega (arith, w .short, x .next, few);
+      short = omega (arith, w .short, few);
     }
 
 pub written-all : {o rows : List ℕ} {n at i : ℕ} {entry out : List ℕ} {end : ℕ} → Writing o rows n at i entry out end → n ≤ i
@@ -80,20 +69,20 @@ written-all {o} {rows} {n} {at} {i} {entry} {out} {end} w h =
     (w .wrote)
 
 -- the floor: the least so far with that of the entries left
-unfoldable pub least-of : ℕ → List Entry → ℕ
+unfoldable pub least-of : ℕ → List OrderEntry → ℕ
 least-of m [] = m
 least-of m (e ∷ es) = min m (floor (e ∷ es))
 
-floor-cons : (e : Entry) (es : List Entry) → floor (e ∷ es) ≡ least-of (e .parallelism) es
+floor-cons : (e : OrderEntry) (es : List OrderEntry) → floor (e ∷ es) ≡ least-of (e .parallelism) es
 unfolding floor least-of
 floor-cons e [] = refl
 floor-cons e (f ∷ es) = refl
 
-least-cons : (m : ℕ) (e : Entry) (es : List Entry) → least-of m (e ∷ es) ≡ least-of (min m (e .parallelism)) es
+least-cons : (m : ℕ) (e : OrderEntry) (es : List OrderEntry) → least-of m (e ∷ es) ≡ least-of (min m (e .parallelism)) es
 unfolding least-of
 least-cons m e es = ap (min m) (floor-cons e es) ∙ go es
   where
-    go : (es : List Entry) → min m (least-of (e .parallelism) es) ≡ least-of (min m (e .parallelism)) es
+    go : (es : List OrderEntry) → min m (least-of (e .parallelism) es) ≡ least-of (min m (e .parallelism)) es
     go [] = refl
     go (f ∷ es) = three m (e .parallelism) (floor (f ∷ es))
       where
@@ -101,31 +90,31 @@ least-cons m e es = ap (min m) (floor-cons e es) ∙ go es
         three a b c = omega arith
 
 module _ (o : List ℕ) (n : ℕ) where
-  pub floor-begins : (n ≡ 0 → ⊥) → floor (entries-from o 0 n) ≡ least-of (getD o 3 0) (entries-from o 1 (n - 1))
-  unfolding entries-from
+  pub floor-begins : (n ≡ 0 → ⊥) → floor (entries-from o 0 n) ≡ least-of (entry-at o 0 .parallelism) (entries-from o 1 (n - 1))
+  unfolding entry-of
   floor-begins h = let e : n ≡ suc (n - 1) = omega (arith, h) in ap (λ (k : ℕ). floor (entries-from o 0 k)) e ∙ floor-cons _ _
 
-  floor-turn : (i m : ℕ) → i < n → least-of m (entries-from o i (n - i)) ≡ least-of (min m (getD o (4 * i + 3) 0)) (entries-from o (i + 1) (n - (i + 1)))
-  unfolding entries-from
-  floor-turn i m h = let e : n - i ≡ suc (n - (i + 1)) = omega arith in rw (e, add-one i) (least-cons m (entry-in o i) (entries-from o (suc i) (n - suc i)))
+  floor-turn : (i m : ℕ) → i < n → least-of m (entries-from o i (n - i)) ≡ least-of (min m (entry-at o i .parallelism)) (entries-from o (i + 1) (n - (i + 1)))
+  unfolding entry-of
+  floor-turn i m h = let e : n - i ≡ suc (n - (i + 1)) = omega arith in rw (e, add-one i) (least-cons m (entry-of (entry-at o i)) (entries-from o (suc i) (n - suc i)))
 
   -- y is the least after the turn
   module _ (i m y x : ℕ) (h : i < n) (e : x ≡ least-of m (entries-from o i (n - i))) where
-    on-by : y ≡ min m (getD o (4 * i + 3) 0) → x ≡ least-of y (entries-from o (i + 1) (n - (i + 1)))
+    on-by : y ≡ min m (entry-at o i .parallelism) → x ≡ least-of y (entries-from o (i + 1) (n - (i + 1)))
     on-by k = e ∙ floor-turn i m h ∙ ap (λ (z : ℕ). least-of z (entries-from o (i + 1) (n - (i + 1)))) (sym k)
 
-    pub floor-less : getD o (4 * i + 3) 0 < m → y ≡ getD o (4 * i + 3) 0 → x ≡ least-of y (entries-from o (i + 1) (n - (i + 1)))
+    pub floor-less : entry-at o i .parallelism < m → y ≡ entry-at o i .parallelism → x ≡ least-of y (entries-from o (i + 1) (n - (i + 1)))
     floor-less lt k = on-by (omega arith)
 
-    pub floor-same : m ≤ getD o (4 * i + 3) 0 → y ≡ m → x ≡ least-of y (entries-from o (i + 1) (n - (i + 1)))
+    pub floor-same : m ≤ entry-at o i .parallelism → y ≡ m → x ≡ least-of y (entries-from o (i + 1) (n - (i + 1)))
     floor-same le k = on-by (omega arith)
 
   pub floor-ends : (i m x : ℕ) → n ≤ i → x ≡ least-of m (entries-from o i (n - i)) → m ≡ x
-  unfolding entries-from least-of
+  unfolding least-of
   floor-ends i m x h e = let k : n - i ≡ 0 = omega arith in sym (e ∙ ap (λ (y : ℕ). least-of m (entries-from o i y)) k)
 
 pub floor-none : (o : List ℕ) (n : ℕ) → n ≡ 0 → 0 ≡ floor (entries-from o 0 n)
-unfolding entries-from floor
+unfolding floor
 floor-none o n e = ap (λ (k : ℕ). floor (entries-from o 0 k)) (sym e)
 
 -- the head's lines, then the entries'

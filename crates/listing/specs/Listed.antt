@@ -1,35 +1,34 @@
--- The listing as it is written from storage: the order has four numbers an entry (value, added, accepted, parallelism), a row five (added,
--- accepted, written, order index, parallelism). That it is document 01's listing of the model is in Model. Assumes nothing.
-use mathlib.Core.List.{List, [], _∷_, _++_}
-use Prim.Native.Nat.{ℕ, zero, suc, _+_, _*_, _≤_, _<_, _^_}
-use lib.ListN.{length, getD}
-use Rattle.rules.specs.Guide.{Item, Entry}
+-- The listing as it is written from storage, in which entries and rows lie as crates entries and records have them. That it is document
+-- 01's listing of the model is in Model. Assumes nothing.
+use mathlib.Core.List.{List, [], _++_, map}
+use Prim.Native.Nat.{ℕ, zero, suc, _<_, _^_}
+use Rattle.rules.specs.Guide.{Entry}
 use Rattle.rules.specs.Listing.{line, floor, entry-line, word-status, word-entries, word-places, word-floor, word-median}
+use Rattle.entries.specs.Entries.{entry-at, entry-of, row, fits}
+use Rattle.records.specs.Filling.{has-row, written-at}
 
--- the entry at index i of the order's storage
-abbrev pub entry-in : List ℕ → ℕ → Entry
-entry-in o i =
-    record {
-      item = record { value = getD o (4 * i) 0; added = getD o (4 * i + 1) 0; accepted = getD o (4 * i + 2) 0 };
-      parallelism = getD o (4 * i + 3) 0;
-    }
+-- bytes that suffice for the head of a listing, for an entry's line, and for what a refused job prints
+abbrev pub head-bytes : ℕ
+head-bytes = 256
 
--- n entries from index i on
-unfoldable pub entries-from : List ℕ → ℕ → ℕ → List Entry
-entries-from o i zero = []
-entries-from o i (suc n) = entry-in o i ∷ entries-from o (suc i) n
+abbrev pub line-bytes : ℕ
+line-bytes = 96
 
--- an entry's line, by its numbers
-unfoldable pub line-at : ℕ → ℕ → ℕ → ℕ → ℕ → List ℕ
-line-at index added accepted parallelism written =
-    entry-line index (record { item = record { value = 0; added = added; accepted = accepted }; parallelism = parallelism }) written
+abbrev pub rejection-bytes : ℕ
+rejection-bytes = 64
 
--- the lines of n entries from index i on, each with its row's written
+-- n entries of the order from index i on
+abbrev pub entries-from : List ℕ → ℕ → ℕ → List Entry
+entries-from o i n = map entry-of (row o i n)
+
+-- the line of the entry at index i, with its row's written
+abbrev pub line-in : List ℕ → List ℕ → ℕ → List ℕ
+line-in o rows i = entry-line i (entry-of (entry-at o i)) (written-at rows (entry-at o i .added))
+
+-- the lines of n entries from index i on
 unfoldable pub lines-from : List ℕ → List ℕ → ℕ → ℕ → List ℕ
 lines-from o rows i zero = []
-lines-from o rows i (suc n) =
-    line-at i (getD o (4 * i + 1) 0) (getD o (4 * i + 2) 0) (getD o (4 * i + 3) 0) (getD rows (5 * getD o (4 * i + 1) 0 + 2) 0)
-    ++ lines-from o rows (suc i) n
+lines-from o rows i (suc n) = line-in o rows i ++ lines-from o rows (suc i) n
 
 -- the whole listing
 unfoldable pub listed : List ℕ → List ℕ → ℕ → ℕ → ℕ → List ℕ
@@ -40,6 +39,6 @@ listed o rows n places median =
 
 -- the storage holds n entries, and the row of each
 pub record Ready (o rows : List ℕ) (n : ℕ) : Type 0 where
-  pub entries : 4 * n ≤ length o
+  pub entries : fits o n
   pub few : n < 2 ^ 32
-  pub row : (i : ℕ) → i < n → 5 * getD o (4 * i + 1) 0 + 5 ≤ length rows
+  pub row : (i : ℕ) → i < n → has-row rows (entry-at o i .added)

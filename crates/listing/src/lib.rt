@@ -1,71 +1,50 @@
 // The listing of an accepted job from the session's order and rows, and what a refused job prints.
 ghost use mathlib.Core.Path.{_≡_};
-ghost use Prim.Native.Nat.{ℕ, _+_, _*_, _≤_, _<_};
+ghost use Prim.Native.Nat.{_+_, _*_, _≤_, _<_, _^_};
 ghost use lib.ListN.{length};
-ghost use Rattle.rules.specs.Listing.{floor as Listing·floor, rejection};
+ghost use Rattle.rules.specs.Listing.{floor as Listing·floor, entry-line, rejection};
+ghost use Rattle.entries.specs.Entries.{entry-of, fits};
 ghost use Rattle.writer.specs.Wrote.{Wrote};
-ghost use Rattle.listing.specs.Listed.{entries-from, line-at, lines-from, listed, Ready};
+ghost use Rattle.listing.specs.Listed.{head-bytes, line-bytes, rejection-bytes, entries-from, lines-from, listed, Ready};
+use entries::Entry;
 
-fn place(x: u32) -> usize
-    ensures { λ r. ⌜ r ≡ x ⌝ }
-{
-    x as usize
-}
-
-// An entry's line of at most 96 bytes: its order index, added, accepted and parallelism, and its row's written.
-fn put_entry(
-    out: &mut [u8],
-    at: usize,
-    index: u64,
-    added: u32,
-    accepted: u32,
-    parallelism: u32,
-    written: u32,
-) -> usize
-    requires { ⌜ (index < 4294967296) × (at + 96 ≤ length (now out)) ⌝ }
-    ensures { λ r. ⌜ Wrote (now (out .entry)) (now (out .exit)) at r (line-at index added accepted parallelism written) ⌝ }
+// An entry's line: its order index, added, accepted and parallelism, and its row's written.
+fn put_entry(out: &mut [u8], at: usize, index: u64, e: Entry, written: u32) -> usize
+    requires { ⌜ (index < 2 ^ 32) × (at + line-bytes ≤ length (now out)) ⌝ }
+    ensures { λ r. ⌜ (Wrote (now (out .entry)) (now (out .exit)) at r (entry-line index (entry-of e) written)) × (r ≤ at + line-bytes) ⌝ }
 {
     let a = writer::put_field(out, at, b"order=", index);
-    let b = writer::put_field(out, a, b" added=", added as u64);
-    let c = writer::put_field(out, b, b" accepted=", accepted as u64);
-    let d = writer::put_field(out, c, b" parallelism=", parallelism as u64);
+    let b = writer::put_field(out, a, b" added=", e.added as u64);
+    let c = writer::put_field(out, b, b" accepted=", e.accepted as u64);
+    let d = writer::put_field(out, c, b" parallelism=", e.parallelism as u64);
     writer::put_line(out, d, b" written=", written as u64)
 }
 
 // The lines of the first n entries, one after another.
-fn put_entries(out: &mut [u8], at: usize, order: &[u32], rows: &[u32], n: usize) -> usize
-    requires { ⌜ (Ready (now order) (now rows) n) × (at + 96 * n ≤ length (now out)) ⌝ }
+fn put_entries(order: &[u32], rows: &[u32], out: &mut [u8], at: usize, n: usize) -> usize
+    requires { ⌜ (Ready (now order) (now rows) n) × (at + line-bytes * n ≤ length (now out)) ⌝ }
     ensures { λ r. ⌜ Wrote (now (out .entry)) (now (out .exit)) at r (lines-from (now (order .entry)) (now (rows .entry)) 0 n) ⌝ }
 {
     let mut end = at;
     for i in 0..n {
-        let e = 4 * i;
-        let added = order[e + 1];
-        let row = 5 * place(added);
-        end = put_entry(
-            out,
-            end,
-            i as u64,
-            added,
-            order[e + 2],
-            order[e + 3],
-            rows[row + 2],
-        );
+        let e = entries::load(order, i);
+        let written = records::written_of(rows, e.added);
+        end = put_entry(out, end, i as u64, e, written);
     }
     end
 }
 
 // The smallest parallelism of the first n entries, 0 where there are none.
 pub fn floor(order: &[u32], n: usize) -> u32
-    requires { ⌜ 4 * n ≤ length (now order) ⌝ }
+    requires { ⌜ fits (now order) n ⌝ }
     ensures { λ r. ⌜ r ≡ Listing·floor (entries-from (now (order .entry)) 0 n) ⌝ }
 {
     if n == 0 {
         return 0;
     }
-    let mut least = order[3];
+    let mut least = entries::parallelism_at(order, 0);
     for i in 1..n {
-        let p = order[4 * i + 3];
+        let p = entries::parallelism_at(order, i);
         if p < least {
             least = p;
         }
@@ -75,14 +54,14 @@ pub fn floor(order: &[u32], n: usize) -> u32
 
 // An accepted job's listing, from the start of `out` on.
 pub fn put_listing(
-    out: &mut [u8],
     order: &[u32],
     rows: &[u32],
+    out: &mut [u8],
     n: usize,
     places: u32,
     median: u32,
 ) -> usize
-    requires { ⌜ (Ready (now order) (now rows) n) × (256 + 96 * n ≤ length (now out)) ⌝ }
+    requires { ⌜ (Ready (now order) (now rows) n) × (head-bytes + line-bytes * n ≤ length (now out)) ⌝ }
     ensures { λ r. ⌜ Wrote (now (out .entry)) (now (out .exit)) 0 r (listed (now (order .entry)) (now (rows .entry)) n places median) ⌝ }
 {
     let least = floor(order, n);
@@ -91,12 +70,12 @@ pub fn put_listing(
     let c = writer::put_line(out, b, b"places=", places as u64);
     let d = writer::put_line(out, c, b"floor=", least as u64);
     let e = writer::put_line(out, d, b"median=", median as u64);
-    put_entries(out, e, order, rows, n)
+    put_entries(order, rows, out, e, n)
 }
 
 // What a refused job prints: its number and its line.
 pub fn put_rejection(out: &mut [u8], line: u64, code: u64) -> usize
-    requires { ⌜ 64 ≤ length (now out) ⌝ }
+    requires { ⌜ rejection-bytes ≤ length (now out) ⌝ }
     ensures { λ r. ⌜ Wrote (now (out .entry)) (now (out .exit)) 0 r (rejection line code) ⌝ }
 {
     let a = writer::put_line(out, 0, b"status=", code);

@@ -3,17 +3,15 @@ use mathlib.Core.Path.{_≡_, refl, sym}
 use mathlib.Core.Logic.{_⊎_, inl, inr}
 use mathlib.Core.List.{List, [], _∷_, _++_}
 use mathlib.Core.Bool.{true, false, false≢true}
-use Prim.Native.Nat.{ℕ, _+_, _≤_, _<_}
+use Prim.Native.Nat.{ℕ, _≤_, _<_}
 use native.Mathlib.Omega.{arith}
 use lib.Dec.{leb}
 use lib.ListN.{length}
 use borrow.Author.Tests.{leb-false, lt-leb, lt-ltb, le-ltb}
-use Rattle.rules.specs.Model.{Model, greatest, ready, reg-of}
+use Rattle.rules.specs.Model.{greatest, ready}
 use Rattle.rules.specs.Checks.{any}
 use Rattle.laws.specs.ModelBase.{bool-cases}
-use Rattle.lists.specs.Part.{Below, below-at}
-use Rattle.lists.specs.Lists.{Storable, Lists}
-use Rattle.lists.specs.ListLaws.{Parts, parts, reg-is}
+use Rattle.lists.specs.Part.{Below}
 
 -- check 5 passed: every place is below N
 pub any-below : (N : ℕ) (xs : List ℕ) → any (λ x. leb N x) xs ≡ false → Below N xs
@@ -34,10 +32,6 @@ pub below-append : (N : ℕ) (a b : List ℕ) → Below N (a ++ b) → Below N a
 unfolding Below
 below-append N [] b h = (tt, h)
 below-append N (x ∷ a) b h = let r = below-append N a b (h .1) in ((h .0, r .0), r .1)
-
--- places fit the pool
-pub storable-of : (N : ℕ) (pool : List ℕ) (at : ℕ) (xs : List ℕ) → N ≤ 4294967296 → at + length xs ≤ length pool → Below N xs → Storable pool at xs
-storable-of N pool at xs h room b = record { room = room; fits = λ j k. omega (arith, below-at N xs b j k) }
 
 -- the greatest of places below N is below N
 pub greatest-below : (N : ℕ) (xs : List ℕ) → 0 < N → Below N xs → greatest xs < N
@@ -65,8 +59,3 @@ pub ready-high : (m : ℕ) (xs : List ℕ) → (length xs ≡ 0 → ⊥) → m �
 unfolding ready
 ready-high m [] n h = absurd (n refl)
 ready-high m (x ∷ xs) n h = le-ltb (greatest (x ∷ xs)) m h
-
--- what is read of registration r is the model's
-pub parts-of : (N : ℕ) (k : Model) (used : ℕ) (w pool : List ℕ) → Lists N (k .adds) used w pool → (r : ℕ) → r < length (k .adds)
-    → Parts w N r (length (k .adds)) used pool (reg-of k r)
-parts-of N k used w pool l r h = rw (reg-is k r h) (parts N (k .adds) used w pool l r h)

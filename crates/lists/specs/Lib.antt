@@ -1,9 +1,4 @@
--- Lists of places: how they lie in the pool, the flags of taken places, and the laws of both.
+-- Lists of places: how they lie in the pool, the loops over them, and what the checks of a call's lists tell.
 pub mod Part
-pub mod Flags
 pub mod Scan
-pub mod FlagLaws
-pub mod Lists
-pub mod ListLaws
 pub mod Arguments
-pub mod ClaimLaws

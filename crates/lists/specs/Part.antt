@@ -1,6 +1,6 @@
 -- A list of places as it lies in the pool: the n numbers from `at` on. With it, what a loop over such a list has left to do.
 -- Assumes nothing.
-use mathlib.Core.Path.{_≡_, sym, ap, _∙_}
+use mathlib.Core.Path.{_≡_}
 use mathlib.Core.List.{List, [], _∷_}
 use Prim.Native.Nat.{ℕ, zero, suc, _+_, _-_, _≤_, _<_}
 use native.Mathlib.Nat.{add-zero, sub-zero}
@@ -56,7 +56,7 @@ unfolding Below
 at-below N [] h = tt
 at-below N (x ∷ xs) h = (h 0 (omega arith), at-below N xs (λ j k. h (suc j) (omega arith)))
 
--- a list that lies in the pool with numbers below N is listed there, and the other way round
+-- a list that lies in the pool with numbers below N is listed there
 pub listed-of : (pool : List ℕ) (at n N m : ℕ) → at + n ≤ length pool → Below N (part pool at n) → N ≤ m → Listed pool at n m
 listed-of pool at n N m h b k =
     record {
@@ -65,17 +65,3 @@ listed-of pool at n N m h b k =
           let x = below-at N (part pool at n) b j (omega (arith, part-length pool at n h)) in
           omega (arith, part-at pool at n h j l);
     }
-
-pub listed-below : (pool : List ℕ) (at n m : ℕ) → Listed pool at n m → Below m (part pool at n)
-listed-below pool at n m l =
-    at-below m (part pool at n) (λ j k.
-    let q : j < n = omega (arith, part-length pool at n (l .inside)) in
-    let x = l .places j q in
-    omega (arith, part-at pool at n (l .inside) j q))
-
--- lists with the same first numbers, or the same last ones
-pub same-take : (n : ℕ) (a b : List ℕ) → take n a ≡ take n b → (i : ℕ) → i < n → getD a i 0 ≡ getD b i 0
-same-take n a b e i h = sym (getD-take n a i 0 h) ∙ ap (λ (l : List ℕ). getD l i 0) e ∙ getD-take n b i 0 h
-
-pub same-drop : (n : ℕ) (a b : List ℕ) → drop n a ≡ drop n b → (i : ℕ) → getD a (n + i) 0 ≡ getD b (n + i) 0
-same-drop n a b e i = sym (getD-drop n a i 0) ∙ ap (λ (l : List ℕ). getD l i 0) e ∙ getD-drop n b i 0

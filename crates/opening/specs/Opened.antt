@@ -1,60 +1,58 @@
 -- A fresh session over storage that was cleared where it must be: it stands for the model at the start. What opening promises, and the
 -- promise from the zeros. Assumes nothing.
 use mathlib.Core.Path.{_≡_, refl, sym, ap, _∙_, subst}
-use mathlib.Core.List.{List, [], _∷_}
-use mathlib.Core.Bool.{Bool, true, false, _||_}
-use Prim.Native.Nat.{ℕ, zero, suc, _+_, _*_, _/_, _≤_, _<_}
+use mathlib.Core.List.{List}
+use mathlib.Core.Bool.{false}
+use Prim.Native.Nat.{ℕ, zero, suc, _+_, _/_, _≤_, _<_}
 use native.Mathlib.Omega.{arith}
 use lib.Dec.{ltb}
-use lib.ListN.{length, getD, take, drop, replicate, length-take, length-replicate, getD-replicate}
-use lib.Seq.{getD-take, getD-drop, ext-getD}
+use lib.ListN.{length, getD, take, replicate, length-take, length-replicate, getD-replicate}
+use lib.Seq.{getD-take, ext-getD}
 use borrow.Author.Tests.{ltb-false}
 use Rattle.rules.specs.Guide.{fresh}
-use Rattle.rules.specs.Checks.{pooled, Check, verdict, any, Sizes, check-open, check-range, too-short}
-use Rattle.rules.specs.Model.{Model, initial, watermark, run-from, tracked, member, marked}
+use Rattle.rules.specs.Limits.{most-parallelism, most-places}
+use Rattle.rules.specs.Checks.{pooled, verdict, any, Sizes, spans-needed, waiting-needed, check-open, check-range, too-short}
+use Rattle.rules.specs.Model.{initial, watermark as watermark-of, run-from, tracked, member, marked}
 use Rattle.laws.specs.Accepted.{verdict-head, or-false}
 use Rattle.tracking.specs.Places.{places-open}
-use Rattle.lists.specs.ListLaws.{lists-open}
-use Rattle.lists.specs.FlagLaws.{flags-open}
+use Rattle.pool.specs.ListLaws.{lists-open}
+use Rattle.taken.specs.FlagLaws.{flags-open}
 use Rattle.registrar.specs.Keeps.{delayed-open}
 use Rattle.guide.specs.Fresh.{first-guide, fresh-stands, fresh-view}
 use Rattle.rules.specs.Record.{row-of}
+use Rattle.entries.specs.Entries.{entry-size, capacity, fits}
+use Rattle.records.specs.Filling.{row-size, row-extent, row-capacity, rows-fit}
 use Rattle.records.specs.Filled.{blank-rows}
 use Rattle.zeros.specs.Zeros.{Cleared}
+use Rattle.waiting.specs.Cleared.{Emptied}
 use Rattle.session.specs.declared.Session.{Session}
-use Rattle.session.specs.Storage.{Storage, storage, Beyond, Frame, beyond-refl, beyond-drop, beyond-trans}
+use Rattle.placing.specs.Slices.{Borrowed}
+use Rattle.session.specs.Storage.{Storage, storage, Frame, beyond-refl, beyond-drop}
 use Rattle.session.specs.Rep.{Rep}
 
--- the lengths of storage, in entries where it holds entries
+-- lengths of storage, in entries and rows where it holds those
+abbrev pub sizes-of : ℕ → ℕ → ℕ → ℕ → ℕ → ℕ → ℕ → Sizes
+sizes-of spans order rows marks locations waiting tally =
+    record { spans = spans / entry-size; order = order / entry-size; rows = rows / row-size; marks = marks; locations = locations; waiting = waiting; tally = tally }
+
 abbrev pub sizes : Storage → Sizes
-sizes σ =
-    record {
-      spans = length (σ .spans) / 4;
-      order = length (σ .order) / 4;
-      rows = length (σ .rows) / 5;
-      marks = length (σ .marks);
-      locations = length (σ .locations);
-      waiting = length (σ .waiting);
-      tally = length (σ .tally);
-    }
+sizes σ = sizes-of (length (σ .spans)) (length (σ .order)) (length (σ .rows)) (length (σ .marks)) (length (σ .locations)) (length (σ .waiting)) (length (σ .tally))
 
 -- a session just opened
 abbrev pub first-session : ℕ → ℕ → Session
 first-session P N =
-    record { guide = first-guide P N; lead = 0; added = 0; used = 0; delayed = 0; flushes = 0; closed = false; registrations = 0; places = 0 }
+    record { guide = first-guide P N; watermark = 0; added = 0; used = 0; delayed = 0; flushes = 0; closed = false; registrations = 0; places = 0 }
 
--- rows, places with their locations, and tally are zeros over the needed lengths, and so are the heads and flags of the waiting storage;
--- all else is as it was
+-- rows, places with their locations, and tally are zeros over the needed lengths, the waiting storage has no head and no flag, and all else
+-- is as it was
 pub record Fresh (P N : ℕ) (σ τ : Storage) : Type 0 where
   pub spans : τ .spans ≡ σ .spans
   pub order : τ .order ≡ σ .order
   pub tally : Cleared 0 (P + 1) (σ .tally) (τ .tally)
-  pub rows : Cleared 0 (5 * N) (σ .rows) (τ .rows)
+  pub rows : Cleared 0 (row-extent N) (σ .rows) (τ .rows)
   pub marks : Cleared 0 N (σ .marks) (τ .marks)
   pub locations : Cleared 0 N (σ .locations) (τ .locations)
-  pub heads : (p : ℕ) → p < N → getD (τ .waiting) p 0 ≡ 0
-  pub flags : (x : ℕ) → x < N → getD (τ .waiting) (3 * N + x) 0 ≡ 0
-  pub waiting : Beyond (4 * N) (σ .waiting) (τ .waiting)
+  pub waiting : Emptied N (σ .waiting) (τ .waiting)
   pub pool : τ .pool ≡ σ .pool
 
 -- what opening promises: its number is that of the checks; refused, it leaves the storage as it was, and the session is the fresh one of P 0
@@ -71,16 +69,16 @@ pub record Opens (P N n : ℕ) (s : Session) (σ τ : Storage) : Type 0 where
 -- what the checks tell
 pub record Enough (P N : ℕ) (σ : Storage) : Type 0 where
   pub one : 1 ≤ P
-  pub few : P < 65000
+  pub few : P ≤ most-parallelism
   pub places : 1 ≤ N
-  pub small : N ≤ 16777216
-  pub spans : 4 * (32 * (P + 1)) ≤ length (σ .spans)
-  pub order : 4 * N ≤ length (σ .order)
+  pub small : N ≤ most-places
+  pub spans : fits (σ .spans) (spans-needed P)
+  pub order : fits (σ .order) N
   pub tally : P < length (σ .tally)
-  pub rows : 5 * N ≤ length (σ .rows)
+  pub rows : rows-fit (σ .rows) N
   pub marks : N ≤ length (σ .marks)
   pub locations : N ≤ length (σ .locations)
-  pub waiting : 4 * N ≤ length (σ .waiting)
+  pub waiting : waiting-needed N ≤ length (σ .waiting)
 
 pub enough-of : (P N : ℕ) (σ : Storage) → 0 ≡ verdict (check-open P N (sizes σ)) → Enough P N σ
 unfolding check-open check-range too-short any
@@ -88,8 +86,8 @@ enough-of P N σ e =
     let a = verdict-head _ _ (sym e) (omega arith) in
     let b = verdict-head _ _ (a .1) (omega arith) in
     let c = verdict-head _ _ (b .1) (omega arith) in
-    let p = or-false (ltb P 1) (ltb 64999 P) (a .0) in
-    let v = or-false (ltb N 1) (ltb 16777216 N) (b .0) in
+    let p = or-false (ltb P 1) (ltb most-parallelism P) (a .0) in
+    let v = or-false (ltb N 1) (ltb most-places N) (b .0) in
     let d = or-false _ _ (c .0) in
     let f = or-false _ _ (d .1) in
     let g = or-false _ _ (f .1) in
@@ -99,20 +97,20 @@ enough-of P N σ e =
     let k = or-false _ _ (j .1) in
     record {
       one = ltb-false P 1 (p .0);
-      few = omega (arith, ltb-false 64999 P (p .1));
+      few = ltb-false most-parallelism P (p .1);
       places = ltb-false N 1 (v .0);
-      small = ltb-false 16777216 N (v .1);
-      spans = omega (arith, ltb-false (length (σ .spans) / 4) (32 * (P + 1)) (d .0));
-      order = omega (arith, ltb-false (length (σ .order) / 4) N (f .0));
+      small = ltb-false most-places N (v .1);
+      spans = omega (arith, ltb-false (capacity (σ .spans)) (spans-needed P) (d .0));
+      order = omega (arith, ltb-false (capacity (σ .order)) N (f .0));
       tally = omega (arith, ltb-false (length (σ .tally)) (P + 1) (k .0));
-      rows = omega (arith, ltb-false (length (σ .rows) / 5) N (g .0));
+      rows = omega (arith, ltb-false (row-capacity (σ .rows)) N (g .0));
       marks = ltb-false (length (σ .marks)) N (h .0);
       locations = ltb-false (length (σ .locations)) N (i .0);
-      waiting = ltb-false (length (σ .waiting)) (4 * N) (j .0);
+      waiting = ltb-false (length (σ .waiting)) (waiting-needed N) (j .0);
     }
 
-zero-run : (N : ℕ) → watermark N initial ≡ 0
-unfolding watermark run-from initial tracked member marked
+zero-run : (N : ℕ) → watermark-of N initial ≡ 0
+unfolding watermark-of run-from initial tracked member marked
 zero-run zero = refl
 zero-run (suc N) = refl
 
@@ -135,7 +133,8 @@ module _ (P N : ℕ) (σ τ : Storage) (E : Enough P N σ) (F : Fresh P N σ τ)
             v-is = refl;
             places = E .places;
             stands =
-                fresh-stands P N (τ .spans) (τ .order) (τ .tally) (E .one) (E .few) (E .small) (rw (F .spans) (E .spans)) (rw (F .order) (E .order)) (omega (arith, F .tally .long, E .tally))
+                fresh-stands P N (τ .spans) (τ .order) (τ .tally) (E .one) (omega (arith, E .few)) (E .small) (rw (F .spans) (E .spans)) (rw (F .order) (E .order))
+                (omega (arith, F .tally .long, E .tally))
                 (tally-zeros P (τ .tally) (omega (arith, F .tally .long, E .tally)) (λ i h. F .tally .zero i (omega arith) h));
             view-is = fresh-view P N (τ .spans) (τ .order);
           };
@@ -147,16 +146,16 @@ module _ (P N : ℕ) (σ τ : Storage) (E : Enough P N σ) (F : Fresh P N σ τ)
             places =
                 places-open N (τ .marks) (τ .locations) (omega (arith, F .marks .long, E .marks)) (omega (arith, F .locations .long, E .locations))
                 (λ x h. F .marks .zero x (omega arith) h) (λ x h. F .locations .zero x (omega arith) h);
-            lead-is = sym (zero-run N);
+            watermark-is = sym (zero-run N);
           };
-          stored = record { lists = lists-open N (τ .waiting) (τ .pool) long; flags = flags-open N (τ .waiting) long (F .flags) };
+          stored = record { lists = lists-open N (τ .waiting) (τ .pool) long; flags = flags-open N (τ .waiting) long (F .waiting .flags) };
         };
         counted = record { added-is = refl; used-is = refl; flushes-is = refl; closed-is = refl; registrations-is = refl; places-is = refl };
-        delayed = delayed-open (τ .waiting) N long (F .heads);
+        delayed = delayed-open (τ .waiting) N long (F .waiting .heads);
         delayed-is = refl;
       }
     where
-      long : 4 * N ≤ length (τ .waiting)
+      long : waiting-needed N ≤ length (τ .waiting)
       long = omega (arith, F .waiting .long, E .waiting)
 
   pub fresh-frame : Frame P N 0 0 σ τ
@@ -167,52 +166,41 @@ module _ (P N : ℕ) (σ τ : Storage) (E : Enough P N σ) (F : Fresh P N σ τ)
         order = rw (F .order) (beyond-refl _ (σ .order));
         before = λ j h. absurd (omega arith);
         tally = beyond-drop (P + 1) (P + 1) (σ .tally) (τ .tally) (omega arith) (F .tally .long) (F .tally .beyond);
-        rows = beyond-drop (5 * N) (5 * N) (σ .rows) (τ .rows) (omega arith) (F .rows .long) (F .rows .beyond);
+        rows = beyond-drop (row-extent N) (row-extent N) (σ .rows) (τ .rows) (omega arith) (F .rows .long) (F .rows .beyond);
         marks = beyond-drop N N (σ .marks) (τ .marks) (omega arith) (F .marks .long) (F .marks .beyond);
         locations = beyond-drop N N (σ .locations) (τ .locations) (omega arith) (F .locations .long) (F .locations .beyond);
-        waiting = F .waiting;
+        waiting = record { long = F .waiting .long; same = F .waiting .beyond };
         pool = ap length (F .pool);
       }
 
 -- the lengths suffice for clearing
-pub record Lengths (p v tally rows marks locs waiting : ℕ) : Type 0 where
-  pub low-p : p < 65000
-  pub low-v : v ≤ 16777216
+pub record Lengths (p v tally rows marks locations waiting : ℕ) : Type 0 where
+  pub low-p : p ≤ most-parallelism
+  pub low-v : v ≤ most-places
   pub tally-long : p + 1 ≤ tally
-  pub rows-long : 5 * v ≤ rows
+  pub rows-long : row-extent v ≤ rows
   pub marks-long : v ≤ marks
-  pub locs-long : v ≤ locs
-  pub waiting-long : 4 * v ≤ waiting
+  pub locations-long : v ≤ locations
+  pub waiting-long : waiting-needed v ≤ waiting
 
 -- what clearing promises
 pub record Clears (p v : ℕ) (t rs m l w t′ rs′ m′ l′ w′ : List ℕ) : Type 0 where
   pub tally : Cleared 0 (p + 1) t t′
-  pub rows : Cleared 0 (5 * v) rs rs′
+  pub rows : Cleared 0 (row-extent v) rs rs′
   pub marks : Cleared 0 v m m′
   pub locations : Cleared 0 v l l′
-  pub heads : (x : ℕ) → x < v → getD w′ x 0 ≡ 0
-  pub flags : (x : ℕ) → x < v → getD w′ (3 * v + x) 0 ≡ 0
-  pub waiting : Beyond (4 * v) w w′
+  pub waiting : Emptied v w w′
 
--- the waiting storage is cleared in two parts
-pub clears : (p v : ℕ) (t rs m l w t′ rs′ m′ l′ w₁ w′ : List ℕ)
-    → Cleared 0 (p + 1) t t′ → Cleared 0 (5 * v) rs rs′ → Cleared 0 v m m′ → Cleared 0 v l l′ → Cleared 0 v w w₁ → Cleared (3 * v) (4 * v) w₁ w′
-    → Clears p v t rs m l w t′ rs′ m′ l′ w′
-clears p v t rs m l w t′ rs′ m′ l′ w₁ w′ ct cr cm cl cw cz =
-    record {
-      tally = ct;
-      rows = cr;
-      marks = cm;
-      locations = cl;
-      heads = λ x h. sym (getD-take (3 * v) w′ x 0 (omega arith)) ∙ ap (λ (y : List ℕ). getD y x 0) (cz .before) ∙ getD-take (3 * v) w₁ x 0 (omega arith) ∙ cw .zero x (omega arith) h;
-      flags = λ x h. cz .zero (3 * v + x) (omega arith) (omega arith);
-      waiting = beyond-trans v (4 * v) w w₁ w′ (omega arith) (beyond-drop v v w w₁ (omega arith) (cw .long) (cw .beyond)) (beyond-drop (4 * v) (4 * v) w₁ w′ (omega arith) (cz .long) (cz .beyond));
-    }
+-- the same of a function's slices
+abbrev pub ClearsOver : ℕ → ℕ → Borrowed → Borrowed → Borrowed → Borrowed → Borrowed → Type 0
+ClearsOver p v tally rows marks locations waiting =
+    Clears p v (tally .entry .now) (rows .entry .now) (marks .entry .now) (locations .entry .now) (waiting .entry .now)
+    (tally .exit .now) (rows .exit .now) (marks .exit .now) (locations .exit .now) (waiting .exit .now)
 
 pub lengths-of : (P N : ℕ) (sp o t rs m l w pool : List ℕ) → 0 ≡ verdict (check-open P N (sizes (storage sp o t rs m l w pool))) → Lengths P N (length t) (length rs) (length m) (length l) (length w)
 lengths-of P N sp o t rs m l w pool e =
     let E = enough-of P N (storage sp o t rs m l w pool) e in
-    record { low-p = E .few; low-v = E .small; tally-long = omega (arith, E .tally); rows-long = E .rows; marks-long = E .marks; locs-long = E .locations; waiting-long = E .waiting }
+    record { low-p = E .few; low-v = E .small; tally-long = omega (arith, E .tally); rows-long = E .rows; marks-long = E .marks; locations-long = E .locations; waiting-long = E .waiting }
 
 -- refused, and accepted
 module _ (P N : ℕ) (sp o t rs m l w pool : List ℕ) where
@@ -246,8 +234,29 @@ module _ (P N : ℕ) (sp o t rs m l w pool : List ℕ) where
             rows = c .rows;
             marks = c .marks;
             locations = c .locations;
-            heads = c .heads;
-            flags = c .flags;
             waiting = c .waiting;
             pool = refl;
           }
+
+-- what the work of an accepted opening promises: of every storage that passes the checks and has these slices, what opening promises
+pub record Begins (P N : ℕ) (s : Session) (t rs m l w t′ rs′ m′ l′ w′ : List ℕ) : Type 0 where
+  pub opens : (sp o pool : List ℕ) → 0 ≡ verdict (check-open P N (sizes (storage sp o t rs m l w pool)))
+      → Opens P N 0 s (storage sp o t rs m l w pool) (storage sp o t′ rs′ m′ l′ w′ pool)
+
+-- the same of a function's slices
+abbrev pub BeginsOver : ℕ → ℕ → Session → Borrowed → Borrowed → Borrowed → Borrowed → Borrowed → Type 0
+BeginsOver P N s tally rows marks locations waiting =
+    Begins P N s (tally .entry .now) (rows .entry .now) (marks .entry .now) (locations .entry .now) (waiting .entry .now)
+    (tally .exit .now) (rows .exit .now) (marks .exit .now) (locations .exit .now) (waiting .exit .now)
+
+pub begins : {P N : ℕ} {s : Session} {t rs m l w t′ rs′ m′ l′ w′ : List ℕ} → s ≡ first-session P N → Clears P N t rs m l w t′ rs′ m′ l′ w′ → Begins P N s t rs m l w t′ rs′ m′ l′ w′
+begins {P} {N} {s} {t} {rs} {m} {l} {w} {t′} {rs′} {m′} {l′} {w′} es c =
+    record { opens = λ sp o pool e. opens-done P N sp o t rs m l w pool s t′ rs′ m′ l′ w′ e es c }
+
+-- what opening promises, of a function's slices and for every pool
+abbrev pub OpensOver : ℕ → ℕ → ℕ → Session → Borrowed → Borrowed → Borrowed → Borrowed → Borrowed → Borrowed → Borrowed → Type 0
+OpensOver P N n s spans order tally rows marks locations waiting =
+    (pool : List ℕ)
+    → Opens P N n s
+    (storage (spans .entry .now) (order .entry .now) (tally .entry .now) (rows .entry .now) (marks .entry .now) (locations .entry .now) (waiting .entry .now) pool)
+    (storage (spans .exit .now) (order .exit .now) (tally .exit .now) (rows .exit .now) (marks .exit .now) (locations .exit .now) (waiting .exit .now) pool)

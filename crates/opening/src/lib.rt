@@ -1,10 +1,10 @@
 // Opening a session on storage that the caller provides: refusals 1 and 2, and the fresh state.
 ghost use mathlib.Core.Path.{_≡_};
-ghost use Prim.Native.Nat.{ℕ, _/_, _≤_};
+ghost use Prim.Native.Nat.{_≤_};
 ghost use lib.ListN.{length};
+ghost use Rattle.rules.specs.Limits.{most-parallelism, most-places};
 ghost use Rattle.rules.specs.Checks.{verdict, check-open, too-short};
-ghost use Rattle.session.specs.Storage.{storage};
-ghost use Rattle.opening.specs.Opened.{Lengths, Clears, Opens, first-session};
+ghost use Rattle.opening.specs.Opened.{sizes-of, Lengths, ClearsOver, BeginsOver, OpensOver, first-session};
 use session::Session;
 
 // Opening's number, 0 if it was accepted, and the session. Refused, the session is of parallelism 0 and 0 places.
@@ -25,16 +25,16 @@ fn too_short(
     waiting: usize,
     tally: usize,
 ) -> bool
-    requires { ⌜ (p ≤ 64999) × (v ≤ 16777216) ⌝ }
-    ensures { λ r. ⌜ r ≡ too-short p v (record { spans = spans / 4; order = order / 4; rows = rows / 5; marks = marks; locations = locations; waiting = waiting; tally = tally }) ⌝ }
+    requires { ⌜ (p ≤ most-parallelism) × (v ≤ most-places) ⌝ }
+    ensures { λ r. ⌜ r ≡ too-short p v (sizes-of spans order rows marks locations waiting tally) ⌝ }
 {
-    if spans / 4 < 32 * (p + 1) {
+    if spans / entries::SIZE < window::SPANS * (p + 1) {
         return true;
     }
-    if order / 4 < v {
+    if order / entries::SIZE < v {
         return true;
     }
-    if rows / 5 < v {
+    if rows / records::SIZE < v {
         return true;
     }
     if marks < v {
@@ -43,7 +43,7 @@ fn too_short(
     if locations < v {
         return true;
     }
-    if waiting < 4 * v {
+    if waiting < waiting::SIZE * v {
         return true;
     }
     tally < p + 1
@@ -61,19 +61,19 @@ pub fn check_open(
     waiting: usize,
     tally: usize,
 ) -> u64
-    ensures { λ r. ⌜ r ≡ verdict (check-open p v (record { spans = spans / 4; order = order / 4; rows = rows / 5; marks = marks; locations = locations; waiting = waiting; tally = tally })) ⌝ }
+    ensures { λ r. ⌜ r ≡ verdict (check-open p v (sizes-of spans order rows marks locations waiting tally)) ⌝ }
 {
     if p < 1 {
-        return 1;
+        return rules::OUT_OF_RANGE;
     }
-    if 64999 < p {
-        return 1;
+    if rules::MOST_PARALLELISM < p {
+        return rules::OUT_OF_RANGE;
     }
     if v < 1 {
-        return 1;
+        return rules::OUT_OF_RANGE;
     }
-    if 16777216 < v {
-        return 1;
+    if rules::MOST_PLACES < v {
+        return rules::OUT_OF_RANGE;
     }
     if too_short(
         p as usize,
@@ -86,30 +86,29 @@ pub fn check_open(
         waiting,
         tally,
     ) {
-        return 2;
+        return rules::TOO_SHORT;
     }
     0
 }
 
-// Clears rows, places with their locations, and tally, and in the waiting storage the heads and the flags.
+// Clears rows, places with their locations, tally, and of the waiting storage what must be.
 fn clear(
     tally: &mut [u32],
     rows: &mut [u32],
     marks: &mut [u16],
-    locs: &mut [u64],
+    locations: &mut [u64],
     waiting: &mut [u64],
     p: usize,
     v: usize,
 )
-    requires { ⌜ Lengths p v (length (now tally)) (length (now rows)) (length (now marks)) (length (now locs)) (length (now waiting)) ⌝ }
-    ensures { λ _. ⌜ Clears p v (now (tally .entry)) (now (rows .entry)) (now (marks .entry)) (now (locs .entry)) (now (waiting .entry)) (now (tally .exit)) (now (rows .exit)) (now (marks .exit)) (now (locs .exit)) (now (waiting .exit)) ⌝ }
+    requires { ⌜ Lengths p v (length (now tally)) (length (now rows)) (length (now marks)) (length (now locations)) (length (now waiting)) ⌝ }
+    ensures { λ _. ⌜ ClearsOver p v tally rows marks locations waiting ⌝ }
 {
     zeros::clear32(tally, 0, p + 1);
-    zeros::clear32(rows, 0, 5 * v);
+    zeros::clear32(rows, 0, records::SIZE * v);
     zeros::clear16(marks, 0, v);
-    zeros::clear64(locs, 0, v);
-    zeros::clear64(waiting, 0, v);
-    zeros::clear64(waiting, 3 * v, 4 * v);
+    zeros::clear64(locations, 0, v);
+    waiting::clear(waiting, v);
 }
 
 // A session of parallelism p and v places just opened.
@@ -119,7 +118,7 @@ pub fn fresh(p: u32, v: u32) -> Session
     let g = guide::fresh(p, v);
     Session {
         guide: g,
-        lead: 0,
+        watermark: 0,
         added: 0,
         used: 0,
         delayed: 0,
@@ -130,20 +129,44 @@ pub fn fresh(p: u32, v: u32) -> Session
     }
 }
 
-// Opens a session of parallelism p and v places on the storage.
-pub fn open(
+// Opens a session of parallelism p and v places on storage that passes the checks.
+pub fn begin(
     tally: &mut [u32],
     rows: &mut [u32],
     marks: &mut [u16],
-    locs: &mut [u64],
+    locations: &mut [u64],
     waiting: &mut [u64],
+    p: u64,
+    v: u64,
+) -> Session
+    requires { ⌜ Lengths p v (length (now tally)) (length (now rows)) (length (now marks)) (length (now locations)) (length (now waiting)) ⌝ }
+    ensures { λ s. ⌜ BeginsOver p v s tally rows marks locations waiting ⌝ }
+{
+    clear(
+        tally,
+        rows,
+        marks,
+        locations,
+        waiting,
+        p as usize,
+        v as usize,
+    );
+    fresh(p as u32, v as u32)
+}
+
+// Opens a session of parallelism p and v places on the storage, or refuses. The pool stays as it is, so it is not asked for.
+pub fn open(
     spans: &[u32],
     order: &[u32],
-    pool: &[u32],
+    tally: &mut [u32],
+    rows: &mut [u32],
+    marks: &mut [u16],
+    locations: &mut [u64],
+    waiting: &mut [u64],
     p: u64,
     v: u64,
 ) -> Opened
-    ensures { λ a. ⌜ Opens p v (a .number) (a .session) (storage (now (spans .entry)) (now (order .entry)) (now (tally .entry)) (now (rows .entry)) (now (marks .entry)) (now (locs .entry)) (now (waiting .entry)) (now (pool .entry))) (storage (now (spans .entry)) (now (order .entry)) (now (tally .exit)) (now (rows .exit)) (now (marks .exit)) (now (locs .exit)) (now (waiting .exit)) (now (pool .entry))) ⌝ }
+    ensures { λ a. ⌜ OpensOver p v (a .number) (a .session) spans order tally rows marks locations waiting ⌝ }
 {
     let n = check_open(
         p,
@@ -152,7 +175,7 @@ pub fn open(
         order.len(),
         rows.len(),
         marks.len(),
-        locs.len(),
+        locations.len(),
         waiting.len(),
         tally.len(),
     );
@@ -163,8 +186,7 @@ pub fn open(
             session: s,
         };
     }
-    clear(tally, rows, marks, locs, waiting, p as usize, v as usize);
-    let s = fresh(p as u32, v as u32);
+    let s = begin(tally, rows, marks, locations, waiting, p, v);
     Opened {
         number: 0,
         session: s,

@@ -1,6 +1,5 @@
 // The program: a job on standard input, its listing or its refusal on standard output. A read or a write that fails is said on standard
 // error.
-ghost use Prim.Native.Nat.{_≤_};
 ghost use lib.ListN.{length};
 ghost use Rattle.order.specs.Input.{Within};
 use libc::STDERR_FILENO;
@@ -34,7 +33,7 @@ fn read_job(job: &mut [u8]) -> Input
 
 // One byte more than a job may have is read, so that a longer one is known.
 fn main() {
-    let mut job = [0u8; 65537];
+    let mut job = [0u8; rules::MOST_JOB_BYTES + 1];
     let input = read_job(&mut job);
     let Input::Bytes(n) = input else {
         io::write_all(
@@ -43,8 +42,8 @@ fn main() {
         );
         return;
     };
-    let mut out = [0u8; 65536];
-    let m = host::answer(&job[..n], &mut out);
+    let mut out = [0u8; rules::PROGRAM_LISTING_BYTES];
+    let m = job_reply::answer(&job[..n], &mut out);
     if !io::write_all(STDOUT_FILENO, &out[..m]) {
         io::write_all(
             STDERR_FILENO,

@@ -32,7 +32,8 @@ released-more P n [] zs h = absurd (omega arith)
 released-more P n (s ∷ []) zs h = absurd (omega arith)
 released-more P zero (s ∷ (t ∷ ss)) zs h = refl
 released-more P (suc n) (s ∷ (t ∷ ss)) zs h =
-    append-assoc (annotate (parallelism P (length s) (length t)) 0 s) (released P n (t ∷ ss)) (released P 1 (drop n (t ∷ ss) ++ zs)) ∙ ap (λ x. annotate (parallelism P (length s) (length t)) 0 s ++ x) (released-more P n (t ∷ ss) zs (omega arith))
+    append-assoc (annotate (parallelism P (length s) (length t)) 0 s) (released P n (t ∷ ss)) (released P 1 (drop n (t ∷ ss) ++ zs))
+    ∙ ap (λ x. annotate (parallelism P (length s) (length t)) 0 s ++ x) (released-more P n (t ∷ ss) zs (omega arith))
 
 released-last-span : (P n : ℕ) (ss zs : List (List Item)) → 1 ≤ P → suc n ≡ length ss → len ss n ≤ P → released P n ss ++ released P 1 (drop n ss ++ ([] ∷ zs)) ≡ released P (suc n) ss
 unfolding released
@@ -41,7 +42,8 @@ released-last-span P zero (s ∷ []) zs hp h k = append-nil (annotate (paralleli
 released-last-span P (suc n) (s ∷ []) zs hp h k = absurd (omega arith)
 released-last-span P zero (s ∷ (t ∷ ss)) zs hp h k = absurd (omega arith)
 released-last-span P (suc n) (s ∷ (t ∷ ss)) zs hp h k =
-    append-assoc (annotate (parallelism P (length s) (length t)) 0 s) (released P n (t ∷ ss)) (released P 1 (drop n (t ∷ ss) ++ ([] ∷ zs))) ∙ ap (λ x. annotate (parallelism P (length s) (length t)) 0 s ++ x) (released-last-span P n (t ∷ ss) zs hp (omega arith) k)
+    append-assoc (annotate (parallelism P (length s) (length t)) 0 s) (released P n (t ∷ ss)) (released P 1 (drop n (t ∷ ss) ++ ([] ∷ zs)))
+    ∙ ap (λ x. annotate (parallelism P (length s) (length t)) 0 s ++ x) (released-last-span P n (t ∷ ss) zs hp (omega arith) k)
 
 snoc-empty : (n : ℕ) → replicate {A = List Item} n [] ++ ([] ∷ []) ≡ replicate (suc n) []
 snoc-empty zero = refl
@@ -70,7 +72,8 @@ unfolding release
 release-last P g hp h k =
     let f : g .first + 31 + 1 ≡ g .first + 32 = omega arith in
     let s = spans-more 31 31 (g .spans) (omega arith) in
-    let o = append-assoc (g .order) (released P 31 (g .spans)) (released P 1 (drop 31 (g .spans) ++ replicate 31 [])) ∙ ap (λ x. g .order ++ x) (released-last-span P 31 (g .spans) (replicate 30 []) hp (sym h) k) in
+    let o = append-assoc (g .order) (released P 31 (g .spans)) (released P 1 (drop 31 (g .spans) ++ replicate 31 []))
+    ∙ ap (λ x. g .order ++ x) (released-last-span P 31 (g .spans) (replicate 30 []) hp (sym h) k) in
     cc
 
 -- the next release on the way to a flush

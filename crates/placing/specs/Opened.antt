@@ -10,9 +10,9 @@ use Rattle.rules.specs.Guide.{Guide as GuideModel, put, release}
 use Rattle.laws.specs.History.{len}
 use Rattle.laws.specs.GuideInv.{len-extend, release-spans, release-first}
 use Rattle.entries.specs.declared.Entry.{Entry}
-use Rattle.entries.specs.Entries.{over, held-entry, numbers, item-of}
+use Rattle.entries.specs.Entries.{has-entry, with-entry, held-entry, item-of}
 use Rattle.buffer.specs.declared.Guide.{Guide}
-use Rattle.buffer.specs.View.{view, Laid}
+use Rattle.buffer.specs.View.{length-of, number-of, view, Laid}
 use Rattle.buffer.specs.Moves.{with-window, longer, put-spans, slot-fits}
 use Rattle.placing.specs.Done.{Done, done-here, done-as, done-then, put-done, view-length, len-view, number-view}
 
@@ -24,23 +24,23 @@ module _ (g h : Guide) (s o o′ t t′ : List ℕ) (n : ℕ) (k : Laid g s) (hn
   abbrev b : GuideModel
   b = release (g .p) n (view g s o)
 
-  opened-empty : getD (h .window .lens) 31 0 ≡ 0
+  opened-empty : length-of h 31 ≡ 0
   opened-empty =
       let ss = (view g s o) .spans in
       sym (len-view h s o′ (d .stands .laid) 31) ∙ ap (λ x. len (x .spans) 31) (d .is) ∙ ap (λ x. len x 31) (release-spans (g .p) n (view g s o)) ∙ len-extend (drop n ss) n 31
       ∙ ap length (getD-drop n ss 31 [] ∙ List·getD-eq-default ss [] (omega (arith, view-length g s o k)))
 
-  pub opened-number : getD (h .window .ids) 31 0 ≡ getD (g .window .ids) 31 0 + n
+  pub opened-number : number-of h 31 ≡ number-of g 31 + n
   opened-number =
       omega (arith, number-view h s o′ (d .stands .laid) 31 (omega arith), number-view g s o k 31 (omega arith), ap (λ x. x .first) (d .is), release-first (g .p) n (view g s o))
 
   here : Done g (with-window g (h .window) (h .written)) s o t s o′ t′ b
   here = done-here g h s o t s o′ t′ b d
 
-  pub opened-slot : 4 * (getD (h .window .rows) 31 0 * (g .p + 1)) + 4 ≤ length s
+  pub opened-slot : has-entry s (getD (h .window .rows) 31 0 * (g .p + 1))
   opened-slot = omega (arith, slot-fits (with-window g (h .window) (h .written)) s (here .stands .laid) 31 (omega (arith, opened-empty)), opened-empty)
 
-  pub open-put : (s′ : List ℕ) (e : Entry) → s′ ≡ over s (4 * (getD (h .window .rows) 31 0 * (g .p + 1))) (numbers (held-entry e))
+  pub open-put : (s′ : List ℕ) (e : Entry) → s′ ≡ with-entry s (getD (h .window .rows) 31 0 * (g .p + 1)) (held-entry e)
       → Done g (begun g h) s o t s′ o′ t′ (put 31 (item-of e) b)
   unfolding longer put-spans
   open-put s′ e es =

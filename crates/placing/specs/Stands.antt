@@ -3,33 +3,34 @@
 use mathlib.Core.Path.{_≡_, refl, sym, ap, _∙_}
 use mathlib.Core.List.{List, [], _∷_, _++_, map}
 use mathlib.Core.Logic.{inl, inr}
-use Prim.Native.Nat.{ℕ, zero, suc, _+_, _*_, _≤_, _<_}
+use Prim.Native.Nat.{ℕ, zero, suc, _+_, _≤_, _<_}
 use native.Mathlib.Omega.{arith}
 use lib.ListN.{length, getD, take, drop, replicate, getD-replicate}
 use lib.Seq.{drop-at, getD-take}
-use Rattle.rules.specs.Guide.{parallelism, tallied, tally}
+use Rattle.rules.specs.Limits.{most-places}
+use Rattle.rules.specs.Guide.{tallied, tally}
 use Rattle.laws.specs.Width.{width-flat, width-le}
 use Rattle.entries.specs.declared.Entry.{Entry}
-use Rattle.entries.specs.Entries.{row, entry-at, held-entry, annotated, appended, entry-of}
-use Rattle.entries.specs.Stored.{row-add, over-elsewhere, appended-elsewhere, over-length}
+use Rattle.entries.specs.Entries.{fits, row, entry-at, held-entry, annotated, appended, entry-of}
+use Rattle.entries.specs.Stored.{row-add, stored-elsewhere, appended-elsewhere, stored-length}
 use Rattle.buffer.specs.declared.Guide.{Guide}
-use Rattle.buffer.specs.View.{order-of, Laid}
+use Rattle.buffer.specs.View.{length-of, start-of, order-of, Laid}
 use Rattle.buffer.specs.Rows.{most-at, row-length, row-ends}
 use Rattle.buffer.specs.Order.{appended-row, map-append, order-count, annotated-length, appended-length}
 use Rattle.buffer.specs.Moves.{slot-of, slot-fits, longer, released-guide, released-order, put-spans, put-laid, release-laid}
-use Rattle.tally.specs.Counting.{Countable}
+use Rattle.tally.specs.Counting.{parallelism-from, Countable}
 use Rattle.tally.specs.Tallied.{Within, tallied-append, tallied-length, tallied-le, tallied-beyond, tallied-front}
-use Rattle.placing.specs.Frame.{Frame}
+use Rattle.placing.specs.GuideFrame.{GuideFrame}
 
 pub record Stands (g : Guide) (s o t : List ℕ) : Type 0 where
   pub laid : Laid g s
-  pub small : g .v ≤ 16777216
-  pub order-long : 4 * (g .v) ≤ length o
+  pub small : g .v ≤ most-places
+  pub order-long : fits o (g .v)
   pub tally-long : g .p < length t
   pub tally-is : take (g .p + 1) t ≡ tally (g .p) (order-of o (g .written))
 
 -- lists
-appended-tail : (o : List ℕ) (n : ℕ) (es : List Entry) → 4 * (n + length es) ≤ length o → row (appended o n es) n (length es) ≡ es
+appended-tail : (o : List ℕ) (n : ℕ) (es : List Entry) → fits o (n + length es) → row (appended o n es) n (length es) ≡ es
 appended-tail o n es h =
     let o1 = appended o n es in
     let a = length es in
@@ -53,21 +54,21 @@ within-at p o n (suc a) zero m h = let e : n + 0 ≡ n = omega arith in rw e (m 
 within-at p o n (suc a) (suc q) m h = let e : n + suc q ≡ suc n + q = omega arith in rw e (within-at p o (suc n) a q (m .1) (omega arith))
 
 module _ (g : Guide) (s o t : List ℕ) (k : Stands g s o t) where
-  module _ (i : ℕ) (e : Entry) (hi : i < 32) (h : getD (g .window .lens) i 0 ≤ g .p) where
+  module _ (i : ℕ) (e : Entry) (hi : i < 32) (h : length-of g i ≤ g .p) where
     pub stands-put : Stands (longer g i) (put-spans g s i e) o t
     unfolding longer
     stands-put = record { laid = put-laid g s (k .laid) i e hi h; small = k .small; order-long = k .order-long; tally-long = k .tally-long; tally-is = k .tally-is }
 
-    pub frame-put : Frame (g .p) (g .written) (g .written) s o t (put-spans g s i e) o t
+    pub frame-put : GuideFrame (g .p) (g .written) (g .written) s o t (put-spans g s i e) o t
     unfolding put-spans
     frame-put =
         let f = slot-fits g s (k .laid) i h in
         let r : getD (g .window .rows) i 0 < 32 = omega (arith, most-at 31 (g .window .rows) i (k .laid .below)) in
         record {
-          spans-length = over-length s (slot-of g i) (held-entry e) f;
+          spans-length = stored-length s (slot-of g i) (held-entry e) f;
           order-length = refl;
           tally-length = refl;
-          spans-beyond = λ j z. over-elsewhere s (slot-of g i) (held-entry e) j f (inr (omega (arith, row-ends (g .p) (getD (g .window .rows) i 0) 32 r)));
+          spans-beyond = λ j z. stored-elsewhere s (slot-of g i) (held-entry e) j f (inr (omega (arith, row-ends (g .p) (getD (g .window .rows) i 0) 32 r)));
           grows = omega arith;
           order-kept = λ j z. refl;
           order-beyond = λ j z. refl;
@@ -76,13 +77,13 @@ module _ (g : Guide) (s o t : List ℕ) (k : Stands g s o t) where
 
   -- what a release appends
   abbrev pub a : ℕ
-  a = getD (g .window .lens) 0 0
+  a = length-of g 0
 
   abbrev pub es : List Entry
-  es = row s (getD (g .window .rows) 0 0 * (g .p + 1)) a
+  es = row s (start-of g 0) a
 
   abbrev pub new : List Entry
-  new = annotated (g .p) a (getD (g .window .lens) 1 0) 0 es
+  new = annotated (g .p) a (length-of g 1) 0 es
 
   abbrev pub o′ : List ℕ
   o′ = released-order g s o
@@ -91,31 +92,31 @@ module _ (g : Guide) (s o t : List ℕ) (k : Stands g s o t) where
   t′ = tallied t (map entry-of (row o′ (g .written) a))
 
   new-length : length new ≡ a
-  new-length = annotated-length (g .p) a (getD (g .window .lens) 1 0) 0 es ∙ row-length s (getD (g .window .rows) 0 0 * (g .p + 1)) a
+  new-length = annotated-length (g .p) a (length-of g 1) 0 es ∙ row-length s (start-of g 0) a
 
   module _ (room : g .written + a ≤ g .v) where
-    fits : 4 * (g .written + length new) ≤ length o
-    fits = omega (arith, new-length, k .order-long)
+    new-fits : fits o (g .written + length new)
+    new-fits = omega (arith, new-length, k .order-long)
 
     pub new-row : row o′ (g .written) a ≡ new
     unfolding released-order
-    new-row = ap (λ n. row (appended o (g .written) new) (g .written) n) (sym new-length) ∙ appended-tail o (g .written) new fits
+    new-row = ap (λ n. row (appended o (g .written) new) (g .written) n) (sym new-length) ∙ appended-tail o (g .written) new new-fits
 
     order-same : length o′ ≡ length o
     unfolding released-order
-    order-same = appended-length o (g .written) new fits
+    order-same = appended-length o (g .written) new new-fits
 
     order-is : order-of o′ (g .written + a) ≡ order-of o (g .written) ++ map entry-of new
     unfolding order-of released-order
     order-is =
         ap (λ n. map entry-of (row (appended o (g .written) new) 0 (g .written + n))) (sym new-length)
-        ∙ ap (λ l. map entry-of l) (appended-row o (g .written) new fits)
+        ∙ ap (λ l. map entry-of l) (appended-row o (g .written) new new-fits)
         ∙ map-append entry-of (row o 0 (g .written)) new
 
     within : Within (g .p) (map entry-of new)
     within =
-        annotated-within (g .p) a (getD (g .window .lens) 1 0) 0 es (k .laid .one)
-        (omega (arith, row-length s (getD (g .window .rows) 0 0 * (g .p + 1)) a))
+        annotated-within (g .p) a (length-of g 1) 0 es (k .laid .one)
+        (omega (arith, row-length s (start-of g 0) a))
         (most-at (g .p + 1) (g .window .lens) 0 (k .laid .short))
 
     -- a count is at most the number of the order's entries
@@ -126,12 +127,12 @@ module _ (g : Guide) (s o t : List ℕ) (k : Stands g s o t) where
         let counted = tallied-le x (replicate (g .p + 1) 0) (order-of o (g .written)) in
         omega (arith, getD-take (g .p + 1) t x 0 (omega arith), ap (λ l. getD l x 0) (k .tally-is), counted, none, order-count o (g .written))
 
-    pub countable : Countable (g .p) o′ (g .written) a t
+    pub countable : Countable o′ t (g .written) a
     countable =
+        let most : (q : ℕ) → q < a → parallelism-from o′ (g .written) q ≤ g .p = λ q z. within-at (g .p) o′ (g .written) a q (rw new-row within) z in
         record {
-          long = k .tally-long;
-          known = λ q z. within-at (g .p) o′ (g .written) a q (rw new-row within) z;
-          small = λ x z. omega (arith, count-small x z, k .small);
+          known = λ q z. omega (arith, most q z, k .tally-long);
+          small = λ q z. omega (arith, count-small (parallelism-from o′ (g .written) q) (most q z), k .small);
         }
 
     counts : take (g .p + 1) t′ ≡ tally (g .p) (order-of o′ (g .written + a))
@@ -153,7 +154,7 @@ module _ (g : Guide) (s o t : List ℕ) (k : Stands g s o t) where
           tally-is = counts;
         }
 
-    pub frame-release : Frame (g .p) (g .written) (g .written + a) s o t s o′ t′
+    pub frame-release : GuideFrame (g .p) (g .written) (g .written + a) s o t s o′ t′
     unfolding released-order
     frame-release =
         record {
@@ -162,7 +163,7 @@ module _ (g : Guide) (s o t : List ℕ) (k : Stands g s o t) where
           tally-length = tallied-length t (map entry-of (row o′ (g .written) a));
           spans-beyond = λ j z. refl;
           grows = omega arith;
-          order-kept = λ j z. appended-elsewhere o (g .written) new j fits (inl z);
-          order-beyond = λ j z. appended-elsewhere o (g .written) new j fits (inr (omega (arith, new-length)));
+          order-kept = λ j z. appended-elsewhere o (g .written) new j new-fits (inl z);
+          order-beyond = λ j z. appended-elsewhere o (g .written) new j new-fits (inr (omega (arith, new-length)));
           tally-beyond = λ x z. tallied-beyond (g .p) x t (map entry-of (row o′ (g .written) a)) (rw new-row within) z;
         }

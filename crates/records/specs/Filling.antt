@@ -1,17 +1,44 @@
 -- How rows are filled: an entry that stands at index n of the order sets added, accepted, order index and parallelism of its registration's
--- row. And the steps of the loop that does it. Assumes nothing.
+-- row; `written` is stored apart. And the steps of the loop that fills. How many numbers a row has and what each of them is, is known in
+-- this crate alone. Assumes nothing.
 use mathlib.Core.Path.{_≡_, refl, _∙_}
 use mathlib.Core.List.{List, [], _∷_}
-use Prim.Native.Nat.{ℕ, suc, _+_, _*_, _-_, _≤_, _<_}
+use Prim.Native.Nat.{ℕ, suc, _+_, _*_, _-_, _/_, _≤_, _<_}
 use native.Mathlib.Nat.{add-zero, sub-zero}
 use native.Mathlib.Omega.{arith}
-use lib.ListN.{length, set, length-set}
+use lib.ListN.{length, getD, set, length-set}
 use Rattle.entries.specs.declared.Entry.{Entry}
 use Rattle.entries.specs.Entries.{row, entry-at}
 
+-- the numbers of a row, and of n rows
+abbrev pub row-size : ℕ
+row-size = 5
+
+abbrev pub row-extent : ℕ → ℕ
+row-extent n = row-size * n
+
+-- how many rows there is room for; there is room for n; registration r has a row
+abbrev pub row-capacity : List ℕ → ℕ
+row-capacity rs = length rs / row-size
+
+abbrev pub rows-fit : List ℕ → ℕ → Type 0
+rows-fit rs n = row-extent n ≤ length rs
+
+abbrev pub has-row : List ℕ → ℕ → Type 0
+has-row rs r = row-extent r + row-size ≤ length rs
+
+-- what registration r's row has as written, and rows with another there
+abbrev pub written-at : List ℕ → ℕ → ℕ
+written-at rs r = getD rs (row-extent r + 2) 0
+
+abbrev pub with-written : List ℕ → ℕ → ℕ → List ℕ
+with-written rs r written = set rs (row-extent r + 2) written
+
+-- rows with all but written filled by an entry that stands at index n
 unfoldable pub fill-one : List ℕ → ℕ → Entry → List ℕ
 fill-one rs n e =
-    set (set (set (set rs (5 * (e .added)) (e .added)) (5 * (e .added) + 1) (e .accepted)) (5 * (e .added) + 3) n) (5 * (e .added) + 4) (e .parallelism)
+    let i = row-extent (e .added) in
+    set (set (set (set rs i (e .added)) (i + 1) (e .accepted)) (i + 3) n) (i + 4) (e .parallelism)
 
 -- entries of which the first stands at index n
 unfoldable pub filled : List ℕ → ℕ → List Entry → List ℕ
@@ -20,7 +47,7 @@ filled rs n (e ∷ es) = filled (fill-one rs n e) (suc n) es
 
 -- each of the a entries from n on has a row
 pub record Fillable (o : List ℕ) (n a : ℕ) (rs : List ℕ) : Type 0 where
-  pub known : (q : ℕ) → q < a → 5 * ((entry-at o (n + q)) .added) + 5 ≤ length rs
+  pub known : (q : ℕ) → q < a → has-row rs ((entry-at o (n + q)) .added)
 
 pub fill-one-length : (t : List ℕ) (n : ℕ) (e : Entry) → length (fill-one t n e) ≡ length t
 unfolding fill-one

@@ -3,13 +3,14 @@
 use mathlib.Core.Path.{_≡_, refl, sym, _∙_, subst}
 use mathlib.Core.Logic.{_⊎_, inl, inr}
 use mathlib.Core.List.{List, [], _∷_, _++_}
-use Prim.Native.Nat.{ℕ, suc, _+_, _-_, _*_, _≤_, _<_}
+use Prim.Native.Nat.{ℕ, suc, _+_, _*_, _≤_, _<_}
 use native.Mathlib.Nat.{suc-ne-zero, suc-inj}
 use native.Mathlib.Omega.{arith}
-use lib.ListN.{length, getD, set, length-set}
+use lib.ListN.{length, set, length-set}
 use lib.Seq.{getD-set-same, getD-set-other, take-set-le, drop-set-lt}
 use borrow.Author.Tests.{eq-eqb}
 use Rattle.rules.specs.Model.{push}
+use Rattle.registrar.specs.Reading.{head-at, link-at}
 use Rattle.registrar.specs.Delayed.{Chain, Linked, relinked, top-of, last-of, spliced, head-of, occurs, LinksOnly}
 
 -- r is one of a list
@@ -23,15 +24,15 @@ in-occurs r (x ∷ l) (inl e) = rw (eq-eqb r x (sym e)) (omega arith)
 in-occurs r (x ∷ l) (inr h) = omega (arith, in-occurs r l h)
 
 -- only the cells of the links matter
-pub chain-same : (w w′ : List ℕ) (v n h : ℕ) (l : List ℕ) → ((r : ℕ) → In r l → getD w′ (v + r) 0 ≡ getD w (v + r) 0) → Chain w v n h l → Chain w′ v n h l
+pub chain-same : (w w′ : List ℕ) (v n h : ℕ) (l : List ℕ) → ((r : ℕ) → In r l → link-at w′ v r ≡ link-at w v r) → Chain w v n h l → Chain w′ v n h l
 chain-same w w′ v n h [] same c = c
 chain-same w w′ v n h (r ∷ l) same c =
-    (c .0, c .1, subst (λ (k : ℕ). Chain w′ v r k l) (sym (same r (inl refl))) (chain-same w w′ v r (getD w (v + r) 0) l (λ q m. same q (inr m)) (c .2)))
+    (c .0, c .1, subst (λ (k : ℕ). Chain w′ v r k l) (sym (same r (inl refl))) (chain-same w w′ v r (link-at w v r) l (λ q m. same q (inr m)) (c .2)))
 
-pub linked-same : (w w′ : List ℕ) (v h : ℕ) (l : List ℕ) → ((r : ℕ) → In r l → getD w′ (v + r) 0 ≡ getD w (v + r) 0) → Linked w v h l → Linked w′ v h l
+pub linked-same : (w w′ : List ℕ) (v h : ℕ) (l : List ℕ) → ((r : ℕ) → In r l → link-at w′ v r ≡ link-at w v r) → Linked w v h l → Linked w′ v h l
 linked-same w w′ v h [] same c = c
 linked-same w w′ v h (r ∷ l) same c =
-    (c .0, c .1, subst (λ (k : ℕ). Linked w′ v k l) (sym (same r (inl refl))) (linked-same w w′ v (getD w (v + r) 0) l (λ q m. same q (inr m)) (c .2)))
+    (c .0, c .1, subst (λ (k : ℕ). Linked w′ v k l) (sym (same r (inl refl))) (linked-same w w′ v (link-at w v r) l (λ q m. same q (inr m)) (c .2)))
 
 -- a store at a place other than their links leaves them
 pub chain-frame : (w : List ℕ) (v n i x h : ℕ) (l : List ℕ) → ((r : ℕ) → In r l → v + r ≡ i → ⊥) → Chain w v n h l → Chain (set w i x) v n h l
@@ -47,7 +48,7 @@ chain-le w v n h (r ∷ l) c = omega (arith, c .0, c .1)
 -- all of a chain are below its bound
 pub chain-below : (w : List ℕ) (v n h : ℕ) (l : List ℕ) → Chain w v n h l → (r : ℕ) → In r l → r < n
 chain-below w v n h (q ∷ l) c r (inl e) = omega (arith, c .1)
-chain-below w v n h (q ∷ l) c r (inr m) = omega (arith, c .1, chain-below w v q (getD w (v + q) 0) l (c .2) r m)
+chain-below w v n h (q ∷ l) c r (inr m) = omega (arith, c .1, chain-below w v q (link-at w v q) l (c .2) r m)
 
 -- another bound for a chain whose newest is below it
 pub chain-bound : (w : List ℕ) (v n m h : ℕ) (l : List ℕ) → ((r : ℕ) → In r l → r < m) → Chain w v n h l → Chain w v m h l
@@ -61,7 +62,7 @@ chain-unique w v n m h [] (r ∷ l′) c d = absurd (suc-ne-zero r (sym (d .0) �
 chain-unique w v n m h (r ∷ l) [] c d = absurd (suc-ne-zero r (sym (c .0) ∙ d))
 chain-unique w v n m h (r ∷ l) (r′ ∷ l′) c d =
     let e : r ≡ r′ = suc-inj (sym (c .0) ∙ d .0) in
-    let t : l ≡ l′ = chain-unique w v r r′ (getD w (v + r) 0) l l′ (c .2) (rw e (d .2)) in
+    let t : l ≡ l′ = chain-unique w v r r′ (link-at w v r) l l′ (c .2) (rw e (d .2)) in
     cc
 
 pub linked-unique : (w : List ℕ) (v h : ℕ) (l l′ : List ℕ) → Linked w v h l → Linked w v h l′ → l ≡ l′
@@ -70,18 +71,18 @@ linked-unique w v h [] (r ∷ l′) c d = absurd (suc-ne-zero r (sym (d .0) ∙ 
 linked-unique w v h (r ∷ l) [] c d = absurd (suc-ne-zero r (sym (c .0) ∙ d))
 linked-unique w v h (r ∷ l) (r′ ∷ l′) c d =
     let e : r ≡ r′ = suc-inj (sym (c .0) ∙ d .0) in
-    let t : l ≡ l′ = linked-unique w v (getD w (v + r) 0) l l′ (c .2) (rw e (d .2)) in
+    let t : l ≡ l′ = linked-unique w v (link-at w v r) l l′ (c .2) (rw e (d .2)) in
     cc
 
 -- only links have changed: kept by a store to a link, and transitive
 pub links-set : (w : List ℕ) (v r x : ℕ) → r < v → LinksOnly w v (set w (v + r) x)
-links-set w v r x h = record { heads = take-set-le v w (v + r) x (omega arith); rest = drop-set-lt (2 * v) w (v + r) x (omega arith) }
+links-set w v r x h = record { heads = take-set-le v w (v + r) x (omega arith); aside = record { rest = drop-set-lt (2 * v) w (v + r) x (omega arith) } }
 
 pub links-refl : (w : List ℕ) (v : ℕ) → LinksOnly w v w
-links-refl w v = record { heads = refl; rest = refl }
+links-refl w v = record { heads = refl; aside = record { rest = refl } }
 
 pub links-trans : (a b c : List ℕ) (v : ℕ) → LinksOnly a v b → LinksOnly b v c → LinksOnly a v c
-links-trans a b c v f g = record { heads = g .heads ∙ f .heads; rest = g .rest ∙ f .rest }
+links-trans a b c v f g = record { heads = g .heads ∙ f .heads; aside = record { rest = g .aside .rest ∙ f .aside .rest } }
 
 -- ---- turning a chain round
 
@@ -92,7 +93,7 @@ chain-turn (q ∷ m) w v n h t l out c =
     chain-turn m (set w (v + q) t) v n h (suc q) l (λ r a b. out r a (inr b)) (chain-frame w v n (v + q) t h l (λ r a e. out r a (inl (omega arith))) c)
 
 -- heads stay
-pub head-turn : (m w : List ℕ) (v t p : ℕ) → p < v → getD (relinked w v t m) p 0 ≡ getD w p 0
+pub head-turn : (m w : List ℕ) (v t p : ℕ) → p < v → head-at (relinked w v t m) p ≡ head-at w p
 head-turn [] w v t p h = refl
 head-turn (q ∷ m) w v t p h = head-turn m (set w (v + q) t) v (suc q) p h ∙ getD-set-other w (v + q) p t 0 (λ e. omega arith)
 
@@ -136,7 +137,7 @@ last-in r (q ∷ l) = inr (last-in q l)
 
 last-le : (w : List ℕ) (v n h r : ℕ) (l : List ℕ) → Chain w v n h (r ∷ l) → last-of r l ≤ r
 last-le w v n h r [] c = omega arith
-last-le w v n h r (q ∷ l) c = omega (arith, last-le w v r (getD w (v + r) 0) q l (c .2), c .2 .1)
+last-le w v n h r (q ∷ l) c = omega (arith, last-le w v r (link-at w v r) q l (c .2), c .2 .1)
 
 linked-splice : (w : List ℕ) (v n h t r : ℕ) (l s : List ℕ) → n ≤ v → v + v ≤ length w → Chain w v n h (r ∷ l) → Linked w v t s → ((q : ℕ) → In q (r ∷ l) → In q s → ⊥)
     → Linked (set w (v + last-of r l) t) v h ((r ∷ l) ++ s)
@@ -148,8 +149,8 @@ linked-splice w v n h t r [] s nv long c k apart = (
 linked-splice w v n h t r (q ∷ l) s nv long c k apart = (
   c .0,
   omega (arith, c .1),
-  rw (getD-set-other w (v + last-of q l) (v + r) t 0 (λ e. omega (arith, last-le w v r (getD w (v + r) 0) q l (c .2), c .2 .1)))
-      (linked-splice w v r (getD w (v + r) 0) t q l s (omega (arith, c .1)) long (c .2) k (λ x m y. apart x (inr m) y)),
+  rw (getD-set-other w (v + last-of q l) (v + r) t 0 (λ e. omega (arith, last-le w v r (link-at w v r) q l (c .2), c .2 .1)))
+      (linked-splice w v r (link-at w v r) t q l s (omega (arith, c .1)) long (c .2) k (λ x m y. apart x (inr m) y)),
 )
 
 -- the stack then: the chain as it was, and the old stack under it
@@ -162,7 +163,7 @@ pub chain-splice : (m w : List ℕ) (v n h t : ℕ) (l : List ℕ) → ((r : ℕ
 chain-splice [] w v n h t l out c = c
 chain-splice (q ∷ m) w v n h t l out c = chain-frame w v n (v + last-of q m) t h l (λ r a e. out r a (subst (λ (x : ℕ). In x (q ∷ m)) (omega arith) (last-in q m))) c
 
-pub head-splice : (m w : List ℕ) (v t p : ℕ) → p < v → getD (spliced w v t m) p 0 ≡ getD w p 0
+pub head-splice : (m w : List ℕ) (v t p : ℕ) → p < v → head-at (spliced w v t m) p ≡ head-at w p
 head-splice [] w v t p h = refl
 head-splice (q ∷ m) w v t p h = getD-set-other w (v + last-of q m) p t 0 (λ e. omega arith)
 

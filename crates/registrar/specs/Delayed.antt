@@ -1,14 +1,15 @@
 -- How the waiting storage holds the delayed registrations (document 01: those that wait) and the stack of those that came off, and what
--- the functions promise. Place p's head link stands at p, registration r's link at v + r; a link is 0 for none, else the registration
--- plus 1. Definitions only. Assumes nothing.
+-- the functions promise. Definitions only. Assumes nothing.
 use mathlib.Core.Path.{_≡_}
 use mathlib.Core.List.{List, [], _∷_, _++_, List·Memᴰ}
 use mathlib.Core.Bool.{true, false, cond}
 use Prim.Native.Nat.{ℕ, suc, _+_, _*_, _≤_, _<_}
-use lib.ListN.{length, getD, set, take, drop}
+use lib.ListN.{length, set, take, drop}
 use lib.Dec.{eqb}
 use Rattle.rules.specs.Model.{Pending, due, left, queue, push}
+use Rattle.rules.specs.Checks.{waiting-needed}
 use Rattle.laws.specs.Delaying.{Sorted}
+use Rattle.registrar.specs.Reading.{head-at, link-at}
 
 -- the registrations under place p, newest first
 unfoldable pub newest : ℕ → List Pending → List ℕ
@@ -27,18 +28,18 @@ pends r (x ∷ ps) = cond {A = ℕ} (eqb r (x .reg)) 1 0 + pends r ps
 -- from link h the links run through l, each below n and below the one before
 abbrev pub Chain : List ℕ → ℕ → ℕ → ℕ → List ℕ → Type 0
 Chain w v n h [] = h ≡ 0
-Chain w v n h (r ∷ l) = (h ≡ suc r) × (r < n) × Chain w v r (getD w (v + r) 0) l
+Chain w v n h (r ∷ l) = (h ≡ suc r) × (r < n) × Chain w v r (link-at w v r) l
 
 -- from link h the links run through l, in any order
 abbrev pub Linked : List ℕ → ℕ → ℕ → List ℕ → Type 0
 Linked w v h [] = h ≡ 0
-Linked w v h (r ∷ l) = (h ≡ suc r) × (r < v) × Linked w v (getD w (v + r) 0) l
+Linked w v h (r ∷ l) = (h ≡ suc r) × (r < v) × Linked w v (link-at w v r) l
 
 -- storage holds the delayed registrations ps, by the chains of the places from lo on, and the stack st from link `top` on. The heads of
 -- places below lo are stale
 pub record Delayed (w : List ℕ) (v lo : ℕ) (ps : List Pending) (top : ℕ) (st : List ℕ) : Type 0 where
-  pub long : 4 * v ≤ length w
-  pub chains : (p : ℕ) → lo ≤ p → p < v → Chain w v v (getD w p 0) (newest p ps)
+  pub long : waiting-needed v ≤ length w
+  pub chains : (p : ℕ) → lo ≤ p → p < v → Chain w v v (head-at w p) (newest p ps)
   pub stack : Linked w v top st
   pub sorted : Sorted ps
   pub within : (x : Pending) → List·Memᴰ x ps → (lo ≤ x .under) × (x .under < v)
@@ -49,16 +50,20 @@ pub record Later (r : ℕ) (ps : List Pending) (st : List ℕ) : Type 0 where
   pub above : (x : Pending) → List·Memᴰ x ps → x .reg < r
   pub unstacked : occurs r st ≡ 0
 
+-- what is neither head nor link is as it was
+pub record Aside (w : List ℕ) (v : ℕ) (w′ : List ℕ) : Type 0 where
+  pub rest : drop (2 * v) w′ ≡ drop (2 * v) w
+
 -- only the registrations' links have changed
 pub record LinksOnly (w : List ℕ) (v : ℕ) (w′ : List ℕ) : Type 0 where
   pub heads : take v w′ ≡ take v w
-  pub rest : drop (2 * v) w′ ≡ drop (2 * v) w
+  pub aside : Aside w v w′
 
 -- `delay`: r, later than all that wait, waits under p too; heads and links alone have changed
 pub record Joins (w : List ℕ) (v p r : ℕ) (w′ : List ℕ) : Type 0 where
   pub delayed : (lo : ℕ) (ps : List Pending) (top : ℕ) (st : List ℕ) → Delayed w v lo ps top st → Later r ps st → lo ≤ p
       → Delayed w′ v lo (queue (record { under = p; reg = r }) ps) top st
-  pub rest : drop (2 * v) w′ ≡ drop (2 * v) w
+  pub aside : Aside w v w′
 
 -- `stack`: r is on top
 pub record Stacks (w : List ℕ) (v r top t : ℕ) (w′ : List ℕ) : Type 0 where
@@ -70,7 +75,7 @@ pub record Stacks (w : List ℕ) (v r top t : ℕ) (w′ : List ℕ) : Type 0 wh
 pub record Chained (w : List ℕ) (v h : ℕ) : Type 0 where
   pub l : List ℕ
   pub chain : Chain w v v h l
-  pub long : 4 * v ≤ length w
+  pub long : waiting-needed v ≤ length w
 
 -- the links of l turned round onto `top`, and the link of the last of l
 abbrev pub relinked : List ℕ → ℕ → ℕ → List ℕ → List ℕ

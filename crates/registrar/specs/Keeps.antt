@@ -1,5 +1,5 @@
 -- What each function does to the delayed registrations in storage, over plain variables: opening, delaying one, stacking and popping,
--- advancing after a set and after a placing; and that only the first two quarters matter. Assumes nothing.
+-- advancing after a set and after a placing; and that only heads and links matter. Assumes nothing.
 use mathlib.Core.Path.{_≡_, refl, sym, _∙_, ap, subst}
 use mathlib.Core.Logic.{_⊎_, inl, inr, ⊎-elim}
 use mathlib.Core.List.{List, [], _∷_, _++_, List·Memᴰ, List·Memᴰ·not-nil}
@@ -9,31 +9,48 @@ use native.Mathlib.Nat.{suc-ne-zero}
 use native.Mathlib.Numerals.{add-one}
 use native.Mathlib.Omega.{arith}
 use lib.Dec.{eqb}
-use lib.ListN.{length, getD, set, take, length-set}
-use lib.Seq.{getD-set-same, getD-set-other, getD-take, drop-set-lt}
+use lib.ListN.{length, getD, set, length-set}
+use lib.Seq.{getD-set-same, getD-set-other, getD-drop, drop-set-lt}
 use borrow.Author.Tests.{eq-eqb, ne-eqb}
 use Rattle.rules.specs.Model.{Pending, due, left, queue, push}
+use Rattle.rules.specs.Checks.{waiting-needed}
 use Rattle.laws.specs.Delaying.{left-sorted, left-above, queue-sorted}
-use Rattle.registrar.specs.Delayed.{newest, occurs, pends, Chain, Linked, Delayed, Later, Joins, Stacks, LinksOnly, relinked, top-of, spliced, head-of, last-of, Chained, Oldest, Splices, Advancing, AdvancesSet, AdvancesPlaced}
-use Rattle.registrar.specs.Queue.{From, lt-or-le, eq-or-ne, push-append, push-onto, push-twice, due-none, left-all, due-split, left-split, left-in, newest-left, newest-due, down, down-due, occurs-push, pends-split, newest-pends, newest-apart, queue-in, queue-pends, queue-newest, queue-others, pends-none}
-use Rattle.registrar.specs.Chains.{In, in-occurs, chain-same, linked-same, chain-frame, linked-frame, chain-below, chain-bound, links-set, links-refl, links-trans, chain-turn, head-turn, length-turn, links-turn, linked-turn, splice-linked, chain-splice, head-splice, length-splice, links-splice, last-in}
+use Rattle.registrar.specs.Reading.{head-at, link-at}
+use Rattle.registrar.specs.Delayed.{newest, occurs, pends, Chain, Linked, Delayed, Later, Joins, Stacks, Aside, LinksOnly}
+use Rattle.registrar.specs.Delayed.{relinked, top-of, spliced, head-of, last-of, Chained, Oldest, Splices, Advancing, AdvancesSet, AdvancesPlaced}
+use Rattle.registrar.specs.Queue.{From, lt-or-le, eq-or-ne, push-append, push-onto, push-twice, due-none, left-all, due-split, left-split, left-in}
+use Rattle.registrar.specs.Queue.{newest-left, newest-due, down, down-due, occurs-push, pends-split, newest-pends, newest-apart, queue-in, queue-pends, queue-newest, queue-others, pends-none}
+use Rattle.registrar.specs.Chains.{In, in-occurs, chain-same, linked-same, chain-frame, linked-frame, chain-below, chain-bound, links-set, links-refl, links-trans}
+use Rattle.registrar.specs.Chains.{chain-turn, head-turn, length-turn, links-turn, linked-turn, splice-linked, chain-splice, head-splice, length-splice, links-splice, last-in}
 use Rattle.registrar.specs.Loops.{ChainsAt}
 
+-- what is neither head nor link, number by number
+pub aside-at : (w : List ℕ) (v : ℕ) (w′ : List ℕ) → Aside w v w′ → (i : ℕ) → 2 * v ≤ i → getD w′ i 0 ≡ getD w i 0
+aside-at w v w′ a i h =
+    let j : 2 * v + (i - 2 * v) ≡ i = omega arith in
+    subst (λ (x : ℕ). getD w′ x 0 ≡ getD w x 0) j (sym (getD-drop (2 * v) w′ (i - 2 * v) 0) ∙ ap (λ (l : List ℕ). getD l (i - 2 * v) 0) (a .rest) ∙ getD-drop (2 * v) w (i - 2 * v) 0)
+
 -- where all heads are 0 nothing is delayed
-pub delayed-open : (w : List ℕ) (v : ℕ) → 4 * v ≤ length w → ((p : ℕ) → p < v → getD w p 0 ≡ 0) → Delayed w v 0 [] 0 []
+pub delayed-open : (w : List ℕ) (v : ℕ) → waiting-needed v ≤ length w → ((p : ℕ) → p < v → head-at w p ≡ 0) → Delayed w v 0 [] 0 []
 unfolding newest pends occurs
 delayed-open w v long z =
     record { long = long; chains = λ p l h. z p h; stack = refl; sorted = tt; within = λ x h. absurd (List·Memᴰ·not-nil h); apart = λ r. omega arith }
 
+-- the stack's first is taken off
+pub popped : (w : List ℕ) (v lo : ℕ) (ps : List Pending) (top r : ℕ) (st : List ℕ) → Delayed w v lo ps top (r ∷ st) → Delayed w v lo ps (link-at w v r) st
+unfolding occurs
+popped w v lo ps top r st d =
+    record { long = d .long; chains = d .chains; stack = d .stack .2; sorted = d .sorted; within = d .within; apart = λ x. omega (arith, d .apart x) }
+
 module _ (w : List ℕ) (v lo : ℕ) (ps : List Pending) (top : ℕ) (st : List ℕ) (d : Delayed w v lo ps top st) where
-  -- only the cells of heads and links matter
-  pub delayed-same : (w′ : List ℕ) → 4 * v ≤ length w′ → ((i : ℕ) → i < 2 * v → getD w′ i 0 ≡ getD w i 0) → Delayed w′ v lo ps top st
-  delayed-same w′ long same =
+  -- only heads and links matter
+  pub delayed-same : (w′ : List ℕ) → length w′ ≡ length w → ((p : ℕ) → p < v → head-at w′ p ≡ head-at w p) → ((r : ℕ) → r < v → link-at w′ v r ≡ link-at w v r) → Delayed w′ v lo ps top st
+  delayed-same w′ long heads links =
       record {
-        long = long;
-        chains = λ p l h. rw (same p (omega arith))
-            (chain-same w w′ v v (getD w p 0) (newest p ps) (λ r m. same (v + r) (omega (arith, chain-below w v v (getD w p 0) (newest p ps) (d .chains p l h) r m))) (d .chains p l h));
-        stack = linked-same w w′ v top st (λ r m. same (v + r) (omega (arith, stacked top st (d .stack) r m))) (d .stack);
+        long = omega (arith, d .long);
+        chains = λ p l h. rw (heads p h)
+            (chain-same w w′ v v (head-at w p) (newest p ps) (λ r m. links r (chain-below w v v (head-at w p) (newest p ps) (d .chains p l h) r m)) (d .chains p l h));
+        stack = linked-same w w′ v top st (λ r m. links r (stacked top st (d .stack) r m)) (d .stack);
         sorted = d .sorted;
         within = d .within;
         apart = d .apart;
@@ -41,49 +58,32 @@ module _ (w : List ℕ) (v lo : ℕ) (ps : List Pending) (top : ℕ) (st : List 
     where
       stacked : (h : ℕ) (s : List ℕ) → Linked w v h s → (r : ℕ) → In r s → r < v
       stacked h (q ∷ s) k r (inl e) = omega (arith, k .1)
-      stacked h (q ∷ s) k r (inr m) = stacked (getD w (v + q) 0) s (k .2) r m
+      stacked h (q ∷ s) k r (inr m) = stacked (link-at w v q) s (k .2) r m
 
-  pub delayed-low : (w′ : List ℕ) (m : ℕ) → 2 * v ≤ m → length w′ ≡ length w → take m w′ ≡ take m w → Delayed w′ v lo ps top st
-  delayed-low w′ m h e t =
-      delayed-same w′ (omega (arith, d .long)) (λ i k. sym (getD-take m w′ i 0 (omega arith)) ∙ ap (λ (l : List ℕ). getD l i 0) t ∙ getD-take m w i 0 (omega arith))
-
-  -- a store to the other two quarters, or beyond them, keeps it
-  pub delayed-set : (i x : ℕ) → 2 * v ≤ i → Delayed (set w i x) v lo ps top st
-  delayed-set i x h = delayed-same (set w i x) (rw (length-set w i x) (d .long)) (λ j k. getD-set-other w i j x 0 (λ e. omega arith))
-
-  -- the top link is 0 exactly where the stack is empty, else it is the first's
-  pub stack-empty : top ≡ 0 → st ≡ []
+  -- where the top link is 0 the stack is empty
+  stack-empty : top ≡ 0 → st ≡ []
   stack-empty z = go st (d .stack)
     where
       go : (s : List ℕ) → Linked w v top s → s ≡ []
       go [] k = refl
       go (r ∷ s) k = absurd (suc-ne-zero r (sym (k .0) ∙ z))
 
-  pub stack-first : (top ≡ 0 → ⊥) → (s : List ℕ) × (st ≡ (top - 1) ∷ s) × (top - 1 < v) × (top ≤ v)
-  stack-first n = go st (d .stack)
-    where
-      go : (l : List ℕ) → Linked w v top l → (s : List ℕ) × (l ≡ (top - 1) ∷ s) × (top - 1 < v) × (top ≤ v)
-      go [] k = absurd (n k)
-      go (r ∷ s) k =
-          let e : r ≡ top - 1 = omega (arith, k .0) in
-          (s, ap (λ (x : ℕ). x ∷ s) e, omega (arith, k .1), omega (arith, k .0, k .1))
-
   -- a delayed registration is below v
   pub delayed-below : (p r : ℕ) → lo ≤ p → p < v → In r (newest p ps) → r < v
-  delayed-below p r l h m = chain-below w v v (getD w p 0) (newest p ps) (d .chains p l h) r m
+  delayed-below p r l h m = chain-below w v v (head-at w p) (newest p ps) (d .chains p l h) r m
 
   -- no chain shares a registration with the stack
   unstacked : (p r : ℕ) → In r (newest p ps) → In r st → ⊥
   unstacked p r a b = omega (arith, d .apart r, newest-pends r p ps, in-occurs r (newest p ps) a, in-occurs r st b)
 
   -- delaying one more
-  pub delay-keeps : (p r : ℕ) → Later r ps st → lo ≤ p → p < v → r < v → Delayed (set (set w (v + r) (getD w p 0)) p (r + 1)) v lo (queue (record { under = p; reg = r }) ps) top st
+  pub delay-keeps : (p r : ℕ) → Later r ps st → lo ≤ p → p < v → r < v → Delayed (set (set w (v + r) (head-at w p)) p (r + 1)) v lo (queue (record { under = p; reg = r }) ps) top st
   unfolding occurs
   delay-keeps p r n lp pv rv =
       record {
         long = simp length-set (d .long);
         chains = λ q l h. ⊎-elim (λ e. here q e) (λ ne. other q l h ne) (eq-or-ne q p);
-        stack = linked-frame w₁ v p (r + 1) top st (λ q m e. omega arith) (linked-frame w v (v + r) (getD w p 0) top st (λ q m e. new q m (omega arith)) (d .stack));
+        stack = linked-frame w₁ v p (r + 1) top st (λ q m e. omega arith) (linked-frame w v (v + r) (head-at w p) top st (λ q m e. new q m (omega arith)) (d .stack));
         sorted = queue-sorted x ps (n .above) (d .sorted);
         within = λ y h. ⊎-elim (λ e. rw e (lp, pv)) (λ k. d .within y k) (queue-in x ps y h);
         apart = λ q. counts q (eq-or-ne q r);
@@ -93,7 +93,7 @@ module _ (w : List ℕ) (v lo : ℕ) (ps : List Pending) (top : ℕ) (st : List 
       x = record { under = p; reg = r }
 
       w₁ : List ℕ
-      w₁ = set w (v + r) (getD w p 0)
+      w₁ = set w (v + r) (head-at w p)
 
       w₂ : List ℕ
       w₂ = set w₁ p (r + 1)
@@ -112,38 +112,24 @@ module _ (w : List ℕ) (v lo : ℕ) (ps : List Pending) (top : ℕ) (st : List 
           rw (queue-pends q x ps, eq-eqb q r e) (rw e (omega (arith, pends-none r ps (n .above), n .unstacked)))
       counts q (inr ne) = rw (queue-pends q x ps, ne-eqb q r ne) (omega (arith, d .apart q))
 
-      kept : (q : ℕ) → lo ≤ q → q < v → Chain w₂ v v (getD w q 0) (newest q ps)
+      kept : (q : ℕ) → lo ≤ q → q < v → Chain w₂ v v (head-at w q) (newest q ps)
       kept q l h =
-          chain-frame w₁ v v p (r + 1) (getD w q 0) (newest q ps) (λ m k e. omega arith)
-          (chain-frame w v v (v + r) (getD w p 0) (getD w q 0) (newest q ps) (λ m k e. omega (arith, earlier q m k)) (d .chains q l h))
+          chain-frame w₁ v v p (r + 1) (head-at w q) (newest q ps) (λ m k e. omega arith)
+          (chain-frame w v v (v + r) (head-at w p) (head-at w q) (newest q ps) (λ m k e. omega (arith, earlier q m k)) (d .chains q l h))
 
-      here : (q : ℕ) → q ≡ p → Chain w₂ v v (getD w₂ q 0) (newest q (queue x ps))
+      here : (q : ℕ) → q ≡ p → Chain w₂ v v (head-at w₂ q) (newest q (queue x ps))
       here q e =
           rw (e, queue-newest x ps (d .sorted)) (
             getD-set-same w₁ p (r + 1) 0 (simp length-set (omega (arith, d .long))) ∙ add-one r,
             rv,
             subst (λ (k : ℕ). Chain w₂ v r k (newest p ps))
-                (sym (getD-set-other w₁ p (v + r) (r + 1) 0 (λ f. omega arith) ∙ getD-set-same w (v + r) (getD w p 0) 0 (omega (arith, d .long))))
-                (chain-bound w₂ v v r (getD w p 0) (newest p ps) (earlier p) (kept p lp pv)),
+                (sym (getD-set-other w₁ p (v + r) (r + 1) 0 (λ f. omega arith) ∙ getD-set-same w (v + r) (head-at w p) 0 (omega (arith, d .long))))
+                (chain-bound w₂ v v r (head-at w p) (newest p ps) (earlier p) (kept p lp pv)),
           )
 
-      other : (q : ℕ) → lo ≤ q → q < v → (q ≡ p → ⊥) → Chain w₂ v v (getD w₂ q 0) (newest q (queue x ps))
+      other : (q : ℕ) → lo ≤ q → q < v → (q ≡ p → ⊥) → Chain w₂ v v (head-at w₂ q) (newest q (queue x ps))
       other q l h ne =
-          rw (queue-others q x ps (λ e. ne (sym e)), getD-set-other w₁ p q (r + 1) 0 ne, getD-set-other w (v + r) q (getD w p 0) 0 (λ e. omega arith)) (kept q l h)
-
-  -- the stack's first is taken off
-  pub pop-keeps : (r : ℕ) (s : List ℕ) → st ≡ r ∷ s → Delayed w v lo ps (getD w (v + r) 0) s
-  unfolding occurs
-  pop-keeps r s e =
-      let k : Linked w v top (r ∷ s) = subst (λ (l : List ℕ). Linked w v top l) e (d .stack) in
-      record {
-        long = d .long;
-        chains = d .chains;
-        stack = k .2;
-        sorted = d .sorted;
-        within = d .within;
-        apart = λ q. let a = subst (λ (l : List ℕ). pends q ps + occurs q l ≤ 1) e (d .apart q) in omega (arith, a);
-      }
+          rw (queue-others q x ps (λ e. ne (sym e)), getD-set-other w₁ p q (r + 1) 0 ne, getD-set-other w (v + r) q (head-at w p) 0 (λ e. omega arith)) (kept q l h)
 
   -- one more on the stack
   pub stack-keeps : (r : ℕ) → r < v → pends r ps + occurs r st ≡ 0 → Delayed (set w (v + r) top) v lo ps (r + 1) (r ∷ st)
@@ -153,7 +139,7 @@ module _ (w : List ℕ) (v lo : ℕ) (ps : List Pending) (top : ℕ) (st : List 
         long = rw (length-set w (v + r) top) (d .long);
         chains = λ p l h.
             rw (getD-set-other w (v + r) p top 0 (λ e. omega arith))
-            (chain-frame w v v (v + r) top (getD w p 0) (newest p ps) (λ m k e. undelayed p m k (omega arith)) (d .chains p l h));
+            (chain-frame w v v (v + r) top (head-at w p) (newest p ps) (λ m k e. undelayed p m k (omega arith)) (d .chains p l h));
         stack = (
           add-one r,
           rv,
@@ -190,9 +176,11 @@ module _ (w : List ℕ) (v lo : ℕ) (ps : List Pending) (top : ℕ) (st : List 
         long = rw (length-splice l w v top) (d .long);
         chains = λ q a b.
             rw (newest-left (suc lo) q ps a, head-splice l w v top q b)
-            (chain-splice l w v v (getD w q 0) top (newest q ps) (λ r x y. omega (arith, d .apart r, newest-apart r q lo ps (λ e. omega arith), in-occurs r (newest q ps) x, in-occurs r l y))
+            (chain-splice l w v v (head-at w q) top (newest q ps) (λ r x y. omega (arith, d .apart r, newest-apart r q lo ps (λ e. omega arith), in-occurs r (newest q ps) x, in-occurs r l y))
             (d .chains q (omega arith) b));
-        stack = subst (λ (s : List ℕ). Linked (spliced w v top l) v (head-of top l) s) stack-is (splice-linked w v (getD w lo 0) top l st (omega (arith, d .long)) (d .chains lo (omega arith) h) (d .stack) (unstacked lo));
+        stack =
+            subst (λ (s : List ℕ). Linked (spliced w v top l) v (head-of top l) s) stack-is
+            (splice-linked w v (head-at w lo) top l st (omega (arith, d .long)) (d .chains lo (omega arith) h) (d .stack) (unstacked lo));
         sorted = left-sorted (suc lo) ps (d .sorted);
         within = kept-within (suc lo);
         apart = λ r. rw (occurs-push r (due (suc lo) ps) st) (omega (arith, d .apart r, pends-split r (suc lo) ps));
@@ -255,8 +243,10 @@ module _ (w : List ℕ) (v lo hi : ℕ) (ps : List Pending) (d : Delayed w v lo 
         long = rw (length-turn chains-down w v 0) (d .long);
         chains = λ q a b.
             rw (newest-left hi q ps a, head-turn chains-down w v 0 q b)
-            (chain-turn chains-down w v v (getD w q 0) 0 (newest q ps) (λ r x y. apartly q r a x y) (d .chains q (omega arith) b));
-        stack = subst (λ (s : List ℕ). Linked (relinked w v 0 chains-down) v (top-of 0 chains-down) s) stack-is (linked-turn chains-down w v 0 [] (omega (arith, d .long)) down-below (λ r. single r) refl);
+            (chain-turn chains-down w v v (head-at w q) 0 (newest q ps) (λ r x y. apartly q r a x y) (d .chains q (omega arith) b));
+        stack =
+            subst (λ (s : List ℕ). Linked (relinked w v 0 chains-down) v (top-of 0 chains-down) s) stack-is
+            (linked-turn chains-down w v 0 [] (omega (arith, d .long)) down-below (λ r. single r) refl);
         sorted = left-sorted hi ps (d .sorted);
         within = λ x h. (left-above hi ps (d .sorted) x h, d .within x (left-in hi ps x h) .1);
         apart = λ r. omega (arith, d .apart r, pends-split r hi ps);
@@ -281,11 +271,11 @@ module _ (w : List ℕ) (v lo hi : ℕ) (ps : List Pending) (d : Delayed w v lo 
 
 -- ---- the promises of delay, stack and splice
 
-pub joins : (w : List ℕ) (v p r : ℕ) → p < v → r < v → Joins w v p r (set (set w (v + r) (getD w p 0)) p (r + 1))
+pub joins : (w : List ℕ) (v p r : ℕ) → p < v → r < v → Joins w v p r (set (set w (v + r) (head-at w p)) p (r + 1))
 joins w v p r hp hr =
     record {
       delayed = λ lo ps top st d n l. delay-keeps w v lo ps top st d p r n l hp hr;
-      rest = drop-set-lt (2 * v) (set w (v + r) (getD w p 0)) p (r + 1) (omega arith) ∙ drop-set-lt (2 * v) w (v + r) (getD w p 0) (omega arith);
+      aside = record { rest = drop-set-lt (2 * v) (set w (v + r) (head-at w p)) p (r + 1) (omega arith) ∙ drop-set-lt (2 * v) w (v + r) (head-at w p) (omega arith) };
     }
 
 pub stacks : (w : List ℕ) (v r top : ℕ) → r < v → Stacks w v r top (r + 1) (set w (v + r) top)
@@ -328,15 +318,15 @@ placing-start w v lo top = record { delayed = λ ps st d. go ps st d; kept = lin
         let f : From lo ps = λ x h. d .within x h .0 in
         rw (left-all lo ps f, due-none lo ps f) d
 
-module _ (w₀ : List ℕ) (v lo hi top₀ : ℕ) (a : Advancing w₀ v lo hi top₀) (w : List ℕ) (p top : ℕ) (g : Placing w₀ v lo top₀ w p top) (lt : p < hi) where
+module _ {w₀ : List ℕ} {v lo hi top₀ : ℕ} (a : Advancing w₀ v lo hi top₀) {w : List ℕ} {p top : ℕ} (g : Placing w₀ v lo top₀ w p top) (lt : p < hi) where
   there : Delayed w v p (left p (a .ps)) top (push (due p (a .ps)) (a .st))
   there = g .delayed (a .ps) (a .st) (a .delayed)
 
-  pub placing-chained : Chained w v (getD w p 0)
+  pub placing-chained : Chained w v (head-at w p)
   placing-chained = record { l = newest p (left p (a .ps)); chain = there .chains p (omega arith) (omega (arith, a .high)); long = there .long }
 
-  pub placing-next : (t : ℕ) (w′ : List ℕ) → Splices w v (getD w p 0) top t w′ → Placing w₀ v lo top₀ w′ (p + 1) t
-  placing-next t w′ s = record { delayed = λ ps st d. step ps st d; kept = links-trans w₀ w w′ v (g .kept) links }
+  pub placing-next : {t : ℕ} {w′ : List ℕ} → Splices w v (head-at w p) top t w′ → Placing w₀ v lo top₀ w′ (p + 1) t
+  placing-next {t} {w′} s = record { delayed = λ ps st d. step ps st d; kept = links-trans w₀ w w′ v (g .kept) links }
     where
       inside : p < v
       inside = omega (arith, a .high)
@@ -356,8 +346,8 @@ module _ (w₀ : List ℕ) (v lo hi top₀ : ℕ) (a : Advancing w₀ v lo hi to
           let k = s .placed (newest p (left p (a .ps))) (there .chains p (omega arith) inside) in
           rw (k .1) (splice-links w v p (left p (a .ps)) top (push (due p (a .ps)) (a .st)) there inside)
 
-pub placing-end : (w₀ : List ℕ) (v lo hi top₀ : ℕ) (w : List ℕ) (p top : ℕ) → Placing w₀ v lo top₀ w p top → p ≡ hi → AdvancesPlaced w₀ v lo hi top₀ top w
-placing-end w₀ v lo hi top₀ w p top g e =
+pub placing-end : {w₀ : List ℕ} {v lo hi top₀ : ℕ} {w : List ℕ} {p top : ℕ} → Placing w₀ v lo top₀ w p top → p ≡ hi → AdvancesPlaced w₀ v lo hi top₀ top w
+placing-end {w₀} {v} {lo} {hi} {top₀} {w} {p} {top} g e =
     record { delayed = λ ps st d. subst (λ (x : ℕ). Delayed w v x (left x ps) top (push (due x ps) st)) e (g .delayed ps st d); kept = g .kept }
 
 -- ---- the loop of advance_set

@@ -2,10 +2,12 @@
 -- the walk to a chain's oldest. Assumes nothing.
 use mathlib.Core.Path.{_≡_, refl, sym, _∙_, ap, subst}
 use mathlib.Core.List.{List, [], _∷_, _++_}
-use Prim.Native.Nat.{ℕ, suc, _+_, _-_, _*_, _≤_, _<_}
+use Prim.Native.Nat.{ℕ, suc, _+_, _-_, _≤_, _<_}
 use native.Mathlib.Nat.{suc-ne-zero}
 use native.Mathlib.Omega.{arith}
-use lib.ListN.{length, getD, set, length-set}
+use lib.ListN.{length, set, length-set}
+use Rattle.rules.specs.Checks.{waiting-needed}
+use Rattle.registrar.specs.Reading.{head-at, link-at}
 use Rattle.registrar.specs.Delayed.{Chain, Chained, relinked, top-of, last-of, Turns, Oldest}
 use Rattle.registrar.specs.Queue.{down}
 use Rattle.registrar.specs.Chains.{In, chain-frame, chain-le, chain-below, chain-unique, chain-turn, head-turn, length-turn, relinked-append, top-of-append}
@@ -20,7 +22,7 @@ pub record Turning (w₀ : List ℕ) (v from onto : ℕ) (w : List ℕ) (h top :
   pub chain : Chain w v n h l
   pub tops : top-of top l ≡ top-of onto l₀
   pub links : relinked w v top l ≡ relinked w₀ v onto l₀
-  pub long : 4 * v ≤ length w
+  pub long : waiting-needed v ≤ length w
 
 pub turn-start : (w : List ℕ) (v h top : ℕ) → Chained w v h → Turning w v h top w h top
 turn-start w v h top c = record { l₀ = c .l; chain₀ = c .chain; n = v; l = c .l; few = omega arith; chain = c .chain; tops = refl; links = refl; long = c .long }
@@ -30,11 +32,11 @@ pub turn-at : (w₀ : List ℕ) (v from onto : ℕ) (w : List ℕ) (h top : ℕ)
 turn-at w₀ v from onto w h top t = omega (arith, chain-le w v (t .n) h (t .l) (t .chain), t .few)
 
 pub turn-more : (w₀ : List ℕ) (v from onto : ℕ) (w : List ℕ) (h top : ℕ) → Turning w₀ v from onto w h top → (h ≡ 0 → ⊥)
-    → Turning w₀ v from onto (set w (v + (h - 1)) top) (getD w (v + (h - 1)) 0) h × (getD w (v + (h - 1)) 0 < h)
+    → Turning w₀ v from onto (set w (v + (h - 1)) top) (link-at w v (h - 1)) h × (link-at w v (h - 1) < h)
 turn-more w₀ v from onto w h top t nz = go (t .l) (t .chain) (t .tops) (t .links)
   where
     go : (l : List ℕ) → Chain w v (t .n) h l → top-of top l ≡ top-of onto (t .l₀) → relinked w v top l ≡ relinked w₀ v onto (t .l₀)
-        → Turning w₀ v from onto (set w (v + (h - 1)) top) (getD w (v + (h - 1)) 0) h × (getD w (v + (h - 1)) 0 < h)
+        → Turning w₀ v from onto (set w (v + (h - 1)) top) (link-at w v (h - 1)) h × (link-at w v (h - 1) < h)
     go [] c tops links = absurd (nz c)
     go (r ∷ l) c tops links =
         let e : h - 1 ≡ r = omega (arith, c .0) in
@@ -45,12 +47,12 @@ turn-more w₀ v from onto w h top t nz = go (t .l) (t .chain) (t .tops) (t .lin
             n = r;
             l = l;
             few = omega (arith, c .1, t .few);
-            chain = chain-frame w v r (v + r) top (getD w (v + r) 0) l (λ q m p. omega (arith, chain-below w v r (getD w (v + r) 0) l (c .2) q m)) (c .2);
+            chain = chain-frame w v r (v + r) top (link-at w v r) l (λ q m p. omega (arith, chain-below w v r (link-at w v r) l (c .2) q m)) (c .2);
             tops = tops;
             links = links;
             long = simp length-set (t .long);
           },
-          omega (arith, chain-le w v r (getD w (v + r) 0) l (c .2)),
+          omega (arith, chain-le w v r (link-at w v r) l (c .2)),
         )
 
 pub turn-end : (w₀ : List ℕ) (v from onto : ℕ) (w : List ℕ) (h top : ℕ) → Turning w₀ v from onto w h top → h ≡ 0 → Turns w₀ v from onto top w
@@ -65,9 +67,9 @@ turn-end w₀ v from onto w h top t z = record { turned = λ l c. rw (chain-uniq
 
 -- each place from lo to hi has its chain, and no registration is in two
 pub record ChainsAt (w : List ℕ) (v lo hi : ℕ) (ch : ℕ → List ℕ) : Type 0 where
-  pub long : 4 * v ≤ length w
+  pub long : waiting-needed v ≤ length w
   pub high : hi ≤ v
-  pub at : (p : ℕ) → lo ≤ p → p < hi → Chain w v v (getD w p 0) (ch p)
+  pub at : (p : ℕ) → lo ≤ p → p < hi → Chain w v v (head-at w p) (ch p)
   pub apart : (p q r : ℕ) → p < hi → q < hi → In r (ch p) → In r (ch q) → p ≡ q
 
 -- the last place's chain is taken off
@@ -76,7 +78,7 @@ places-less w v lo p t ch s =
     record {
       long = rw (length-turn (ch p) w v t) (s .long);
       high = omega (arith, s .high);
-      at = λ q l h. rw (head-turn (ch p) w v t q (omega (arith, s .high))) (chain-turn (ch p) w v v (getD w q 0) t (ch q) (λ r a b. apartly q h r a b) (s .at q l (omega arith)));
+      at = λ q l h. rw (head-turn (ch p) w v t q (omega (arith, s .high))) (chain-turn (ch p) w v v (head-at w q) t (ch q) (λ r a b. apartly q h r a b) (s .at q l (omega arith)));
       apart = λ a b r x y. s .apart a b r (omega arith) (omega arith);
     }
   where
@@ -120,16 +122,16 @@ module _ (w₀ : List ℕ) (v lo hi onto : ℕ) (ch : ℕ → List ℕ) (w : Lis
   pub going-next : (w′ : List ℕ) (top′ : ℕ) → w′ ≡ relinked w v top (ch (p - 1)) → top′ ≡ top-of top (ch (p - 1)) → Going w₀ v lo hi onto ch w′ (p - 1) top′
   going-next w′ top′ ew et = going-more w₀ v lo hi onto ch w (p - 1) top w′ top′ at-more (omega arith) ew et
 
-  pub going-chain : Chain w v v (getD w (p - 1) 0) (ch (p - 1))
+  pub going-chain : Chain w v v (head-at w (p - 1)) (ch (p - 1))
   going-chain = at-more .left .at (p - 1) (omega arith) (omega arith)
 
-  pub going-chained : Chained w v (getD w (p - 1) 0)
+  pub going-chained : Chained w v (head-at w (p - 1))
   going-chained = record { l = ch (p - 1); chain = going-chain; long = at-more .left .long }
 
   pub going-in : p ≤ v
   going-in = g .left .high
 
-  pub going-long : 4 * v ≤ length w
+  pub going-long : waiting-needed v ≤ length w
   going-long = g .left .long
 
 -- ---- the walk to the oldest
@@ -147,27 +149,27 @@ pub record Seeking (w : List ℕ) (v from r next : ℕ) : Type 0 where
   pub chain : Chain w v r next l
   pub low : r < v
   pub last : last-of r l ≡ last-of q₀ l₀
-  pub long : 4 * v ≤ length w
+  pub long : waiting-needed v ≤ length w
 
-pub seek-start : (w : List ℕ) (v from : ℕ) → Chained w v from → 0 < from → Seeking w v from (from - 1) (getD w (v + (from - 1)) 0)
+pub seek-start : (w : List ℕ) (v from : ℕ) → Chained w v from → 0 < from → Seeking w v from (from - 1) (link-at w v (from - 1))
 seek-start w v from c nz = go (c .l) (c .chain)
   where
-    go : (l : List ℕ) → Chain w v v from l → Seeking w v from (from - 1) (getD w (v + (from - 1)) 0)
+    go : (l : List ℕ) → Chain w v v from l → Seeking w v from (from - 1) (link-at w v (from - 1))
     go [] d = absurd (omega (arith, d))
     go (r ∷ l) d = let e : from - 1 ≡ r = omega (arith, d .0) in rw e (record { q₀ = r; l₀ = l; chain₀ = d; l = l; chain = d .2; low = d .1; last = refl; long = c .long })
 
 pub seek-more : (w : List ℕ) (v from r next : ℕ) → Seeking w v from r next → (next ≡ 0 → ⊥)
-    → Seeking w v from (next - 1) (getD w (v + (next - 1)) 0) × (getD w (v + (next - 1)) 0 < next) × (next - 1 < v)
+    → Seeking w v from (next - 1) (link-at w v (next - 1)) × (link-at w v (next - 1) < next) × (next - 1 < v)
 seek-more w v from r next s nz = go (s .l) (s .chain) (s .last)
   where
     go : (l : List ℕ) → Chain w v r next l → last-of r l ≡ last-of (s .q₀) (s .l₀)
-        → Seeking w v from (next - 1) (getD w (v + (next - 1)) 0) × (getD w (v + (next - 1)) 0 < next) × (next - 1 < v)
+        → Seeking w v from (next - 1) (link-at w v (next - 1)) × (link-at w v (next - 1) < next) × (next - 1 < v)
     go [] c e = absurd (nz c)
     go (q ∷ l) c e =
         let d : next - 1 ≡ q = omega (arith, c .0) in
         rw d (
           record { q₀ = s .q₀; l₀ = s .l₀; chain₀ = s .chain₀; l = l; chain = c .2; low = omega (arith, c .1, s .low); last = e; long = s .long },
-          omega (arith, c .0, chain-le w v q (getD w (v + q) 0) l (c .2)),
+          omega (arith, c .0, chain-le w v q (link-at w v q) l (c .2)),
           omega (arith, c .1, s .low),
         )
 

@@ -2,9 +2,9 @@
 -- Nothing of storage is here. Assumes nothing.
 use mathlib.Core.Path.{_≡_, refl, sym, ap, _∙_}
 use mathlib.Core.Logic.{_⊎_, inl, inr}
-use mathlib.Core.List.{List, [], _∷_, _++_, append-assoc, List·Memᴰ, List·Memᴰ·head, List·Memᴰ·tail, List·Memᴰ·not-nil, List·Memᴰ·cases-cons}
+use mathlib.Core.List.{List, [], _∷_, _++_, append-assoc, List·Memᴰ, List·Memᴰ·head, List·Memᴰ·tail, List·Memᴰ·cases-cons}
 use mathlib.Core.Bool.{true, false, cond}
-use Prim.Native.Nat.{ℕ, zero, suc, _+_, _-_, _≤_, _<_}
+use Prim.Native.Nat.{ℕ, zero, suc, _+_, _≤_, _<_}
 use native.Mathlib.Omega.{arith}
 use lib.Dec.{eqb, ltb}
 use borrow.Author.Tests.{ltb-true, ltb-false, eqb-true, eqb-false, eq-eqb, ne-eqb, lt-ltb, le-ltb}
@@ -244,7 +244,8 @@ unfolding queue pends
 queue-pends r x [] = refl
 queue-pends r x (y ∷ ps) = go (lt-or-le (x .under) (y .under)) (queue-pends r x ps)
   where
-    go : (x .under < y .under) ⊎ (y .under ≤ x .under) → pends r (queue x ps) ≡ cond {A = ℕ} (eqb r (x .reg)) 1 0 + pends r ps → pends r (queue x (y ∷ ps)) ≡ cond {A = ℕ} (eqb r (x .reg)) 1 0 + pends r (y ∷ ps)
+    go : (x .under < y .under) ⊎ (y .under ≤ x .under) → pends r (queue x ps) ≡ cond {A = ℕ} (eqb r (x .reg)) 1 0 + pends r ps
+        → pends r (queue x (y ∷ ps)) ≡ cond {A = ℕ} (eqb r (x .reg)) 1 0 + pends r (y ∷ ps)
     go (inl k) i = rw (queue-first x y ps k, pends)
     go (inr k) i = rw (queue-later x y ps k, pends) (omega arith)
 

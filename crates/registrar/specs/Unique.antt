@@ -4,10 +4,9 @@ use mathlib.Core.Logic.{_⊎_, inl, inr}
 use mathlib.Core.List.{List, [], _∷_, _++_, List·Memᴰ, List·Memᴰ·head}
 use Prim.Native.Nat.{ℕ, zero, suc, _+_, _-_, _≤_, _<_}
 use native.Mathlib.Omega.{arith}
-use lib.ListN.{getD}
 use Rattle.rules.specs.Model.{Pending, left}
 use Rattle.laws.specs.Delaying.{Sorted, left-sorted, left-above}
-use Rattle.registrar.specs.Reading.{chain-from, onto, reading, waiting-in}
+use Rattle.registrar.specs.Reading.{head-at, link-at, chain-from, onto, reading, waiting-in}
 use Rattle.registrar.specs.Delayed.{newest, Chain, Delayed}
 use Rattle.registrar.specs.Queue.{From, from-tail, eq-or-ne, left-in, newest-left, newest-none, newest-same, left-more, left-stop, sorted-from}
 use Rattle.registrar.specs.Chains.{linked-unique}
@@ -52,13 +51,13 @@ unfolding chain-from
 chain-read zero w v n h [] k c = refl
 chain-read zero w v n h (r ∷ l) k c = absurd (omega (arith, c .1))
 chain-read (suc f) w v n h [] k c = rw c
-chain-read (suc f) w v n h (r ∷ l) k c = rw (c .0) (ap (λ (x : List ℕ). r ∷ x) (chain-read f w v r (getD w (v + r) 0) l (omega (arith, c .1)) (c .2)))
+chain-read (suc f) w v n h (r ∷ l) k c = rw (c .0) (ap (λ (x : List ℕ). r ∷ x) (chain-read f w v r (link-at w v r) l (omega (arith, c .1)) (c .2)))
 
 -- those read are those that wait
 pub pending-read : (w : List ℕ) (v lo : ℕ) (ps : List Pending) (top : ℕ) (st : List ℕ) → Delayed w v lo ps top st → waiting-in w v lo ≡ ps
 unfolding waiting-in
 pending-read w v lo ps top st d =
-    reading-same (v - lo) lo (λ q. chain-from v w v (getD w q 0)) (λ q. newest q ps) (λ q a b. chain-read v w v v (getD w q 0) (newest q ps) (omega arith) (d .chains q a (omega arith)))
+    reading-same (v - lo) lo (λ q. chain-from v w v (head-at w q)) (λ q. newest q ps) (λ q a b. chain-read v w v v (head-at w q) (newest q ps) (omega arith) (d .chains q a (omega arith)))
     ∙ sym (read-back (v - lo) lo ps (d .sorted) (λ x h. d .within x h .0) (λ x h. omega (arith, d .within x h)))
 
 module _ (w : List ℕ) (v lo : ℕ) (ps : List Pending) (top : ℕ) (st : List ℕ) (ps′ : List Pending) (st′ : List ℕ) (d : Delayed w v lo ps top st) (e : Delayed w v lo ps′ top st′) where

@@ -1,15 +1,26 @@
 // Delayed registrations (document 01: those that wait), in a chain for each place, newest first, and the stack of those that came off.
-// The first quarter of the storage holds a head link for each place, the second a link for each registration; chains and stack share
-// the registrations' links. A link is 0 for none, else the registration plus 1. The other two quarters are not touched.
+// The waiting storage has a head link for each place and a link for each registration; chains and stack share the registrations' links.
+// A link is 0 for none, else the registration plus 1. This crate alone knows where they lie: of the quarters of v numbers, the first
+// holds the heads, the second the links.
 ghost use mathlib.Core.Path.{_≡_};
-ghost use mathlib.Core.List.{List};
-ghost use Prim.Native.Nat.{ℕ, _+_, _*_, _-_, _≤_, _<_};
-ghost use lib.ListN.{length, getD};
-ghost use Rattle.registrar.specs.Delayed.{Chain, Chained, Joins, Stacks, Turns, Splices, Oldest, Advancing, AdvancesSet, AdvancesPlaced};
+ghost use Prim.Native.Nat.{_≤_, _<_};
+ghost use lib.ListN.{length};
+ghost use Rattle.rules.specs.Checks.{waiting-needed};
+ghost use Rattle.zeros.specs.Zeros.{Cleared};
+ghost use Rattle.registrar.specs.Reading.{link-at};
+ghost use Rattle.registrar.specs.Delayed.{Chained, Joins, Stacks, Turns, Splices, Oldest, Advancing, AdvancesSet, AdvancesPlaced};
+
+// Nothing waits under any place.
+pub fn clear(w: &mut [u64], v: usize)
+    requires { ⌜ waiting-needed v ≤ length (now w) ⌝ }
+    ensures { λ _. ⌜ Cleared 0 v (now (w .entry)) (now (w .exit)) ⌝ }
+{
+    zeros::clear64(w, 0, v);
+}
 
 // Registration r joins those that wait under place p.
 pub fn delay(w: &mut [u64], v: usize, p: usize, r: usize)
-    requires { ⌜ (p < v) × (r < v) × (4 * v ≤ length (now w)) ⌝ }
+    requires { ⌜ (p < v) × (r < v) × (waiting-needed v ≤ length (now w)) ⌝ }
     ensures { λ _. ⌜ Joins (now (w .entry)) v p r (now (w .exit)) ⌝ }
 {
     let head = w[p];
@@ -19,7 +30,7 @@ pub fn delay(w: &mut [u64], v: usize, p: usize, r: usize)
 
 // Registration r is put on the stack whose top link is `top`; the new top link.
 pub fn stack(w: &mut [u64], v: usize, r: usize, top: u64) -> u64
-    requires { ⌜ (r < v) × (4 * v ≤ length (now w)) ⌝ }
+    requires { ⌜ (r < v) × (waiting-needed v ≤ length (now w)) ⌝ }
     ensures { λ t. ⌜ Stacks (now (w .entry)) v r top t (now (w .exit)) ⌝ }
 {
     w[v + r] = top;
@@ -28,8 +39,8 @@ pub fn stack(w: &mut [u64], v: usize, r: usize, top: u64) -> u64
 
 // The link under registration r: the stack's top link once r is taken off it.
 pub fn next(w: &[u64], v: usize, r: usize) -> u64
-    requires { ⌜ (r < v) × (4 * v ≤ length (now w)) ⌝ }
-    ensures { λ t. ⌜ t ≡ getD (now (w .entry)) (v + r) 0 ⌝ }
+    requires { ⌜ (r < v) × (waiting-needed v ≤ length (now w)) ⌝ }
+    ensures { λ t. ⌜ t ≡ link-at (now (w .entry)) v r ⌝ }
 {
     w[v + r]
 }

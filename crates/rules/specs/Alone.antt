@@ -1,12 +1,14 @@
 -- Document 01, the guide alone: opened with P and V and lent spans, order and tally; push with value, added and accepted from its
 -- caller; flush. Its refusals are 1, 2, 13 and 14. Assumes nothing.
 use mathlib.Core.List.{List, [], _∷_, _++_}
-use mathlib.Core.Bool.{Bool, true, false, not, _&&_, _||_}
+use mathlib.Core.Bool.{Bool, false, not, _&&_, _||_}
 use mathlib.Core.Option.{Option, some, none}
-use Prim.Native.Nat.{ℕ, suc, _+_, _-_, _*_}
+use Prim.Native.Nat.{ℕ, suc, _+_, _-_}
 use lib.ListN.{length, getD}
 use lib.Dec.{leb, ltb, eqb}
-use Rattle.rules.specs.Guide.{Loc, Item, Guide, fresh, flush as flush-guide, Placed, place}
+use Rattle.rules.specs.Limits.{last-span-limit}
+use Rattle.rules.specs.Refusals as refusal
+use Rattle.rules.specs.Guide.{Loc, Item, Guide, fresh, flush as flush-guide, place}
 use Rattle.rules.specs.Checks.{Check, verdict, any, short, spans-needed, tally-needed, check-range}
 use Rattle.rules.specs.Calls.{unless-refused}
 
@@ -21,7 +23,7 @@ alone = record { guide = fresh; pushes = 0 }
 -- opening: 1, then 2 for spans and order in entries and the tally in counts
 unfoldable pub check-alone : ℕ → ℕ → ℕ → ℕ → ℕ → List Check
 check-alone P N spans order tally =
-    check-range P N ++ (record { fails = any short ((spans, spans-needed P) ∷ (order, N) ∷ (tally, tally-needed P) ∷ []); number = 2 } ∷ [])
+    check-range P N ++ (record { fails = any short ((spans, spans-needed P) ∷ (order, N) ∷ (tally, tally-needed P) ∷ []); number = refusal.too-short } ∷ [])
 
 -- an entry with this location is held
 unfoldable pub holds : Guide → Loc → Bool
@@ -34,16 +36,16 @@ stray g (some l) = not (eqb (l .span) 0 && eqb (l .pos) 0) && (leb (g .first) (l
 
 -- 14's second half: the last span number is 4,294,967,264 or more
 unfoldable pub worn : Guide → Bool
-worn g = leb 4294967264 (g .first + 31)
+worn g = leb last-span-limit (g .first + 31)
 
 -- push: 14, 13
 unfoldable pub check-push : ℕ → Option Loc → Alone → List Check
 check-push N after a =
-    record { fails = leb N (a .pushes) || worn (a .guide); number = 14 } ∷ (record { fails = stray (a .guide) after; number = 13 } ∷ [])
+    record { fails = leb N (a .pushes) || worn (a .guide); number = refusal.guide-exhausted } ∷ (record { fails = stray (a .guide) after; number = refusal.not-held } ∷ [])
 
 -- flush: 14's second half
 unfoldable pub check-flush-alone : Alone → List Check
-check-flush-alone a = record { fails = worn (a .guide); number = 14 } ∷ []
+check-flush-alone a = record { fails = worn (a .guide); number = refusal.guide-exhausted } ∷ []
 
 pub data Request : Type 0 where
   push : Option Loc → Item → Request

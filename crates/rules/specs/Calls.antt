@@ -1,10 +1,10 @@
 -- Document 01, the clerk's calls: each meets its checks; a refused one changes nothing. One step, and a list of calls with the number
 -- of each. Assumes nothing.
-use mathlib.Core.List.{List, [], _∷_, _++_}
-use mathlib.Core.Bool.{Bool, true, false}
+use mathlib.Core.List.{List, [], _∷_}
+use mathlib.Core.Bool.{true, false}
 use Prim.Native.Nat.{ℕ}
 use lib.Dec.{eqb}
-use Rattle.rules.specs.Model.{Reg, Model, do-set, do-add, note-add, do-flush, do-final}
+use Rattle.rules.specs.Model.{Model, do-set, do-add, note-add, do-flush, do-final}
 use Rattle.rules.specs.Checks.{Check, verdict, check-set, check-add, check-flush, check-final}
 
 pub data Call : Type 0 where

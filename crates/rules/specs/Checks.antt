@@ -2,9 +2,11 @@
 -- order. A call's code is the number of its first failing check, or 0. Assumes nothing.
 use mathlib.Core.List.{List, [], _∷_, _++_}
 use mathlib.Core.Bool.{Bool, true, false, _||_}
-use Prim.Native.Nat.{ℕ, _+_, _*_, _^_}
+use Prim.Native.Nat.{ℕ, _+_, _*_}
 use lib.ListN.{length}
 use lib.Dec.{leb, ltb}
+use Rattle.rules.specs.Limits.{most-parallelism, most-places, most-in-a-list, most-flushes, least-flagged}
+use Rattle.rules.specs.Refusals as refusal
 use Rattle.rules.specs.Model.{Reg, Model, member}
 
 pub record Check : Type 0 where
@@ -37,17 +39,11 @@ unfoldable pub pooled : List Reg → ℕ
 pooled [] = 0
 pooled (a ∷ as′) = length (a .ins) + length (a .outs) + pooled as′
 
--- "P is the desired parallelism, 1 to 64,999. V is the count of places and the greatest count of registrations, 1 to 16,777,216."
-abbrev pub most-parallelism : ℕ
-most-parallelism = 64999
-
-abbrev pub most-places : ℕ
-most-places = 16777216
-
 -- 1: P or V outside its range
 unfoldable pub check-range : ℕ → ℕ → List Check
 check-range P N =
-    record { fails = ltb P 1 || ltb most-parallelism P; number = 1 } ∷ (record { fails = ltb N 1 || ltb most-places N; number = 1 } ∷ [])
+    record { fails = ltb P 1 || ltb most-parallelism P; number = refusal.out-of-range }
+    ∷ (record { fails = ltb N 1 || ltb most-places N; number = refusal.out-of-range } ∷ [])
 
 -- the lengths of lent storage: spans, order and rows in entries, places with a mark and a location each, numbers of waiting storage,
 -- counts of the tally
@@ -60,7 +56,8 @@ pub record Sizes : Type 0 where
   pub waiting : ℕ
   pub tally : ℕ
 
--- "Lent storage: spans 32·(P+1) entries, order V, rows V, places V, waiting 4V numbers, tally P+1 counts"
+-- "Lent storage: spans 32·(P+1) entries, order V, rows V, places V, waiting 4V numbers, tally P+1 counts". A span has room for P + 1:
+-- one that is full when it becomes span 1 takes one entry more, where nothing is named to come after, before span 0 is released
 abbrev pub spans-needed : ℕ → ℕ
 spans-needed P = 32 * (P + 1)
 
@@ -92,35 +89,35 @@ too-short P N s = any short (lengths P N s)
 
 -- opening: 1, 2
 unfoldable pub check-open : ℕ → ℕ → Sizes → List Check
-check-open P N s = check-range P N ++ (record { fails = too-short P N s; number = 2 } ∷ [])
+check-open P N s = check-range P N ++ (record { fails = too-short P N s; number = refusal.too-short } ∷ [])
 
 -- 7: closed
 unfoldable pub check-closed : Model → Check
-check-closed k = record { fails = k .closed; number = 7 }
+check-closed k = record { fails = k .closed; number = refusal.closed }
 
 -- 4: a place with bit 62 or 63; 5: a place of V or more
 unfoldable pub check-places : ℕ → List ℕ → List Check
-check-places N xs = record { fails = any (λ x. leb (2 ^ 62) x) xs; number = 4 } ∷ (record { fails = any (λ x. leb N x) xs; number = 5 } ∷ [])
+check-places N xs = record { fails = any (λ x. leb least-flagged x) xs; number = refusal.flagged-place } ∷ (record { fails = any (λ x. leb N x) xs; number = refusal.unknown-place } ∷ [])
 
 -- set: 7, 4, 5, 8
 unfoldable pub check-set : ℕ → ℕ → Model → List Check
-check-set N x k = check-closed k ∷ (check-places N (x ∷ []) ++ (record { fails = taken k x; number = 8 } ∷ []))
+check-set N x k = check-closed k ∷ (check-places N (x ∷ []) ++ (record { fails = taken k x; number = refusal.taken-place } ∷ []))
 
 -- add: 7, 3, 4, 5, 6, 8, 9, 10
 unfoldable pub check-add : ℕ → ℕ → Reg → Model → List Check
 check-add N W a k =
     check-closed k
-    ∷ (record { fails = ltb 65535 (length (a .ins)) || ltb 65535 (length (a .outs)); number = 3 }
+    ∷ (record { fails = ltb most-in-a-list (length (a .ins)) || ltb most-in-a-list (length (a .outs)); number = refusal.too-many-numbers }
     ∷ (check-places N (a .ins ++ a .outs)
-    ++ (record { fails = repeats (a .outs); number = 6 }
-    ∷ (record { fails = any (taken k) (a .outs); number = 8 }
-    ∷ (record { fails = leb N (length (k .adds)); number = 9 }
-    ∷ (record { fails = ltb W (pooled (k .adds) + length (a .ins) + length (a .outs)); number = 10 } ∷ []))))))
+    ++ (record { fails = repeats (a .outs); number = refusal.repeated-output }
+    ∷ (record { fails = any (taken k) (a .outs); number = refusal.taken-place }
+    ∷ (record { fails = leb N (length (k .adds)); number = refusal.too-many-registrations }
+    ∷ (record { fails = ltb W (pooled (k .adds) + length (a .ins) + length (a .outs)); number = refusal.full-pool } ∷ []))))))
 
 -- flush: 7, 11
 unfoldable pub check-flush : Model → List Check
-check-flush k = check-closed k ∷ (record { fails = leb 65535 (k .flushes); number = 11 } ∷ [])
+check-flush k = check-closed k ∷ (record { fails = leb most-flushes (k .flushes); number = refusal.too-many-flushes } ∷ [])
 
 -- final: 7, 12
 unfoldable pub check-final : Model → List Check
-check-final k = check-closed k ∷ (record { fails = ltb 0 (length (k .pending)); number = 12 } ∷ [])
+check-final k = check-closed k ∷ (record { fails = ltb 0 (length (k .pending)); number = refusal.still-waiting } ∷ [])

@@ -3,18 +3,25 @@
 use mathlib.Core.Path.{_≡_, refl}
 use mathlib.Core.List.{List, [], _∷_, _++_, map}
 use mathlib.Core.Option.{Option, some, none}
-use Prim.Native.Nat.{ℕ, _+_, _-_, _*_, _^_}
+use Prim.Native.Nat.{ℕ, _-_, _^_}
 use lib.ListN.{length, replicate}
 use lib.Count.{trailingZeros}
 use lib.Ieee.{binary32, round, size, span, climb, units, odd, toBits}
+use Rattle.rules.specs.Limits.{job-pool}
+use Rattle.rules.specs.Text.{bytes}
 use Rattle.rules.specs.Guide.{parallelism, parallelism-by, last-parallelism, annotate, released, fresh, release, flush as flush-guide, seek, found, begin, choose, put, settle, apply, place}
-use Rattle.rules.specs.Model.{initial, member, marked, tracked, run-from, watermark, greatest, ready, loc-of, later, top, after, spotted, reg-of, place-one, due, left, queue, keep, push, off, rest, with-set, with-add, cascade, settle-all, do-set, do-add, with-record, note-add, note-flush, note-final, with-flush, do-flush, do-final}
+use Rattle.rules.specs.Model.{initial, member, marked, tracked, run-from, watermark, greatest, ready, loc-of, later, top, after, spotted, reg-of, place-one, due, left}
+use Rattle.rules.specs.Model.{queue, keep, push, off, rest, with-set, with-add, cascade, settle-all, do-set, do-add, with-record, note-add, note-flush, note-final}
+use Rattle.rules.specs.Model.{with-flush, do-flush, do-final}
 use Rattle.rules.specs.Checks.{verdict, any, repeats, written-by, taken, pooled, check-range, too-short, check-open, check-closed, check-places, check-set, check-add, check-flush, check-final}
 use Rattle.rules.specs.Calls.{Call, set, add, flush, final, checks, answer, apply-call, unless-refused, step}
 use Rattle.rules.specs.Alone.{check-alone}
 use Rattle.rules.specs.Summary.{Figures, sum, average, median-from, median, counts, thousands, figures}
-use Rattle.rules.specs.Job.{key-parallelism, key-places, key-set, key-in, key-out, flush-text, final-text, Line, parallelism-line, places-line, set-line, in-line, out-line, flush-line, final-line, malformed, Outcome, finished, rejected, job-pool, lines-from, lines, ragged, digits-from, leading-zero, in-64-bits, number, fields-from, both, numbers, list, after-key, with-number, with-list, whole, key-or, line-of, on-line, closing, run-lines, job-sizes, run-places, run-job, outcome}
-use Rattle.rules.specs.Listing.{digits, decimal, Reply, listed, refused, fit, told, reply, printed, program, result, bytes-after}
+use Rattle.rules.specs.Job.{key-parallelism, key-places, key-set, key-in, key-out, flush-text, final-text, Line, parallelism-line, places-line, set-line, in-line, out-line}
+use Rattle.rules.specs.Job.{flush-line, final-line, malformed, Outcome, finished, rejected, lines-from, lines, ragged, digits-from, leading-zero, in-64-bits, number}
+use Rattle.rules.specs.Job.{fields-from, both, numbers, list, after-key, with-number, with-list, whole, key-or, line-of, on-line, closing, run-lines, job-sizes, run-places}
+use Rattle.rules.specs.Job.{run-job, outcome}
+use Rattle.rules.specs.Listing.{digits, decimal, Reply, fit, told, reply, printed, program, result, bytes-after}
 use Rattle.rules.specs.Listings.{listing-1}
 use Rattle.rules.specs.Encoding.{counted, set-front, add-outs, add-front, front, before-all, and-then, unless-empty, decode-from, decode}
 
@@ -33,17 +40,16 @@ pub numbers-got : List (List ℕ)
 numbers-got =
     given (number [])
     ∷ given (number (one 48))
-    -- 00, 01, 10
-    ∷ given (number (48 ∷ 48 ∷ []))
-    ∷ given (number (48 ∷ 49 ∷ []))
-    ∷ given (number (49 ∷ 48 ∷ []))
-    -- the bytes beside the digits: / and :, then +1, -1 and a blank on either side
+    ∷ given (number (bytes "00"))
+    ∷ given (number (bytes "01"))
+    ∷ given (number (bytes "10"))
+    -- the bytes beside the digits, / and :; signs and blanks
     ∷ given (number (one 47))
     ∷ given (number (one 58))
-    ∷ given (number (43 ∷ 49 ∷ []))
-    ∷ given (number (45 ∷ 49 ∷ []))
-    ∷ given (number (32 ∷ 49 ∷ []))
-    ∷ given (number (49 ∷ 32 ∷ []))
+    ∷ given (number (bytes "+1"))
+    ∷ given (number (bytes "-1"))
+    ∷ given (number (bytes " 1"))
+    ∷ given (number (bytes "1 "))
     -- 20 digits: 10^19, the greatest of 64 bits, and one more; 21 digits: 10^20
     ∷ given (number (49 ∷ replicate 19 48))
     ∷ given (number (decimal (2 ^ 64 - 1)))
@@ -69,7 +75,7 @@ numbers-want =
     ∷ one 18446744073709551615
     ∷ []
     ∷ []
-    ∷ (49 ∷ 56 ∷ 52 ∷ 52 ∷ 54 ∷ 55 ∷ 52 ∷ 52 ∷ 48 ∷ 55 ∷ 51 ∷ 55 ∷ 48 ∷ 57 ∷ 53 ∷ 53 ∷ 49 ∷ 54 ∷ 49 ∷ 53 ∷ [])
+    ∷ bytes "18446744073709551615"
     ∷ []
 
 -- lists: empty, or numbers with single commas
@@ -78,16 +84,16 @@ lists-got =
     given (list [])
     -- 0 and 1,10
     ∷ given (list (one 48))
-    ∷ given (list (49 ∷ 44 ∷ 49 ∷ 48 ∷ []))
+    ∷ given (list (bytes "1,10"))
     -- a comma alone, at the end, at the start, twice
     ∷ given (list (one 44))
-    ∷ given (list (49 ∷ 44 ∷ []))
-    ∷ given (list (44 ∷ 49 ∷ []))
-    ∷ given (list (49 ∷ 44 ∷ 44 ∷ 50 ∷ []))
+    ∷ given (list (bytes "1,"))
+    ∷ given (list (bytes ",1"))
+    ∷ given (list (bytes "1,,2"))
     -- 1;2 and 1 2 and 1,02
-    ∷ given (list (49 ∷ 59 ∷ 50 ∷ []))
-    ∷ given (list (49 ∷ 32 ∷ 50 ∷ []))
-    ∷ given (list (49 ∷ 44 ∷ 48 ∷ 50 ∷ []))
+    ∷ given (list (bytes "1;2"))
+    ∷ given (list (bytes "1 2"))
+    ∷ given (list (bytes "1,02"))
     ∷ []
 
 pub lists-want : List (List (List ℕ))
@@ -107,30 +113,29 @@ kind malformed = 0 ∷ []
 pub kinds-got : List (List ℕ)
 kinds-got =
     map (λ (bs : List ℕ). kind (line-of bs)) (
-    (key-parallelism ++ one 49)
-    ∷ (key-places ++ one 49)
-    ∷ (key-set ++ one 49)
+    bytes "parallelism=1"
+    ∷ bytes "places=1"
+    ∷ bytes "set=1"
     ∷ key-in
-    ∷ (key-out ++ (49 ∷ 44 ∷ 50 ∷ []))
+    ∷ bytes "out=1,2"
     ∷ flush-text
     ∷ final-text
-    -- nothing; set=; set; Set=1; a blank before; set =1; set=1=1; set=1,2; set=1 with byte 13
+    -- malformed ones
     ∷ []
     ∷ key-set
-    ∷ (115 ∷ 101 ∷ 116 ∷ [])
-    ∷ (83 ∷ 101 ∷ 116 ∷ 61 ∷ 49 ∷ [])
-    ∷ (32 ∷ (key-set ++ one 49))
-    ∷ (115 ∷ 101 ∷ 116 ∷ 32 ∷ 61 ∷ 49 ∷ [])
-    ∷ (key-set ++ (49 ∷ 61 ∷ 49 ∷ []))
-    ∷ (key-set ++ (49 ∷ 44 ∷ 50 ∷ []))
-    ∷ (key-set ++ (49 ∷ 13 ∷ []))
-    -- flush=12, flush=, flush=0, flush=01; final=11, final=2
-    ∷ (flush-text ++ one 50)
-    ∷ (102 ∷ 108 ∷ 117 ∷ 115 ∷ 104 ∷ 61 ∷ [])
-    ∷ (102 ∷ 108 ∷ 117 ∷ 115 ∷ 104 ∷ 61 ∷ 48 ∷ [])
-    ∷ (102 ∷ 108 ∷ 117 ∷ 115 ∷ 104 ∷ 61 ∷ 48 ∷ 49 ∷ [])
-    ∷ (final-text ++ one 49)
-    ∷ (102 ∷ 105 ∷ 110 ∷ 97 ∷ 108 ∷ 61 ∷ 50 ∷ [])
+    ∷ bytes "set"
+    ∷ bytes "Set=1"
+    ∷ bytes " set=1"
+    ∷ bytes "set =1"
+    ∷ bytes "set=1=1"
+    ∷ bytes "set=1,2"
+    ∷ bytes "set=1\r"
+    ∷ bytes "flush=12"
+    ∷ bytes "flush="
+    ∷ bytes "flush=0"
+    ∷ bytes "flush=01"
+    ∷ bytes "final=11"
+    ∷ bytes "final=2"
     ∷ []
     )
 
@@ -146,7 +151,8 @@ kinds-want =
     ∷ replicate 15 (0 ∷ [])
 
 pub lines-turn : (numbers-got ≡ numbers-want) × (lists-got ≡ lists-want) × (kinds-got ≡ kinds-want)
-unfolding numbers-got numbers-want lists-got lists-want kinds-got kinds-want digits-from leading-zero in-64-bits number fields-from both numbers list after-key with-number with-list whole key-or line-of digits decimal
+unfolding numbers-got numbers-want lists-got lists-want kinds-got kinds-want digits-from leading-zero in-64-bits number fields-from both numbers list after-key with-number
+    with-list whole key-or line-of digits decimal
 lines-turn = (refl, refl, refl)
 
 -- ---- jobs
@@ -182,17 +188,17 @@ jobs-got =
     -- 15, a missing line counts as the one after the last: no bytes; an empty line; a first, a second, a third line without byte 10
     []
     ∷ one 10
-    ∷ (key-parallelism ++ one 50)
-    ∷ (ln key-parallelism (one 50) ++ (key-places ++ one 54))
+    ∷ bytes "parallelism=2"
+    ∷ (bytes "parallelism=2\n" ++ bytes "places=6")
     ∷ (head 2 6 ++ final-text)
     -- no second line; no final; no final after calls
-    ∷ ln key-parallelism (one 50)
+    ∷ bytes "parallelism=2\n"
     ∷ head 2 6
     ∷ (head 2 6 ++ (set-to 0 ++ ln flush-text []))
     -- the head's lines exchanged; one twice; one again later
-    ∷ (ln key-places (one 54) ++ (ln key-parallelism (one 50) ++ end))
-    ∷ (ln key-parallelism (one 50) ++ (head 2 6 ++ end))
-    ∷ (head 2 6 ++ (ln key-places (one 54) ++ end))
+    ∷ (bytes "places=6\n" ++ (bytes "parallelism=2\n" ++ end))
+    ∷ (bytes "parallelism=2\n" ++ (head 2 6 ++ end))
+    ∷ (head 2 6 ++ (bytes "places=6\n" ++ end))
     -- opening, at line 2: 1, then 2; P up to 64 and V up to 512
     ∷ (head 0 6 ++ end)
     ∷ (head 65000 6 ++ end)
@@ -206,7 +212,7 @@ jobs-got =
     ∷ (head 2 512 ++ end)
     ∷ (head 65 0 ++ end)
     -- 15 in line 2 before 1 for line 1; 1 in line 2 before 15 in line 3
-    ∷ (ln key-parallelism (one 48) ++ ln key-places (one 120))
+    ∷ (bytes "parallelism=0\n" ++ bytes "places=x\n")
     ∷ (head 0 6 ++ one 10)
     -- an add is its two lines: no out line, another line for it, two in lines, an out line alone; its refusal is at its out line
     ∷ (head 2 6 ++ in-to 0)
@@ -214,8 +220,8 @@ jobs-got =
     ∷ (head 2 6 ++ (in-to 0 ++ (in-to 0 ++ (out-to 1 ++ end))))
     ∷ (head 2 6 ++ (out-to 1 ++ end))
     ∷ (head 2 6 ++ (in-to 6 ++ (out-to 1 ++ end)))
-    ∷ (head 2 6 ++ (in-to 6 ++ (ln key-out (one 120) ++ end)))
-    ∷ (head 2 6 ++ (ln key-in (one 120) ++ (out-to 6 ++ end)))
+    ∷ (head 2 6 ++ (in-to 6 ++ (bytes "out=x\n" ++ end)))
+    ∷ (head 2 6 ++ (bytes "in=x\n" ++ (out-to 6 ++ end)))
     -- 5, 4, 8, 9 and 12 at their lines; an earlier refusal before a later malformed line, and the other way round
     ∷ (head 2 6 ++ (set-to 6 ++ one 10))
     ∷ (head 2 6 ++ (one 10 ++ set-to 6))
@@ -289,7 +295,11 @@ jobs-want =
     ∷ []
 
 pub jobs-turn : jobs-got ≡ jobs-want
-unfolding jobs-got jobs-want digits decimal parallelism parallelism-by last-parallelism annotate released fresh release flush-guide seek found begin choose put settle apply place initial member marked tracked run-from watermark greatest ready loc-of later top after spotted reg-of place-one due left queue keep push off rest with-set with-add cascade settle-all do-set do-add with-record note-add note-flush note-final with-flush do-flush do-final verdict any repeats written-by taken pooled check-range too-short check-open check-closed check-places check-set check-add check-flush check-final checks answer apply-call unless-refused step lines-from lines ragged digits-from leading-zero in-64-bits number fields-from both numbers list after-key with-number with-list whole key-or line-of on-line closing run-lines job-sizes run-places run-job outcome
+unfolding jobs-got jobs-want digits decimal parallelism parallelism-by last-parallelism annotate released fresh release flush-guide seek found begin choose put settle apply place
+    initial member marked tracked run-from watermark greatest ready loc-of later top after spotted reg-of place-one due left queue keep push off rest with-set with-add cascade
+    settle-all do-set do-add with-record note-add note-flush note-final with-flush do-flush do-final verdict any repeats written-by taken pooled check-range too-short check-open
+    check-closed check-places check-set check-add check-flush check-final checks answer apply-call unless-refused step lines-from lines ragged digits-from leading-zero in-64-bits
+    number fields-from both numbers list after-key with-number with-list whole key-or line-of on-line closing run-lines job-sizes run-places run-job outcome
 jobs-turn = refl
 
 -- ---- the answer
@@ -333,19 +343,22 @@ lengths-want = (0 ∷ 2 ∷ 2 ∷ 2 ∷ 2 ∷ 2 ∷ 2 ∷ 2 ∷ []) ∷ (0 ∷ 2
 
 pub calls-got : List (List ℕ)
 calls-got =
-    -- 3: 65,535 inputs or outputs are not too many
-    (answer 1 65535 (add (replicate 65535 0) []) initial ∷ answer 1 65535 (add (replicate 65536 0) []) initial ∷ answer 1 65535 (add [] (replicate 65535 0)) initial ∷ [])
+    -- 3: 65,535 inputs or outputs are not too many: the check after it, 4, answers, and by the first place alone
+    (answer 1 65535 (add (2 ^ 62 ∷ replicate 65534 0) []) initial ∷ answer 1 65535 (add (2 ^ 62 ∷ replicate 65535 0) []) initial ∷ [])
+    ∷ (answer 1 65535 (add [] (2 ^ 62 ∷ replicate 65534 0)) initial ∷ answer 1 65535 (add [] (2 ^ 62 ∷ replicate 65535 0)) initial ∷ [])
     -- 4: bit 62, bit 63, both; below them 5
-    ∷ (answer 3 9 (set (2 ^ 62 - 1)) initial ∷ answer 3 9 (set (2 ^ 62)) initial ∷ answer 3 9 (set (2 ^ 63)) initial ∷ answer 3 9 (set (2 ^ 64 - 1)) initial ∷ answer 3 9 (add (one 3) (one (2 ^ 63))) initial ∷ [])
+    ∷ (answer 3 9 (set (2 ^ 62 - 1)) initial ∷ answer 3 9 (set (2 ^ 62)) initial ∷ answer 3 9 (set (2 ^ 63)) initial ∷ answer 3 9 (set (2 ^ 64 - 1)) initial
+    ∷ answer 3 9 (add (one 3) (one (2 ^ 63))) initial ∷ [])
     -- 10: a job's pool holds 4,096 list numbers
     ∷ (answer 6 job-pool (add (replicate 4096 0) []) initial ∷ answer 6 job-pool (add (replicate 4096 0) (one 1)) initial ∷ [])
     ∷ []
 
 pub calls-want : List (List ℕ)
-calls-want = (0 ∷ 3 ∷ 6 ∷ []) ∷ (5 ∷ 4 ∷ 4 ∷ 4 ∷ 4 ∷ []) ∷ (0 ∷ 10 ∷ []) ∷ []
+calls-want = (4 ∷ 3 ∷ []) ∷ (4 ∷ 3 ∷ []) ∷ (5 ∷ 4 ∷ 4 ∷ 4 ∷ 4 ∷ []) ∷ (0 ∷ 10 ∷ []) ∷ []
 
 pub checks-turn : (lengths-got ≡ lengths-want) × (calls-got ≡ calls-want)
-unfolding lengths-got lengths-want calls-got calls-want initial check-alone member marked verdict any repeats written-by taken pooled check-range too-short check-open check-closed check-places check-set check-add check-flush check-final checks answer
+unfolding lengths-got lengths-want calls-got calls-want initial check-alone member marked verdict any repeats written-by taken pooled check-range too-short check-open check-closed
+    check-places check-set check-add check-flush check-final checks answer
 checks-turn = (refl, refl)
 
 -- ---- the summary

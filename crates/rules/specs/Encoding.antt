@@ -1,7 +1,7 @@
 -- A list of calls as numbers, as `replay` reads it: set x is 1, x; add is 2, the count of inputs, the inputs, the count of outputs, the
 -- outputs; flush is 3; final is 4. (Added beside document 01; the format is described in docs/REPLAY.md.) Assumes nothing.
-use mathlib.Core.List.{List, [], _∷_, _++_}
-use mathlib.Core.Bool.{Bool, true, false}
+use mathlib.Core.List.{List, [], _∷_}
+use mathlib.Core.Bool.{true, false}
 use mathlib.Core.Option.{Option, some, none}
 use Prim.Native.Nat.{ℕ, zero, suc}
 use lib.ListN.{length, take, drop}

@@ -12,7 +12,7 @@ pub record Loc : Type 0 where
   pub span : ℕ
   pub pos : ℕ
 
--- the location of every set place
+-- the location of every set place. No entry gets span 0: it is never filled, so that this location belongs to set places alone
 unfoldable pub origin : Loc
 origin = record { span = 0; pos = 0 }
 
@@ -92,7 +92,9 @@ found (some i) = existing i
 unfoldable pub begin : ℕ → ℕ → List (List Item) → ℕ
 begin d q ss = elim (ltb (length (getD ss (d + 1) [])) q) [ true ↦ d + 2 | false ↦ d + 1 ]
 
--- where a value placed `after` goes: absent, or its span number below span 0's: span 1; d = 31: two spans are opened; else the search
+-- where a value placed `after` goes: absent, or its span number below span 0's: span 1; d = 31: two spans are opened; else the search.
+-- Span 1 is the first that may be filled; what `after` names is in the order already, and span 0 comes between. At d = 31 no span of the
+-- window follows; the first new one follows directly, so the value goes into the second, with a whole span between
 unfoldable pub choose : ℕ → Guide → Option Loc → Choice
 choose P g none = existing 1
 choose P g (some l) =

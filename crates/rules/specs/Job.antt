@@ -1,36 +1,39 @@
 -- Document 01, "Summary, job and listing": the text of a job, from its bytes to the model at its end or to the first refusal with its
 -- line. Reading and running go line by line. How open points are read stands in docs/DECISIONS.md. Assumes nothing.
 use mathlib.Core.List.{List, [], _∷_, _++_}
-use mathlib.Core.Bool.{Bool, true, false, not, _&&_, _||_}
+use mathlib.Core.Bool.{Bool, true, false, not, _&&_}
 use mathlib.Core.Option.{Option, some, none}
-use Prim.Native.Nat.{ℕ, zero, suc, _+_, _-_, _*_, _^_}
+use Prim.Native.Nat.{ℕ, suc, _+_, _-_, _*_, _^_}
 use lib.ListN.{length}
 use lib.Dec.{leb, ltb, eqb}
+use Rattle.rules.specs.Limits.{most-job-bytes, job-parallelism, job-places, job-pool}
+use Rattle.rules.specs.Refusals as refusal
+use Rattle.rules.specs.Text.{bytes}
 use Rattle.rules.specs.Model.{Model, initial}
-use Rattle.rules.specs.Checks.{Sizes, verdict, check-open}
+use Rattle.rules.specs.Checks.{Sizes, spans-needed, waiting-needed, tally-needed, verdict, check-open}
 use Rattle.rules.specs.Calls.{Call, set, add, flush, final, answer, step}
 
--- the keys, as bytes: parallelism= places= set= in= out=, and the two lines that have one form only: flush=1 final=1
+-- the keys, and the two lines that have one form only
 abbrev pub key-parallelism : List ℕ
-key-parallelism = 112 ∷ 97 ∷ 114 ∷ 97 ∷ 108 ∷ 108 ∷ 101 ∷ 108 ∷ 105 ∷ 115 ∷ 109 ∷ 61 ∷ []
+key-parallelism = bytes "parallelism="
 
 abbrev pub key-places : List ℕ
-key-places = 112 ∷ 108 ∷ 97 ∷ 99 ∷ 101 ∷ 115 ∷ 61 ∷ []
+key-places = bytes "places="
 
 abbrev pub key-set : List ℕ
-key-set = 115 ∷ 101 ∷ 116 ∷ 61 ∷ []
+key-set = bytes "set="
 
 abbrev pub key-in : List ℕ
-key-in = 105 ∷ 110 ∷ 61 ∷ []
+key-in = bytes "in="
 
 abbrev pub key-out : List ℕ
-key-out = 111 ∷ 117 ∷ 116 ∷ 61 ∷ []
+key-out = bytes "out="
 
 abbrev pub flush-text : List ℕ
-flush-text = 102 ∷ 108 ∷ 117 ∷ 115 ∷ 104 ∷ 61 ∷ 49 ∷ []
+flush-text = bytes "flush=1"
 
 abbrev pub final-text : List ℕ
-final-text = 102 ∷ 105 ∷ 110 ∷ 97 ∷ 108 ∷ 61 ∷ 49 ∷ []
+final-text = bytes "final=1"
 
 -- the lines that byte 10 ends; what stands after the last byte 10 is no line
 unfoldable pub lines-from : List ℕ → List ℕ → List (List ℕ)
@@ -182,49 +185,55 @@ on-line n code next = elim (eqb code 0) [ true ↦ next | false ↦ rejected n c
 -- after `final=1` on the line before n, anything more is surplus
 unfoldable pub closing : ℕ → ℕ → List (List ℕ) → Bool → Model → Outcome
 closing P n [] false k = finished P k
-closing P n [] true k = rejected n 15
-closing P n (l ∷ ls) rag k = rejected n 15
+closing P n [] true k = rejected n refusal.malformed
+closing P n (l ∷ ls) rag k = rejected n refusal.malformed
 
 -- the lines from line n on; `begun` holds the inputs of an `in=` line whose `out=` line must come next
 unfoldable pub run-lines : ℕ → ℕ → ℕ → ℕ → Option (List ℕ) → List (List ℕ) → Bool → Model → Outcome
-run-lines P N W n begun [] rag k = rejected n 15
+run-lines P N W n begun [] rag k = rejected n refusal.malformed
 run-lines P N W n none (l ∷ ls) rag k =
     elim (start-of (line-of l)) [
       | some (single c) ↦ on-line n (answer N W c k) (run-lines P N W (suc n) none ls rag (step P N W c k))
       | some (inputs ins) ↦ run-lines P N W (suc n) (some ins) ls rag k
       | some last ↦ on-line n (answer N W final k) (closing P (suc n) ls rag (step P N W final k))
-      | none ↦ rejected n 15
+      | none ↦ rejected n refusal.malformed
     ]
 run-lines P N W n (some ins) (l ∷ ls) rag k =
     elim (outputs-of (line-of l)) [
       | some outs ↦ on-line n (answer N W (add ins outs) k) (run-lines P N W (suc n) none ls rag (step P N W (add ins outs) k))
-      | none ↦ rejected n 15
+      | none ↦ rejected n refusal.malformed
     ]
 
--- storage for P ≤ 64, V ≤ 512, W = 4,096
+-- "Both lend storage for P ≤ 64, V ≤ 512, W = 4,096."
 unfoldable pub job-sizes : Sizes
-job-sizes = record { spans = 2080; order = 512; rows = 512; marks = 512; locations = 512; waiting = 2048; tally = 65 }
-
-abbrev pub job-pool : ℕ
-job-pool = 4096
+job-sizes =
+    record {
+      spans = spans-needed job-parallelism;
+      order = job-places;
+      rows = job-places;
+      marks = job-places;
+      locations = job-places;
+      waiting = waiting-needed job-places;
+      tally = tally-needed job-parallelism;
+    }
 
 -- line 2, then opening, whose refusal is line 2's
 unfoldable pub run-places : ℕ → List (List ℕ) → Bool → Outcome
-run-places P [] rag = rejected 2 15
+run-places P [] rag = rejected 2 refusal.malformed
 run-places P (l ∷ ls) rag =
     elim (places-of (line-of l)) [
       | some N ↦ on-line 2 (verdict (check-open P N job-sizes)) (run-lines P N job-pool 3 none ls rag initial)
-      | none ↦ rejected 2 15
+      | none ↦ rejected 2 refusal.malformed
     ]
 
 -- line 1
 unfoldable pub run-job : List (List ℕ) → Bool → Outcome
-run-job [] rag = rejected 1 15
-run-job (l ∷ ls) rag = elim (parallelism-of (line-of l)) [ some P ↦ run-places P ls rag | none ↦ rejected 1 15 ]
+run-job [] rag = rejected 1 refusal.malformed
+run-job (l ∷ ls) rag = elim (parallelism-of (line-of l)) [ some P ↦ run-places P ls rag | none ↦ rejected 1 refusal.malformed ]
 
 -- 16: a job over 65,536 bytes, before anything else
 unfoldable pub outcome : List ℕ → Outcome
-outcome bs = elim (ltb 65536 (length bs)) [ true ↦ rejected 1 16 | false ↦ run-job (lines bs) (ragged bs) ]
+outcome bs = elim (ltb most-job-bytes (length bs)) [ true ↦ rejected 1 refusal.long-job | false ↦ run-job (lines bs) (ragged bs) ]
 
 -- the model after the accepted calls of some lines, up to the first line that is refused
 unfoldable pub reached-lines : ℕ → ℕ → ℕ → Option (List ℕ) → List (List ℕ) → Model → Model
@@ -266,4 +275,4 @@ reached-job [] = none
 reached-job (l ∷ ls) = elim (parallelism-of (line-of l)) [ some P ↦ reached-places P ls | none ↦ none ]
 
 unfoldable pub reached : List ℕ → Option Reached
-reached bs = elim (ltb 65536 (length bs)) [ true ↦ none | false ↦ reached-job (lines bs) ]
+reached bs = elim (ltb most-job-bytes (length bs)) [ true ↦ none | false ↦ reached-job (lines bs) ]

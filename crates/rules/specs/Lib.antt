@@ -1,4 +1,7 @@
--- Document 01 as definitions, in the paper's order.
+-- Document 01 as definitions, in the paper's order, after its limits, the numbers of its refusals and how texts stand for bytes.
+pub mod Limits
+pub mod Refusals
+pub mod Text
 pub mod Guide
 pub mod Model
 pub mod Checks

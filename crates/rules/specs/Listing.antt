@@ -1,10 +1,13 @@
 -- Document 01, the listing of a job, and the whole program and the host's call as definitions: job bytes to output bytes. Assumes nothing.
 use mathlib.Core.List.{List, [], _∷_, _++_}
-use mathlib.Core.Bool.{Bool, true, false}
+use mathlib.Core.Bool.{true, false}
 use Prim.Native.Nat.{ℕ, zero, suc, _+_, _*_, _/_, _%_, min}
 use lib.ListN.{length, drop, getD}
-use lib.Dec.{leb, ltb}
-use Rattle.rules.specs.Guide.{Item, Entry, tally}
+use lib.Dec.{ltb}
+use Rattle.rules.specs.Limits.{program-listing-bytes}
+use Rattle.rules.specs.Refusals as refusal
+use Rattle.rules.specs.Text.{bytes}
+use Rattle.rules.specs.Guide.{Entry, tally}
 use Rattle.rules.specs.Model.{Model}
 use Rattle.rules.specs.Summary.{median}
 use Rattle.rules.specs.Job.{Outcome, finished, rejected, outcome}
@@ -18,39 +21,39 @@ digits (suc f) n = elim (ltb n 10) [ true ↦ (48 + n) ∷ [] | false ↦ digits
 unfoldable pub decimal : ℕ → List ℕ
 decimal n = digits 20 n
 
--- the words, as bytes: status= line= entries= places= floor= median= order= " added=" " accepted=" " parallelism=" " written="
+-- the words
 abbrev pub word-status : List ℕ
-word-status = 115 ∷ 116 ∷ 97 ∷ 116 ∷ 117 ∷ 115 ∷ 61 ∷ []
+word-status = bytes "status="
 
 abbrev pub word-line : List ℕ
-word-line = 108 ∷ 105 ∷ 110 ∷ 101 ∷ 61 ∷ []
+word-line = bytes "line="
 
 abbrev pub word-entries : List ℕ
-word-entries = 101 ∷ 110 ∷ 116 ∷ 114 ∷ 105 ∷ 101 ∷ 115 ∷ 61 ∷ []
+word-entries = bytes "entries="
 
 abbrev pub word-places : List ℕ
-word-places = 112 ∷ 108 ∷ 97 ∷ 99 ∷ 101 ∷ 115 ∷ 61 ∷ []
+word-places = bytes "places="
 
 abbrev pub word-floor : List ℕ
-word-floor = 102 ∷ 108 ∷ 111 ∷ 111 ∷ 114 ∷ 61 ∷ []
+word-floor = bytes "floor="
 
 abbrev pub word-median : List ℕ
-word-median = 109 ∷ 101 ∷ 100 ∷ 105 ∷ 97 ∷ 110 ∷ 61 ∷ []
+word-median = bytes "median="
 
 abbrev pub word-order : List ℕ
-word-order = 111 ∷ 114 ∷ 100 ∷ 101 ∷ 114 ∷ 61 ∷ []
+word-order = bytes "order="
 
 abbrev pub word-added : List ℕ
-word-added = 32 ∷ 97 ∷ 100 ∷ 100 ∷ 101 ∷ 100 ∷ 61 ∷ []
+word-added = bytes " added="
 
 abbrev pub word-accepted : List ℕ
-word-accepted = 32 ∷ 97 ∷ 99 ∷ 99 ∷ 101 ∷ 112 ∷ 116 ∷ 101 ∷ 100 ∷ 61 ∷ []
+word-accepted = bytes " accepted="
 
 abbrev pub word-parallelism : List ℕ
-word-parallelism = 32 ∷ 112 ∷ 97 ∷ 114 ∷ 97 ∷ 108 ∷ 108 ∷ 101 ∷ 108 ∷ 105 ∷ 115 ∷ 109 ∷ 61 ∷ []
+word-parallelism = bytes " parallelism="
 
 abbrev pub word-written : List ℕ
-word-written = 32 ∷ 119 ∷ 114 ∷ 105 ∷ 116 ∷ 116 ∷ 101 ∷ 110 ∷ 61 ∷ []
+word-written = bytes " written="
 
 -- a word and its number, and the same as a line
 unfoldable pub field : List ℕ → ℕ → List ℕ
@@ -96,7 +99,7 @@ pub data Reply : Type 0 where
   refused : ℕ → ℕ → Reply
 
 unfoldable pub fit : ℕ → List ℕ → Reply
-fit room text = elim (ltb room (length text)) [ true ↦ refused 1 17 | false ↦ listed text ]
+fit room text = elim (ltb room (length text)) [ true ↦ refused 1 refusal.long-listing | false ↦ listed text ]
 
 unfoldable pub told : ℕ → Outcome → Reply
 told room (finished P k) = fit room (listing P k)
@@ -111,7 +114,7 @@ printed (listed text) = text
 printed (refused n code) = rejection n code
 
 unfoldable pub program : List ℕ → List ℕ
-program job = printed (reply 65536 job)
+program job = printed (reply program-listing-bytes job)
 
 -- the host's call: its result, and the listing bytes after it
 unfoldable pub result : Reply → ℕ
@@ -119,5 +122,5 @@ result (listed text) = 64 * length text
 result (refused n code) = 64 * n + code
 
 unfoldable pub bytes-after : Reply → List ℕ → List ℕ
-bytes-after (listed text) bytes = text ++ drop (length text) bytes
-bytes-after (refused n code) bytes = bytes
+bytes-after (listed text) room = text ++ drop (length text) room
+bytes-after (refused n code) room = room

@@ -7,7 +7,7 @@ use mathlib.Core.Option.{Option, some, none}
 use Prim.Native.Nat.{ℕ, zero, suc, _+_, _-_, max}
 use lib.ListN.{length, getD, set as set-at}
 use lib.Dec.{ltb, eqb}
-use Rattle.rules.specs.Guide.{Loc, origin, Item, Guide, fresh, flush as flush-guide, Placed, place}
+use Rattle.rules.specs.Guide.{Loc, origin, Guide, fresh, flush as flush-guide, Placed, place}
 
 -- a registration: the places that it reads and those that it writes
 pub record Reg : Type 0 where

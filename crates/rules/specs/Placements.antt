@@ -4,7 +4,8 @@ use mathlib.Core.List.{List, [], _∷_, map}
 use mathlib.Core.Option.{Option, some, none}
 use Prim.Native.Nat.{ℕ, zero, suc}
 use lib.ListN.{length, take, replicate}
-use Rattle.rules.specs.Guide.{Loc, Item, Entry, parallelism, parallelism-by, last-parallelism, annotate, released, fresh, release, flush, seek, found, begin, choose, Placed, put, settle, apply, place}
+use Rattle.rules.specs.Guide.{Loc, Item, Entry, parallelism, parallelism-by, last-parallelism, annotate, released, fresh, release, flush, seek, found, begin, choose, Placed}
+use Rattle.rules.specs.Guide.{put, settle, apply, place}
 
 item : Item
 item = record { value = 0; added = 0; accepted = 0 }

@@ -5,15 +5,16 @@ use mathlib.Core.Bool.{Bool, true, false}
 use Prim.Native.Nat.{ℕ, suc, _+_, _*_}
 use lib.ListN.{getD}
 use lib.Dec.{eqb}
-use Rattle.rules.specs.Guide.{Loc, Item, Entry, tally}
+use Rattle.rules.specs.Limits.{mark-set, mark-written}
+use Rattle.rules.specs.Guide.{Loc, Entry, tally}
 use Rattle.rules.specs.Model.{Model, member, marked, loc-of}
 use Rattle.rules.specs.Summary.{Figures, figures}
 
 -- "A place has a 16-bit mark: 0 untracked, 32,768 written by a registration (with its location), 49,152 set."
 -- By whether it is set, and whether a registration wrote it
 unfoldable pub mark-by : Bool → Bool → ℕ
-mark-by true written = 49152
-mark-by false true = 32768
+mark-by true written = mark-set
+mark-by false true = mark-written
 mark-by false false = 0
 
 abbrev pub mark-of : Model → ℕ → ℕ

@@ -6,11 +6,15 @@ use mathlib.Core.Bool.{false}
 use mathlib.Core.Option.{Option, some, none}
 use Prim.Native.Nat.{ℕ, _^_}
 use lib.ListN.{length, replicate}
-use Rattle.rules.specs.Guide.{Loc, Item, Entry, parallelism, parallelism-by, last-parallelism, annotate, released, fresh, release, flush as flush-guide, seek, found, begin, choose, put, settle, apply, place, tallied, tally}
-use Rattle.rules.specs.Model.{Model, initial, member, marked, tracked, run-from, watermark, greatest, ready, loc-of, later, top, after, spotted, reg-of, place-one, due, left, queue, keep, push, off, rest, with-set, with-add, cascade, settle-all, do-set, do-add, with-record, note-add, note-flush, note-final, with-flush, do-flush, do-final, registrations}
+use Rattle.rules.specs.Guide.{Loc, Item, Entry, parallelism, parallelism-by, last-parallelism, annotate, released, fresh, release, flush as flush-guide, seek, found, begin}
+use Rattle.rules.specs.Guide.{choose, put, settle, apply, place, tallied, tally}
+use Rattle.rules.specs.Model.{Model, initial, member, marked, tracked, run-from, watermark, greatest, ready, loc-of, later, top, after, spotted, reg-of, place-one, due}
+use Rattle.rules.specs.Model.{left, queue, keep, push, off, rest, with-set, with-add, cascade, settle-all, do-set, do-add, with-record, note-add, note-flush, note-final}
+use Rattle.rules.specs.Model.{with-flush, do-flush, do-final, registrations}
 use Rattle.rules.specs.Checks.{verdict, any, repeats, written-by, taken, pooled, check-range, too-short, check-open, check-closed, check-places, check-set, check-add, check-flush, check-final}
 use Rattle.rules.specs.Calls.{Call, set, add, flush, final, checks, answer, apply-call, unless-refused, step, run, answers}
-use Rattle.rules.specs.Alone.{Alone, alone, check-alone, holds, stray, worn, check-push, check-flush-alone, push as push-request, flush as flush-request, requests, reply, serve, serve-step, serve-all, replies}
+use Rattle.rules.specs.Alone.{Alone, alone, check-alone, holds, stray, worn, check-push, check-flush-alone, push as push-request, flush as flush-request, requests, reply}
+use Rattle.rules.specs.Alone.{serve, serve-step, serve-all, replies}
 
 -- of each entry of the order: added, accepted and parallelism
 entry : Entry → List ℕ
@@ -125,14 +129,17 @@ at s q = some (record { span = s; pos = q })
 -- 1 and 2 at opening; 14 and 13 of the guide alone
 pub other-got : List (List ℕ)
 other-got =
-    (opens 0 5 999 20 9 ∷ opens 65000 5 999 20 9 ∷ opens 2 0 999 20 9 ∷ opens 2 16777217 999 20 9 ∷ opens 2 5 96 20 3 ∷ opens 2 5 95 20 3 ∷ opens 2 5 96 19 3 ∷ opens 2 5 96 20 2 ∷ opens 2 6 96 24 3 ∷ [])
+    (opens 0 5 999 20 9 ∷ opens 65000 5 999 20 9 ∷ opens 2 0 999 20 9 ∷ opens 2 16777217 999 20 9 ∷ opens 2 5 96 20 3 ∷ opens 2 5 95 20 3 ∷ opens 2 5 96 19 3 ∷ opens 2 5 96 20 2
+    ∷ opens 2 6 96 24 3 ∷ [])
     ∷ (verdict (check-alone 2 5 96 5 3) ∷ verdict (check-alone 2 5 95 5 3) ∷ verdict (check-alone 65000 5 95 5 3) ∷ [])
     -- the location (1,1) is not held, nor is one past the window; (0,0) and one below span 0 are fine; 14 after V pushes, before 13
-    ∷ replies 1 3 (push-request none (item 0) ∷ push-request (at 1 1) (item 1) ∷ push-request (at 33 0) (item 1) ∷ push-request (at 0 0) (item 1) ∷ push-request (at 1 0) (item 2) ∷ push-request (at 99 0) (item 3) ∷ flush-request ∷ []) alone
+    ∷ replies 1 3 (push-request none (item 0) ∷ push-request (at 1 1) (item 1) ∷ push-request (at 33 0) (item 1) ∷ push-request (at 0 0) (item 1) ∷ push-request (at 1 0) (item 2)
+    ∷ push-request (at 99 0) (item 3) ∷ flush-request ∷ []) alone
     -- on a fresh guide (0,1) is not held
     ∷ (reply 3 (push-request (at 0 1) (item 0)) alone ∷ [])
     -- 14 once the last span number is 4,294,967,264
-    ∷ (reply 3 flush-request (far 4294967232) ∷ reply 3 flush-request (far 4294967233) ∷ reply 3 (push-request none (item 0)) (far 4294967232) ∷ reply 3 (push-request none (item 0)) (far 4294967233) ∷ [])
+    ∷ (reply 3 flush-request (far 4294967232) ∷ reply 3 flush-request (far 4294967233) ∷ reply 3 (push-request none (item 0)) (far 4294967232)
+    ∷ reply 3 (push-request none (item 0)) (far 4294967233) ∷ [])
     ∷ []
 
 pub other-want : List (List ℕ)
@@ -146,5 +153,10 @@ other-want =
 
 -- of each the two are the same
 pub sessions : (registrar-got ≡ registrar-want) × (record-got ≡ record-want) × (calls-got ≡ calls-want) × (other-got ≡ other-want)
-unfolding registrar-got registrar-want record-got record-want calls-got calls-want other-got other-want entry order-of placed waiting one J1 before third flushed opens item far at parallelism parallelism-by last-parallelism annotate released fresh release flush-guide seek found begin choose put settle apply place tallied tally initial member marked tracked run-from watermark greatest ready loc-of later top after spotted reg-of place-one due left queue keep push off rest with-set with-add cascade settle-all do-set do-add with-record note-add note-flush note-final with-flush do-flush do-final verdict any repeats written-by taken pooled check-range too-short check-open check-closed check-places check-set check-add check-flush check-final checks answer apply-call unless-refused step run answers alone check-alone holds stray worn check-push check-flush-alone requests reply serve serve-step serve-all replies
+unfolding registrar-got registrar-want record-got record-want calls-got calls-want other-got other-want entry order-of placed waiting one J1 before third flushed opens item far at
+    parallelism parallelism-by last-parallelism annotate released fresh release flush-guide seek found begin choose put settle apply place tallied tally initial member marked
+    tracked run-from watermark greatest ready loc-of later top after spotted reg-of place-one due left queue keep push off rest with-set with-add cascade settle-all do-set do-add
+    with-record note-add note-flush note-final with-flush do-flush do-final verdict any repeats written-by taken pooled check-range too-short check-open check-closed check-places
+    check-set check-add check-flush check-final checks answer apply-call unless-refused step run answers alone check-alone holds stray worn check-push check-flush-alone requests
+    reply serve serve-step serve-all replies
 sessions = (refl, refl, refl, refl)

@@ -1,8 +1,8 @@
 -- Document 01, "Summary, job and listing": what final gives of the tally (the Rust's GuideStats::finalize). Assumes nothing.
 use mathlib.Core.List.{List, [], _∷_}
-use mathlib.Core.Bool.{Bool, true, false}
+use mathlib.Core.Bool.{true, false}
 use Prim.Native.Nat.{ℕ, zero, suc, _+_, _*_}
-use lib.ListN.{length, take, drop, getD}
+use lib.ListN.{take, drop, getD}
 use lib.Dec.{leb}
 use lib.Ieee.{Float, binary32, round}
 

@@ -1,30 +1,43 @@
 -- The outputs of a placed registration: what settling them asks, and what it leaves. Assumes nothing.
-use mathlib.Core.Path.{_≡_, ap, _∙_}
+use mathlib.Core.Path.{_≡_, ap, _∙_, subst}
 use mathlib.Core.List.{List}
-use Prim.Native.Nat.{ℕ, _≤_}
+use Prim.Native.Nat.{ℕ, _+_, _*_, _≤_}
 use native.Mathlib.Omega.{arith}
 use lib.ListN.{length}
+use Rattle.rules.specs.Limits.{mark-written}
 use Rattle.rules.specs.Model.{run-from}
 use Rattle.lists.specs.Part.{part, Listed}
-use Rattle.tracking.specs.Tracking.{stamped, Stamped, tracked-in}
+use Rattle.tracking.specs.Tracking.{Stamped, tracked-in}
 use Rattle.tracking.specs.Places.{stamped-length, stamped-from}
 
-pub record Settling (marks locs pool : List ℕ) (at n v lead : ℕ) : Type 0 where
+-- a location as one number: the span times the radix, which is above every position, plus the position
+abbrev pub location-radix : ℕ
+location-radix = 4294967296
+
+abbrev pub location : ℕ → ℕ → ℕ
+location span pos = span * location-radix + pos
+
+pub record Settling (marks locations pool : List ℕ) (at n v watermark : ℕ) : Type 0 where
   pub marks-listed : Listed pool at n (length marks)
-  pub locs-listed : Listed pool at n (length locs)
+  pub locations-listed : Listed pool at n (length locations)
   pub long : v ≤ length marks
-  pub low : lead ≤ run-from (tracked-in marks) v 0
+  pub low : watermark ≤ run-from (tracked-in marks) v 0
 
 -- the places xs are stamped, and r is the count of leading tracked places
-pub record Settled (marks locs xs : List ℕ) (loc v : ℕ) (marks′ locs′ : List ℕ) (r : ℕ) : Type 0 where
-  pub stamps : Stamped marks locs xs loc marks′ locs′
-  pub lead-is : r ≡ run-from (tracked-in marks′) v 0
+pub record Settled (marks locations xs : List ℕ) (loc v : ℕ) (marks′ locations′ : List ℕ) (r : ℕ) : Type 0 where
+  pub stamps : Stamped marks locations xs loc marks′ locations′
+  pub watermark-is : r ≡ run-from (tracked-in marks′) v 0
 
-pub asked-advance : (marks marks′ locs locs′ pool : List ℕ) (at n v u lead loc : ℕ) → u ≡ v → Settling marks locs pool at n v lead → Stamped marks locs (part pool at n) loc marks′ locs′
-    → (u ≤ length marks′) × (lead ≤ run-from (tracked-in marks′) u 0)
-asked-advance marks marks′ locs locs′ pool at n v u lead loc e a s =
-    rw (e, s .marks-are) (omega (arith, a .long, stamped-length marks (part pool at n) 32768), stamped-from v lead marks (part pool at n) (a .long) (a .low))
+pub asked-advance : (marks marks′ locations locations′ pool : List ℕ) (at n v u watermark loc : ℕ) → u ≡ v →
+    Settling marks locations pool at n v watermark → Stamped marks locations (part pool at n) loc marks′ locations′
+    → (u ≤ length marks′) × (watermark ≤ run-from (tracked-in marks′) u 0)
+asked-advance marks marks′ locations locations′ pool at n v u watermark loc e a s =
+    rw (e, s .marks-are) (omega (arith, a .long, stamped-length marks (part pool at n) mark-written), stamped-from v watermark marks (part pool at n) (a .long) (a .low))
 
-pub settled-by : (marks marks′ locs locs′ xs : List ℕ) (loc l v u r : ℕ) → l ≡ loc → u ≡ v → Stamped marks locs xs l marks′ locs′ → r ≡ run-from (tracked-in marks′) u 0 → Settled marks locs xs loc v marks′ locs′ r
-settled-by marks marks′ locs locs′ xs loc l v u r el eu s e =
-    record { stamps = rw (← el) s; lead-is = e ∙ ap (λ (x : ℕ). run-from (tracked-in marks′) x 0) eu }
+pub settled-by : (marks marks′ locations locations′ xs : List ℕ) (loc v u r : ℕ) → u ≡ v → Stamped marks locations xs loc marks′ locations′ → r ≡ run-from (tracked-in marks′) u 0
+    → Settled marks locations xs loc v marks′ locations′ r
+settled-by marks marks′ locations locations′ xs loc v u r eu s e = record { stamps = s; watermark-is = e ∙ ap (λ (x : ℕ). run-from (tracked-in marks′) x 0) eu }
+
+-- the location by another name
+pub settled-at : {marks locations xs marks′ locations′ : List ℕ} {l loc v r : ℕ} → l ≡ loc → Settled marks locations xs l v marks′ locations′ r → Settled marks locations xs loc v marks′ locations′ r
+settled-at {marks} {locations} {xs} {marks′} {locations′} {l} {loc} {v} {r} e s = subst (λ (x : ℕ). Settled marks locations xs x v marks′ locations′ r) e s

@@ -2,43 +2,38 @@
 -- for the model after `place-one`. Assumes nothing.
 use mathlib.Core.Path.{_≡_, refl, sym, ap, _∙_, subst}
 use mathlib.Core.List.{List, [], _∷_, _++_, List·Memᴰ·head, List·Memᴰ·tail}
-use mathlib.Core.Bool.{Bool, true, false}
-use mathlib.Core.Option.{Option, some, none}
-use Prim.Native.Nat.{ℕ, _+_, _*_, _≤_, _<_}
+use Prim.Native.Nat.{ℕ, _+_, _≤_, _<_}
 use native.Mathlib.Omega.{arith}
 use lib.Dec.{ltb}
 use lib.ListN.{length}
 use borrow.Author.Tests.{lt-ltb}
-use Rattle.rules.specs.Guide.{Loc, Item, Guide as GuideModel, Placed, place, tally}
+use Rattle.rules.specs.Limits.{mark-written}
+use Rattle.rules.specs.Guide.{Loc, Item, Placed, place, tally}
 use Rattle.rules.specs.Checks.{taken}
-use Rattle.rules.specs.Model.{Reg, Model, run-from, watermark, top, after, spotted, reg-of, place-one}
+use Rattle.rules.specs.Model.{Reg, Model, run-from, top, after, spotted, reg-of, place-one}
 use Rattle.rules.specs.Record.{pack}
-use Rattle.laws.specs.History.{len}
-use Rattle.laws.specs.ModelBase.{In, member-in}
+use Rattle.laws.specs.ModelBase.{member-in}
 use Rattle.laws.specs.Limits.{AllBelow}
 use Rattle.laws.specs.Placeable.{Placeable}
-use Rattle.lists.specs.Part.{part, Below, Listed, listed-of}
+use Rattle.lists.specs.Part.{part, Below, listed-of}
 use Rattle.tracking.specs.Tracking.{peak, stamped, tracked-in}
 use Rattle.tracking.specs.Places.{Places, top-pack, Fresh, places-stamped, run-is}
 use Rattle.entries.specs.declared.Entry.{Entry}
-use Rattle.entries.specs.Entries.{row, item-of, entry-of}
+use Rattle.entries.specs.Entries.{item-of}
 use Rattle.buffer.specs.declared.Guide.{Guide}
-use Rattle.buffer.specs.View.{view, order-of, spans-of}
-use Rattle.placing.specs.Stands.{Stands}
-use Rattle.placing.specs.Done.{order-view}
+use Rattle.buffer.specs.View.{view}
 use Rattle.guide.specs.Ready.{Ready, Near, after-of}
 use Rattle.guide.specs.Pushes.{Pushes}
-use Rattle.session.specs.declared.Session.{Session}
 use Rattle.session.specs.declared.After.{After}
 use Rattle.session.specs.Storage.{Storage}
-use Rattle.session.specs.Outputs.{Settling, Settled}
-use Rattle.session.specs.Rep.{Guided, Rowed, Tracked, Stored, Core}
+use Rattle.session.specs.Outputs.{location-radix, location, Settling, Settled}
+use Rattle.session.specs.Rep.{Rowed, Core}
 
 -- what is read of a registration a: whether it has inputs, the greatest location of them, and where its outputs lie
-pub record Found (locs pool : List ℕ) (a : Reg) (f : After) : Type 0 where
+pub record Found (locations pool : List ℕ) (a : Reg) (f : After) : Type 0 where
   pub has-is : f .has ≡ ltb 0 (length (a .ins))
-  pub peak-is : f .span * 4294967296 + f .pos ≡ peak locs (a .ins)
-  pub low : f .pos < 4294967296
+  pub peak-is : location (f .span) (f .pos) ≡ peak locations (a .ins)
+  pub low : f .pos < location-radix
   pub inside : f .at + f .n ≤ length pool
   pub outs-are : part pool (f .at) (f .n) ≡ a .outs
 
@@ -51,12 +46,9 @@ all-below N (x ∷ xs) h = (h x (List·Memᴰ·head refl), all-below N xs (λ i 
 abbrev pub placed-storage : Storage → List ℕ → List ℕ → List ℕ → List ℕ → List ℕ → List ℕ → Storage
 placed-storage σ sp o t rs m l = record { spans = sp; order = o; tally = t; rows = rs; marks = m; locations = l; waiting = σ .waiting; pool = σ .pool }
 
-module _ (P N : ℕ) (k : Model) (g : Guide) (lead : ℕ) (σ : Storage) (r : ℕ) (C : Core P N k g lead σ) (M : Placeable P N r k) where
+module _ (P N : ℕ) (k : Model) (g : Guide) (watermark : ℕ) (σ : Storage) (r : ℕ) (C : Core P N k g watermark σ) (M : Placeable P N r k) where
   abbrev a : Reg
   a = reg-of k r
-
-  abbrev S : Stands g (σ .spans) (σ .order) (σ .tally)
-  S = C .guided .stands
 
   pub may-push : Ready (g .p) (g .v) (view g (σ .spans) (σ .order))
   may-push =
@@ -64,10 +56,10 @@ module _ (P N : ℕ) (k : Model) (g : Guide) (lead : ℕ) (σ : Storage) (r : �
       (record { later = M .fits .later; room = omega (arith, M .room-all); low = omega (arith, M .fits .low) })
 
   module _ (f : After) (F : Found (σ .locations) (σ .pool) a f) where
-    tops : (pack (top (k .located) (a .ins)) ≡ peak (σ .locations) (a .ins)) × ((top (k .located) (a .ins)) .pos < 4294967296)
+    tops : (pack (top (k .located) (a .ins)) ≡ peak (σ .locations) (a .ins)) × ((top (k .located) (a .ins)) .pos < location-radix)
     tops = top-pack N (k .sets) (k .located) (σ .marks) (σ .locations) (C .tracked .places) (a .ins) (all-below N (a .ins) (M .lists .ins-below))
 
-    parts : (x y u z : ℕ) → x * 4294967296 + y ≡ u * 4294967296 + z → y < 4294967296 → z < 4294967296 → (x ≡ u) × (y ≡ z)
+    parts : (x y u z : ℕ) → location x y ≡ location u z → y < location-radix → z < location-radix → (x ≡ u) × (y ≡ z)
     parts x y u z e h q = (omega arith, omega arith)
 
     top-parts : (f .span ≡ (top (k .located) (a .ins)) .span) × (f .pos ≡ (top (k .located) (a .ins)) .pos)
@@ -93,15 +85,15 @@ module _ (P N : ℕ) (k : Model) (g : Guide) (lead : ℕ) (σ : Storage) (r : �
     pub outs-below : Below N (part (σ .pool) (f .at) (f .n))
     outs-below = rw (F .outs-are) (all-below N (a .outs) (M .lists .outs-below))
 
-    pub may-settle : Settling (σ .marks) (σ .locations) (σ .pool) (f .at) (f .n) (g .v) lead
+    pub may-settle : Settling (σ .marks) (σ .locations) (σ .pool) (f .at) (f .n) (g .v) watermark
     may-settle =
         record {
           marks-listed = listed-of (σ .pool) (f .at) (f .n) N (length (σ .marks)) (F .inside) outs-below (C .tracked .places .marks-long);
-          locs-listed = listed-of (σ .pool) (f .at) (f .n) N (length (σ .locations)) (F .inside) outs-below (C .tracked .places .locs-long);
+          locations-listed = listed-of (σ .pool) (f .at) (f .n) N (length (σ .locations)) (F .inside) outs-below (C .tracked .places .locations-long);
           long = omega (arith, C .tracked .places .marks-long, C .guided .v-is);
           low =
-              subst (λ (v : ℕ). lead ≤ run-of v) (sym (C .guided .v-is))
-              (omega (arith, C .tracked .lead-is, run-is N k (σ .marks) (σ .locations) (C .tracked .places)));
+              subst (λ (v : ℕ). watermark ≤ run-of v) (sym (C .guided .v-is))
+              (omega (arith, C .tracked .watermark-is, run-is N k (σ .marks) (σ .locations) (C .tracked .places)));
         }
       where
         run-of : ℕ → ℕ
@@ -125,29 +117,29 @@ module _ (P N : ℕ) (k : Model) (g : Guide) (lead : ℕ) (σ : Storage) (r : �
       placed-view = U .done .is ∙ ap (λ (x : Placed). x .guide) pl-is
 
       -- the session after the placing: the guide's promise, the rows filled, the outputs' stamps
-      pub placed : (lead′ : ℕ) (rs m l : List ℕ) → Rowed N (place-one P c r k) (placed-storage σ sp o t rs m l)
-          → Settled (σ .marks) (σ .locations) (part (σ .pool) (f .at) (f .n)) (span * 4294967296 + pos) (g .v) m l lead′
-          → Core P N (place-one P c r k) h lead′ (placed-storage σ sp o t rs m l)
+      pub placed : (watermark′ : ℕ) (rs m l : List ℕ) → Rowed N (place-one P c r k) (placed-storage σ sp o t rs m l)
+          → Settled (σ .marks) (σ .locations) (part (σ .pool) (f .at) (f .n)) (location span pos) (g .v) m l watermark′
+          → Core P N (place-one P c r k) h watermark′ (placed-storage σ sp o t rs m l)
       unfolding place-one pack reg-of taken item pl
-      placed lead′ rs m l R Z =
+      placed watermark′ rs m l R Z =
           record {
             guided = record { p-is = U .done .same-p ∙ C .guided .p-is; v-is = U .done .same-v ∙ C .guided .v-is; places = C .guided .places; stands = U .done .stands; view-is = placed-view };
             rowed = R;
-            tracked = record { places = ps; lead-is = Z .lead-is ∙ ap (λ (v : ℕ). run-from (tracked-in m) v 0) (C .guided .v-is) ∙ run-is N (place-one P c r k) m l ps };
+            tracked = record { places = ps; watermark-is = Z .watermark-is ∙ ap (λ (v : ℕ). run-from (tracked-in m) v 0) (C .guided .v-is) ∙ run-is N (place-one P c r k) m l ps };
             stored = record { lists = C .stored .lists; flags = C .stored .flags };
           }
         where
           outs : List ℕ
           outs = a .outs
 
-          packs : span * 4294967296 + pos ≡ pack (pl .loc)
+          packs : location span pos ≡ pack (pl .loc)
           packs = omega (arith, U .at-span ∙ ap (λ (x : Placed). x .loc .span) pl-is, U .at-pos ∙ ap (λ (x : Placed). x .loc .pos) pl-is)
 
-          m-is : stamped (σ .marks) outs 32768 ≡ m
-          m-is = sym (Z .stamps .marks-are ∙ ap (λ x. stamped (σ .marks) x 32768) (F .outs-are))
+          m-is : stamped (σ .marks) outs mark-written ≡ m
+          m-is = sym (Z .stamps .marks-are ∙ ap (λ x. stamped (σ .marks) x mark-written) (F .outs-are))
 
           l-is : stamped (σ .locations) outs (pack (pl .loc)) ≡ l
-          l-is = sym (Z .stamps .locs-are ∙ ap (λ x. stamped (σ .locations) x (span * 4294967296 + pos)) (F .outs-are) ∙ ap (λ x. stamped (σ .locations) outs x) packs)
+          l-is = sym (Z .stamps .locations-are ∙ ap (λ x. stamped (σ .locations) x (location span pos)) (F .outs-are) ∙ ap (λ x. stamped (σ .locations) outs x) packs)
 
           fresh : Fresh (k .sets) (k .located) outs
           fresh = record { unset = λ x y. M .unset x (member-in x outs y); unplaced = λ x y. M .unplaced x (member-in x outs y) }
@@ -155,5 +147,6 @@ module _ (P N : ℕ) (k : Model) (g : Guide) (lead : ℕ) (σ : Storage) (r : �
           ps : Places N (k .sets) (k .located ++ spotted (pl .loc) outs) m l
           ps =
               subst (λ (x : List ℕ). Places N (k .sets) (k .located ++ spotted (pl .loc) outs) x l) m-is
-              (subst (λ (x : List ℕ). Places N (k .sets) (k .located ++ spotted (pl .loc) outs) (stamped (σ .marks) outs 32768) x) l-is
-              (places-stamped N (k .sets) (k .located) (σ .marks) (σ .locations) outs (pl .loc) (C .tracked .places) fresh (omega (arith, U .pos-fits, U .at-pos ∙ ap (λ (x : Placed). x .loc .pos) pl-is))))
+              (subst (λ (x : List ℕ). Places N (k .sets) (k .located ++ spotted (pl .loc) outs) (stamped (σ .marks) outs mark-written) x) l-is
+              (places-stamped N (k .sets) (k .located) (σ .marks) (σ .locations) outs (pl .loc) (C .tracked .places) fresh
+              (omega (arith, U .pos-fits, U .at-pos ∙ ap (λ (x : Placed). x .loc .pos) pl-is))))

@@ -1,31 +1,25 @@
 -- The rows as the order grows: from n entries to n + a, all of registrations below N. Placing and flushing both fill them so.
 -- Assumes nothing.
-use mathlib.Core.Path.{_≡_, refl, sym, ap, _∙_, subst}
+use mathlib.Core.Path.{_≡_, sym, ap, _∙_, subst}
 use mathlib.Core.List.{List, [], _∷_, _++_, map}
-use Prim.Native.Nat.{ℕ, zero, suc, _+_, _*_, _-_, _≤_, _<_}
+use Prim.Native.Nat.{ℕ, suc, _+_, _<_}
 use native.Mathlib.Nat.{zero-add}
 use native.Mathlib.Omega.{arith}
 use lib.ListN.{length, getD}
 use Rattle.rules.specs.Guide.{Entry as OrderEntry}
 use Rattle.rules.specs.Model.{Model}
-use Rattle.laws.specs.Order.{nth, no-written}
+use Rattle.laws.specs.Order.{no-written}
 use Rattle.laws.specs.Placeable.{Fits}
 use Rattle.entries.specs.declared.Entry.{Entry}
-use Rattle.entries.specs.Entries.{row, entry-at, entry-of}
-use Rattle.entries.specs.Stored.{row-add}
+use Rattle.entries.specs.Entries.{extent, row, entry-of}
+use Rattle.entries.specs.Stored.{row-add, row-same}
 use Rattle.buffer.specs.View.{order-of}
 use Rattle.buffer.specs.Order.{map-append}
-use Rattle.records.specs.Filling.{filled, Fillable}
+use Rattle.records.specs.Filling.{rows-fit, filled, Fillable}
 use Rattle.records.specs.Filled.{Filled, Known, known-append, RowsFrame, fillable, fills, fill-frame}
 
-row-same : (o o′ : List ℕ) (k m : ℕ) → ((j : ℕ) → j < 4 * (k + m) → getD o′ j 0 ≡ getD o j 0) → row o′ k m ≡ row o k m
-row-same o o′ k zero h = refl
-row-same o o′ k (suc m) h =
-    rw (h (4 * k) (omega arith), h (4 * k + 1) (omega arith), h (4 * k + 2) (omega arith), h (4 * k + 3) (omega arith))
-    (ap (λ (l : List Entry). entry-at o k ∷ l) (row-same o o′ (suc k) m (λ j q. h j (omega arith))))
-
 -- the order's first n entries are what they were
-pub order-same : (o o′ : List ℕ) (n : ℕ) → ((j : ℕ) → j < 4 * n → getD o′ j 0 ≡ getD o j 0) → order-of o′ n ≡ order-of o n
+pub order-same : (o o′ : List ℕ) (n : ℕ) → ((j : ℕ) → j < extent n → getD o′ j 0 ≡ getD o j 0) → order-of o′ n ≡ order-of o n
 unfolding order-of
 order-same o o′ n h = ap (λ (l : List Entry). map entry-of l) (row-same o o′ 0 n (λ j q. h j (omega arith)))
 
@@ -38,7 +32,7 @@ known-all v (e ∷ l) h = (h 0 (omega arith), known-all v l (λ j q. h (suc j) (
 pub order-registered : (P N : ℕ) (k : Model) → Fits P N k → Known N (k .guide .order)
 order-registered P N k f = known-all N (k .guide .order) (λ j h. omega (arith, f .order-known j h, f .many))
 
-module _ (N n a : ℕ) (o o′ rs : List ℕ) (long : 5 * N ≤ length rs) (kept : (j : ℕ) → j < 4 * n → getD o′ j 0 ≡ getD o j 0) (known : Known N (order-of o′ (n + a))) where
+module _ (N n a : ℕ) (o o′ rs : List ℕ) (long : rows-fit rs N) (kept : (j : ℕ) → j < extent n → getD o′ j 0 ≡ getD o j 0) (known : Known N (order-of o′ (n + a))) where
   new-known : Known N (map entry-of (row o′ n a))
   unfolding order-of
   new-known = known-append N (map entry-of (row o′ 0 n)) (map entry-of (row o′ n a)) (subst (λ (l : List OrderEntry). Known N l) grown known)

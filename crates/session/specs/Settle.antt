@@ -1,8 +1,8 @@
 -- The cascade as a loop of turns: what it asks and promises, its invariant, and that the invariant begins, is kept by a turn, and ends in
 -- the promise. Assumes nothing.
-use mathlib.Core.Path.{_≡_, refl, sym, ap, _∙_, subst}
+use mathlib.Core.Path.{_≡_, refl, sym, _∙_, subst}
 use mathlib.Core.List.{List, [], _∷_}
-use Prim.Native.Nat.{ℕ, zero, suc, _+_, _≤_, _<_}
+use Prim.Native.Nat.{ℕ, _+_, _≤_}
 use native.Mathlib.Omega.{arith}
 use lib.ListN.{length}
 use Rattle.rules.specs.Model.{Model, place-one, keep, push, off, rest, settle-all}
@@ -11,7 +11,7 @@ use Rattle.laws.specs.Sound.{Sound, sound-placing}
 use Rattle.session.specs.declared.Session.{Session}
 use Rattle.session.specs.Storage.{Storage, Frame, frame-refl, frame-trans}
 use Rattle.session.specs.Rep.{RepSt, Rep}
-use Rattle.session.specs.Turn.{MayTurn, Turns}
+use Rattle.session.specs.PlaceNext.{MayPlaceNext, PlacesNext}
 use Rattle.session.specs.Cascade.{settle-done, settle-turn}
 
 -- some model is meant, with a stack; the own add of no more than the accepted registrations has ended
@@ -53,15 +53,15 @@ midway-begins c s σ top =
 
 module _ (P N W c : ℕ) (goal : Model) (s : Session) (σ : Storage) (top : ℕ) (A : Along P N W c goal s σ top) where
   -- a link that is not 0 leads to the top of the stack
-  pub along-turn : (top ≡ 0 → ⊥) → MayTurn c s σ top
+  pub along-turn : (top ≡ 0 → ⊥) → MayPlaceNext c s σ top
   along-turn h = go (A .st) (A .rep) (A .sound)
     where
-      go : (st : List ℕ) → RepSt P N (A .j) s σ top st → Sound P N W (A .j) st → MayTurn c s σ top
+      go : (st : List ℕ) → RepSt P N (A .j) s σ top st → Sound P N W (A .j) st → MayPlaceNext c s σ top
       go [] R S = absurd (h (R .delayed .stack))
       go (r ∷ st) R S = record { P = P; N = N; W = W; k = A .j; r = r; st = st; rep = R; sound = S; ended = A .ended }
 
   -- a turn leads on, and takes one registration less
-  pub along-step : (s′ : Session) (τ : Storage) (top′ : ℕ) → (top ≡ 0 → ⊥) → Turns c s σ top s′ τ top′ → Along P N W c goal s′ τ top′ × (s′ .delayed + 1 ≡ s .delayed)
+  pub along-step : (s′ : Session) (τ : Storage) (top′ : ℕ) → (top ≡ 0 → ⊥) → PlacesNext c s σ top s′ τ top′ → Along P N W c goal s′ τ top′ × (s′ .delayed + 1 ≡ s .delayed)
   unfolding place-one rest keep
   along-step s′ τ top′ h T = go (A .st) (A .rep) (A .sound) (A .ends)
     where
@@ -92,17 +92,19 @@ module _ (c : ℕ) (s₀ : Session) (σ₀ : Storage) (top₀ : ℕ) (ask : MayS
   here : Along (ask .P) (ask .N) (ask .W) c (settle-all (ask .P) (ask .N) c (ask .st) (ask .k)) s σ top
   here = M .along (ask .P) (ask .N) (ask .W) (ask .k) (ask .st) (ask .rep) (ask .sound) (ask .ended)
 
-  pub midway-turn : (top ≡ 0 → ⊥) → MayTurn c s σ top
+  pub midway-turn : (top ≡ 0 → ⊥) → MayPlaceNext c s σ top
   midway-turn h = along-turn (ask .P) (ask .N) (ask .W) c _ s σ top here h
 
-  pub midway-less : (s′ : Session) (τ : Storage) (top′ : ℕ) → (top ≡ 0 → ⊥) → Turns c s σ top s′ τ top′ → s′ .delayed + 1 ≡ s .delayed
+  pub midway-less : (s′ : Session) (τ : Storage) (top′ : ℕ) → (top ≡ 0 → ⊥) → PlacesNext c s σ top s′ τ top′ → s′ .delayed + 1 ≡ s .delayed
   midway-less s′ τ top′ h T = along-step (ask .P) (ask .N) (ask .W) c _ s σ top here s′ τ top′ h T .1
 
-  pub midway-step : (s′ : Session) (τ : Storage) (top′ : ℕ) → (top ≡ 0 → ⊥) → Turns c s σ top s′ τ top′ → Midway c s₀ σ₀ top₀ s′ τ top′
+  pub midway-step : (s′ : Session) (τ : Storage) (top′ : ℕ) → (top ≡ 0 → ⊥) → PlacesNext c s σ top s′ τ top′ → Midway c s₀ σ₀ top₀ s′ τ top′
   midway-step s′ τ top′ h T =
       record {
         along = λ P N W k st R S e. along-step P N W c _ s σ top (M .along P N W k st R S e) s′ τ top′ h T .0;
-        frame = frame-trans _ _ _ _ _ σ₀ σ τ (M .frame) (subst (λ (x : ℕ). Frame x (s₀ .guide .v) (s .guide .written) (s′ .guide .written) σ τ) p-is (subst (λ (x : ℕ). Frame (s .guide .p) x (s .guide .written) (s′ .guide .written) σ τ) v-is (T .frame)));
+        frame = frame-trans _ _ _ _ _ σ₀ σ τ (M .frame)
+            (subst (λ (x : ℕ). Frame x (s₀ .guide .v) (s .guide .written) (s′ .guide .written) σ τ) p-is
+            (subst (λ (x : ℕ). Frame (s .guide .p) x (s .guide .written) (s′ .guide .written) σ τ) v-is (T .frame)));
       }
     where
       p-is : s .guide .p ≡ s₀ .guide .p

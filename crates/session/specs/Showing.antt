@@ -8,12 +8,12 @@ use Rattle.rules.specs.Guide.{Item, Guide as GuideModel}
 use Rattle.rules.specs.Model.{Model, reg-of}
 use Rattle.rules.specs.Checks.{pooled}
 use Rattle.rules.specs.Record.{location-of}
+use Rattle.entries.specs.Entries.{entry-at}
 use Rattle.buffer.specs.View.{view, order-of, spans-of, upto}
 use Rattle.buffer.specs.Rows.{spans-lengths, spans-at}
 use Rattle.buffer.specs.Order.{order-count}
 use Rattle.registrar.specs.Unique.{pending-read}
-use Rattle.lists.specs.ListLaws.{Parts}
-use Rattle.lists.specs.Arguments.{parts-of}
+use Rattle.pool.specs.ListLaws.{Parts, parts-of}
 use Rattle.session.specs.declared.Session.{Session}
 use Rattle.session.specs.Storage.{Storage}
 use Rattle.session.specs.Rep.{Rep}
@@ -46,7 +46,7 @@ module _ (P N : ℕ) (k : Model) (s : Session) (σ : Storage) (R : Rep P N k s �
       whole : Parts (σ .waiting) N r (length (k .adds)) (pooled (k .adds)) (σ .pool) (reg-of k r) → lists-in (σ .waiting) (σ .pool) N (length (k .adds)) (pooled (k .adds)) r ≡ reg-of k r
       whole p = rw (p .ins-are, p .outs-are)
 
-  none-assigned : (i j : ℕ) → i < 32 → j < getD (s .guide .window .lens) i 0 → getD (σ .spans) (4 * (getD (s .guide .window .rows) i 0 * (P + 1) + j) + 3) 0 ≡ 0
+  none-assigned : (i j : ℕ) → i < 32 → j < getD (s .guide .window .lens) i 0 → (entry-at (σ .spans) (getD (s .guide .window .rows) i 0 * (P + 1) + j)) .parallelism ≡ 0
   none-assigned = rw (← R .core .guided .p-is) (R .core .guided .stands .laid .unassigned)
 
   pub shows : Shows P N k s σ
@@ -66,8 +66,8 @@ module _ (P N : ℕ) (k : Model) (s : Session) (σ : Storage) (R : Rep P N k s �
         spans = λ i h.
             sym (spans-at P (σ .spans) (s .guide .window .rows) (s .guide .window .lens) i same-many) ∙ ap (λ (x : List (List Item)). getD x i []) spans-are;
         unassigned = none-assigned;
-        mark = R .core .tracked .lead-is;
-        waiting = pending-read (σ .waiting) N (s .lead) (k .pending) 0 [] (R .delayed);
+        watermark = R .core .tracked .watermark-is;
+        waiting = pending-read (σ .waiting) N (s .watermark) (k .pending) 0 [] (R .delayed);
         delayed = omega (arith, R .delayed-is);
         accepted = R .counted .added-is;
         lists = lists-are;

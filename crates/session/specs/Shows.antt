@@ -7,7 +7,7 @@ use mathlib.Core.List.{List, [], map}
 use Prim.Native.Nat.{ℕ, _+_, _-_, _*_, _<_}
 use lib.ListN.{length, getD, take}
 use Rattle.rules.specs.Guide.{Item, tally as tally-of}
-use Rattle.rules.specs.Model.{Model, Reg, reg-of, registrations as registrations-of, watermark}
+use Rattle.rules.specs.Model.{Model, Reg, reg-of, registrations as registrations-of, watermark as watermark-of}
 use Rattle.rules.specs.Record.{mark-of, location-of, row-of}
 use Rattle.window.specs.declared.Window.{Window}
 use Rattle.entries.specs.Entries.{entry-at, row, item-of}
@@ -15,7 +15,7 @@ use Rattle.buffer.specs.View.{order-of, upto}
 use Rattle.records.specs.Filled.{row-at}
 use Rattle.registrar.specs.Reading.{waiting-in}
 use Rattle.lists.specs.Part.{part}
-use Rattle.lists.specs.Lists.{start-of, inputs-of, end-of}
+use Rattle.pool.specs.Lists.{start-of, inputs-of, end-of}
 use Rattle.session.specs.declared.Session.{Session}
 use Rattle.session.specs.Storage.{Storage}
 
@@ -48,10 +48,10 @@ pub record Shows (P N : ℕ) (k : Model) (s : Session) (σ : Storage) : Type 0 w
   -- a held entry has no parallelism yet: 0 stands there
   pub unassigned : (i j : ℕ) → i < 32 → j < getD (s .guide .window .lens) i 0
       → entry-at (σ .spans) (getD (s .guide .window .rows) i 0 * (P + 1) + j) .parallelism ≡ 0
-  -- the mark, as the watermark
-  pub mark : s .lead ≡ watermark N k
+  -- the high mark, as the watermark
+  pub watermark : s .watermark ≡ watermark-of N k
   -- who waits, and how many
-  pub waiting : waiting-in (σ .waiting) N (s .lead) ≡ k .pending
+  pub waiting : waiting-in (σ .waiting) N (s .watermark) ≡ k .pending
   pub delayed : s .delayed ≡ length (k .pending)
   -- how many are accepted, and the lists of each
   pub accepted : s .added ≡ length (k .adds)

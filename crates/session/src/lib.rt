@@ -1,12 +1,12 @@
 // The session by value, and the placing of registrations over its lent storage.
 ghost use mathlib.Core.Path.{_≡_};
-ghost use Prim.Native.Nat.{ℕ, _+_, _*_, _<_, _≤_};
-ghost use lib.ListN.{length, getD};
-ghost use Rattle.lists.specs.Part.{part, Listed};
-ghost use Rattle.tracking.specs.Tracking.{tracked-in};
-ghost use Rattle.session.specs.Outputs.{Settling, Settled};
-ghost use Rattle.session.specs.Storage.{storage};
-ghost use Rattle.session.specs.Turn.{MayPlace, PlacesOne, MayTurn, Turns};
+ghost use Prim.Native.Nat.{_+_, _*_, _<_};
+ghost use Rattle.lists.specs.Part.{part};
+ghost use Rattle.records.specs.Filling.{rows-fit};
+ghost use Rattle.session.specs.Noting.{noted};
+ghost use Rattle.session.specs.Outputs.{location, Settling, Settled};
+ghost use Rattle.session.specs.Storage.{given, before, after};
+ghost use Rattle.session.specs.PlaceNext.{MayPlace, PlacesOne, MayPlaceNext, PlacesNext};
 ghost use Rattle.session.specs.Settle.{MaySettle, Settles};
 ghost use Rattle.session.specs.PlaceOne.{MayFind, Finds};
 use buffer::Guide;
@@ -14,8 +14,8 @@ use entries::Entry;
 
 pub struct Session {
     pub guide: Guide,
-    // leading tracked places: the watermark
-    pub lead: usize,
+    // how many leading places are tracked
+    pub watermark: usize,
     // registrations accepted, and the numbers of the pool that their lists take
     pub added: u32,
     pub used: usize,
@@ -28,6 +28,9 @@ pub struct Session {
     pub registrations: u32,
     pub places: u32,
 }
+
+// A location is one number: the span times this, which is above every position, plus the position.
+const LOCATION_RADIX: u64 = 4294967296;
 
 // What placing a registration reads of its lists: whether it has inputs, the greatest location of them, and the n outputs, which lie in
 // the pool from `at` on.
@@ -47,14 +50,14 @@ fn wide(x: u32) -> usize
 
 // A location as one number.
 fn packed(span: u32, pos: u32) -> u64
-    ensures { λ r. ⌜ r ≡ span * 4294967296 + pos ⌝ }
+    ensures { λ r. ⌜ r ≡ location span pos ⌝ }
 {
-    (span as u64) * 4294967296 + (pos as u64)
+    (span as u64) * LOCATION_RADIX + (pos as u64)
 }
 
 // Where the lists of registration r lie, and the greatest location of its inputs.
 fn find_after(
-    locs: &[u64],
+    locations: &[u64],
     waiting: &[u64],
     pool: &[u32],
     v: u32,
@@ -62,20 +65,20 @@ fn find_after(
     used: usize,
     r: u32,
 ) -> After
-    requires { ⌜ MayFind (now locs) (now waiting) (now pool) v added used r ⌝ }
-    ensures { λ a. ⌜ Finds (now (locs .entry)) (now (waiting .entry)) (now (pool .entry)) v added used r a ⌝ }
+    requires { ⌜ MayFind (now locations) (now waiting) (now pool) v added used r ⌝ }
+    ensures { λ a. ⌜ Finds (now (locations .entry)) (now (waiting .entry)) (now (pool .entry)) v added used r a ⌝ }
 {
     let size = wide(v);
     let i = wide(r);
-    let start = lists::list_start(waiting, size, i);
-    let n = lists::list_inputs(waiting, size, i);
-    let end = lists::list_end(waiting, size, i, wide(added), used);
-    let top = tracking::top_loc(locs, pool, start, n);
+    let start = pool::list_start(waiting, size, i);
+    let n = pool::list_inputs(waiting, size, i);
+    let end = pool::list_end(waiting, size, i, wide(added), used);
+    let top = tracking::top_loc(locations, pool, start, n);
     let at = start + n;
     After {
         has: 0 < n,
-        span: (top / 4294967296) as u32,
-        pos: (top % 4294967296) as u32,
+        span: (top / LOCATION_RADIX) as u32,
+        pos: (top % LOCATION_RADIX) as u32,
         at: at,
         n: end - at,
     }
@@ -84,25 +87,23 @@ fn find_after(
 // Gives the outputs, n places listed in the pool from `at` on, their location, and moves the watermark.
 fn settle_outputs(
     marks: &mut [u16],
-    locs: &mut [u64],
+    locations: &mut [u64],
     pool: &[u32],
     at: usize,
     n: usize,
-    span: u32,
-    pos: u32,
+    loc: u64,
     v: u32,
-    lead: usize,
+    watermark: usize,
 ) -> usize
-    requires { ⌜ Settling (now marks) (now locs) (now pool) at n v lead ⌝ }
-    ensures { λ r. ⌜ Settled (now (marks .entry)) (now (locs .entry)) (part (now (pool .entry)) at n) (span * 4294967296 + pos) v (now (marks .exit)) (now (locs .exit)) r ⌝ }
+    requires { ⌜ Settling (now marks) (now locations) (now pool) at n v watermark ⌝ }
+    ensures { λ r. ⌜ Settled (now (marks .entry)) (now (locations .entry)) (part (now (pool .entry)) at n) loc v (now (marks .exit)) (now (locations .exit)) r ⌝ }
 {
-    let loc = packed(span, pos);
-    tracking::stamp(marks, locs, pool, at, n, loc);
-    tracking::advance(marks, wide(v), lead)
+    tracking::stamp(marks, locations, pool, at, n, loc);
+    tracking::advance(marks, wide(v), watermark)
 }
 
 // A session after a turn of the cascade, and the link of the stack's new top.
-pub struct Turn {
+pub struct CascadeTurn {
     pub session: Session,
     pub top: u64,
 }
@@ -110,89 +111,85 @@ pub struct Turn {
 // The guide and the watermark after a placing.
 pub struct Moved {
     pub guide: Guide,
-    pub lead: usize,
+    pub watermark: usize,
 }
 
 // Places registration r, the own add of c registrations having ended: it takes its place in the guide after its inputs, rows are filled
 // for what the guide released, and its outputs take its location.
 fn place_one(
+    s: Session,
     spans: &mut [u32],
     order: &mut [u32],
     tally: &mut [u32],
     rows: &mut [u32],
     marks: &mut [u16],
-    locs: &mut [u64],
+    locations: &mut [u64],
     waiting: &[u64],
     pool: &[u32],
-    g: Guide,
-    lead: usize,
-    added: u32,
-    used: usize,
     r: u32,
     c: u32,
 ) -> Moved
-    requires { ⌜ MayPlace c g lead added used (storage (now spans) (now order) (now tally) (now rows) (now marks) (now locs) (now waiting) (now pool)) r ⌝ }
-    ensures { λ z. ⌜ PlacesOne c r g lead added used (storage (now (spans .entry)) (now (order .entry)) (now (tally .entry)) (now (rows .entry)) (now (marks .entry)) (now (locs .entry)) (now (waiting .entry)) (now (pool .entry))) (z .guide) (z .lead) (storage (now (spans .exit)) (now (order .exit)) (now (tally .exit)) (now (rows .exit)) (now (marks .exit)) (now (locs .exit)) (now (waiting .entry)) (now (pool .entry))) ⌝ }
+    requires { ⌜ MayPlace c (s .guide) (s .watermark) (s .added) (s .used) (given spans order tally rows marks locations waiting pool) r ⌝ }
+    ensures { λ z. ⌜ PlacesOne c r (s .guide) (s .watermark) (s .added) (s .used) (before spans order tally rows marks locations waiting pool) (z .guide) (z .watermark) (after spans order tally rows marks locations waiting pool) ⌝ }
 {
-    let v = g.v;
-    let n = g.written;
-    let a = find_after(locs, waiting, pool, v, added, used, r);
+    let v = s.guide.v;
+    let n = s.guide.written;
+    let a = find_after(locations, waiting, pool, v, s.added, s.used, r);
     let e = Entry {
         value: r,
         added: r,
         accepted: c,
         parallelism: 0,
     };
-    let d = guide::push(g, spans, order, tally, a.has, a.span, a.pos, e);
+    let d = guide::push(s.guide, spans, order, tally, a.has, a.span, a.pos, e);
     records::fill_rows(order, n, d.guide.written - n, rows);
-    let to = settle_outputs(marks, locs, pool, a.at, a.n, d.span, d.pos, v, lead);
+    let loc = packed(d.span, d.pos);
+    let to = settle_outputs(marks, locations, pool, a.at, a.n, loc, v, s.watermark);
     let h = d.guide;
-    Moved { guide: h, lead: to }
+    Moved {
+        guide: h,
+        watermark: to,
+    }
 }
 
 // Takes the top of the stack off, places it, and pushes what its outputs set free.
 pub fn place_next(
+    s: Session,
     spans: &mut [u32],
     order: &mut [u32],
     tally: &mut [u32],
     rows: &mut [u32],
     marks: &mut [u16],
-    locs: &mut [u64],
+    locations: &mut [u64],
     waiting: &mut [u64],
     pool: &[u32],
-    s: Session,
     top: u64,
     c: u32,
-) -> Turn
-    requires { ⌜ MayTurn c s (storage (now spans) (now order) (now tally) (now rows) (now marks) (now locs) (now waiting) (now pool)) top ⌝ }
-    ensures { λ z. ⌜ Turns c s (storage (now (spans .entry)) (now (order .entry)) (now (tally .entry)) (now (rows .entry)) (now (marks .entry)) (now (locs .entry)) (now (waiting .entry)) (now (pool .entry))) top (z .session) (storage (now (spans .exit)) (now (order .exit)) (now (tally .exit)) (now (rows .exit)) (now (marks .exit)) (now (locs .exit)) (now (waiting .exit)) (now (pool .entry))) (z .top) ⌝ }
+) -> CascadeTurn
+    requires { ⌜ MayPlaceNext c s (given spans order tally rows marks locations waiting pool) top ⌝ }
+    ensures { λ z. ⌜ PlacesNext c s (before spans order tally rows marks locations waiting pool) top (z .session) (after spans order tally rows marks locations waiting pool) (z .top) ⌝ }
 {
     let v = wide(s.guide.v);
-    let lead = s.lead;
     let r = top - 1;
     let under = registrar::next(waiting, v, r as usize);
     let m = place_one(
+        s,
         spans,
         order,
         tally,
         rows,
         marks,
-        locs,
+        locations,
         waiting,
         pool,
-        s.guide,
-        lead,
-        s.added,
-        s.used,
         r as u32,
         c,
     );
-    let to = m.lead;
-    let over = registrar::advance_placed(waiting, v, lead, to, under);
+    let over = registrar::advance_placed(waiting, v, s.watermark, m.watermark, under);
     let h = m.guide;
     let z = Session {
         guide: h,
-        lead: to,
+        watermark: m.watermark,
         added: s.added,
         used: s.used,
         delayed: s.delayed - 1,
@@ -201,7 +198,7 @@ pub fn place_next(
         registrations: s.registrations,
         places: s.places,
     };
-    Turn {
+    CascadeTurn {
         session: z,
         top: over,
     }
@@ -210,34 +207,34 @@ pub fn place_next(
 // The cascade: the registrations of the stack whose top link is `top` are placed, with all that they set off. The own add of c
 // registrations has ended.
 pub fn settle(
+    s: Session,
     spans: &mut [u32],
     order: &mut [u32],
     tally: &mut [u32],
     rows: &mut [u32],
     marks: &mut [u16],
-    locs: &mut [u64],
+    locations: &mut [u64],
     waiting: &mut [u64],
     pool: &[u32],
-    s: Session,
     top: u64,
     c: u32,
 ) -> Session
-    requires { ⌜ MaySettle c s (storage (now spans) (now order) (now tally) (now rows) (now marks) (now locs) (now waiting) (now pool)) top ⌝ }
-    ensures { λ z. ⌜ Settles c s (storage (now (spans .entry)) (now (order .entry)) (now (tally .entry)) (now (rows .entry)) (now (marks .entry)) (now (locs .entry)) (now (waiting .entry)) (now (pool .entry))) top z (storage (now (spans .exit)) (now (order .exit)) (now (tally .exit)) (now (rows .exit)) (now (marks .exit)) (now (locs .exit)) (now (waiting .exit)) (now (pool .entry))) ⌝ }
+    requires { ⌜ MaySettle c s (given spans order tally rows marks locations waiting pool) top ⌝ }
+    ensures { λ z. ⌜ Settles c s (before spans order tally rows marks locations waiting pool) top z (after spans order tally rows marks locations waiting pool) ⌝ }
 {
     let mut z = s;
     let mut t = top;
     while t != 0 {
         let d = place_next(
+            z,
             spans,
             order,
             tally,
             rows,
             marks,
-            locs,
+            locations,
             waiting,
             pool,
-            z,
             t,
             c,
         );
@@ -245,4 +242,14 @@ pub fn settle(
         t = d.top;
     }
     z
+}
+
+// Where the count of registrations went from `from` to `to`, the row of the latest has the order's length stored as its written.
+pub fn note_latest(rows: &mut [u32], from: u32, to: u32, written: u32)
+    requires { ⌜ (from < to → rows-fit (now rows) to) ⌝ }
+    ensures { λ _. ⌜ now (rows .exit) ≡ noted from to written (now (rows .entry)) ⌝ }
+{
+    if from < to {
+        records::note_written(rows, to - 1, written);
+    }
 }

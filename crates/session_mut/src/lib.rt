@@ -1,7 +1,7 @@
 // set and add on a session that its caller keeps and lends by `&mut`: thin wrappers over the calls by value of crate sorter, each with
 // the same promise. A refused call leaves session and storage as they were.
 ghost use Rattle.rules.specs.Calls.{set as set-call, add as add-call};
-ghost use Rattle.session.specs.Storage.{storage};
+ghost use Rattle.session.specs.Storage.{given, before, after};
 ghost use Rattle.admitting.specs.Promise.{Asks, Called};
 use session::Session;
 
@@ -18,8 +18,8 @@ pub fn set(
     pool: &mut [u32],
     x: u64,
 ) -> u64
-    requires { ⌜ Asks (now s) (storage (now spans) (now order) (now tally) (now rows) (now marks) (now locations) (now waiting) (now pool)) ⌝ }
-    ensures { λ r. ⌜ Called (set-call x) r (now (s .entry)) (now (s .exit)) (storage (now (spans .entry)) (now (order .entry)) (now (tally .entry)) (now (rows .entry)) (now (marks .entry)) (now (locations .entry)) (now (waiting .entry)) (now (pool .entry))) (storage (now (spans .exit)) (now (order .exit)) (now (tally .exit)) (now (rows .exit)) (now (marks .exit)) (now (locations .exit)) (now (waiting .exit)) (now (pool .exit))) ⌝ }
+    requires { ⌜ Asks (now s) (given spans order tally rows marks locations waiting pool) ⌝ }
+    ensures { λ r. ⌜ Called (set-call x) r (now (s .entry)) (now (s .exit)) (before spans order tally rows marks locations waiting pool) (after spans order tally rows marks locations waiting pool) ⌝ }
 {
     let a = sorter::set(
         *s,
@@ -51,8 +51,8 @@ pub fn add(
     ins: &[u64],
     outs: &[u64],
 ) -> u64
-    requires { ⌜ Asks (now s) (storage (now spans) (now order) (now tally) (now rows) (now marks) (now locations) (now waiting) (now pool)) ⌝ }
-    ensures { λ r. ⌜ Called (add-call (now (ins .entry)) (now (outs .entry))) r (now (s .entry)) (now (s .exit)) (storage (now (spans .entry)) (now (order .entry)) (now (tally .entry)) (now (rows .entry)) (now (marks .entry)) (now (locations .entry)) (now (waiting .entry)) (now (pool .entry))) (storage (now (spans .exit)) (now (order .exit)) (now (tally .exit)) (now (rows .exit)) (now (marks .exit)) (now (locations .exit)) (now (waiting .exit)) (now (pool .exit))) ⌝ }
+    requires { ⌜ Asks (now s) (given spans order tally rows marks locations waiting pool) ⌝ }
+    ensures { λ r. ⌜ Called (add-call (now (ins .entry)) (now (outs .entry))) r (now (s .entry)) (now (s .exit)) (before spans order tally rows marks locations waiting pool) (after spans order tally rows marks locations waiting pool) ⌝ }
 {
     let a = sorter::add(
         *s,

@@ -47,7 +47,8 @@ module _ (s t : Session) (σ τ : Storage) (D : Does final-call s t σ τ) where
       let x = stepped (a .parallelism) (a .places) (a .model) (a .rep) (a .between) (a .accepted) in
       tallied-of (a .parallelism) (a .places) (length (σ .pool)) (step (a .parallelism) (a .places) (length (σ .pool)) final-call (a .model)) t τ (x .0) (x .1)
 
-  pub concluded : (n : ℕ) → ((P N : ℕ) (k : Model) → Rep P N k s σ → n ≡ answer N (length (σ .pool)) final-call k) → n ≡ 0 → Called final-call 0 s t σ τ → (f : Figures) → f ≡ figures (take (t .guide .p + 1) (τ .tally)) → Concludes 0 s t σ τ f
+  pub concluded : (n : ℕ) → ((P N : ℕ) (k : Model) → Rep P N k s σ → n ≡ answer N (length (σ .pool)) final-call k) → n ≡ 0 →
+      Called final-call 0 s t σ τ → (f : Figures) → f ≡ figures (take (t .guide .p + 1) (τ .tally)) → Concludes 0 s t σ τ f
   unfolding summary-of
   concluded n h z c f e =
       record {

@@ -6,35 +6,57 @@ use Prim.Native.Nat.{ℕ, suc, _+_, _≤_, _<_}
 use native.Mathlib.Omega.{arith}
 use lib.ListN.{length}
 use Rattle.rules.specs.Record.{row-of}
-use Rattle.rules.specs.Model.{Model, tracked, watermark, with-record, with-flush, note-flush, note-final, do-flush, do-final}
+use Rattle.rules.specs.Model.{Model, tracked, watermark as watermark-of, with-record, with-flush, note-flush, note-final, do-flush, do-final}
 use Rattle.rules.specs.Checks.{taken}
-use Rattle.rules.specs.Calls.{flush as flush-call, final as final-call, answer, apply-call}
+use Rattle.rules.specs.Calls.{Call, flush as flush-call, final as final-call, answer, apply-call}
 use Rattle.laws.specs.Accepted.{flush-passed}
 use Rattle.laws.specs.Placeable.{Fits, fits-of}
 use Rattle.laws.specs.Sound.{Between, sound-kept}
 use Rattle.buffer.specs.declared.Guide.{Guide}
 use Rattle.flushing.specs.Released.{MayRelease, Releases}
 use Rattle.session.specs.declared.Session.{Session}
-use Rattle.session.specs.Storage.{Storage, storage}
+use Rattle.session.specs.Storage.{Storage, with-order}
 use Rattle.session.specs.Rep.{Core, Rep}
 use Rattle.admitting.specs.Promise.{MayDo, Does, positive}
 
--- the storage after a release of all spans
-abbrev pub with-order : Storage → List ℕ → List ℕ → List ℕ → Storage
-with-order σ o t rs = storage (σ .spans) o t rs (σ .marks) (σ .locations) (σ .waiting) (σ .pool)
+-- what the work of flush or final, the call c, may presume and what it does, of the slices that it touches: asked of some storage with these
+-- spans, order, tally and rows, and promised of every one
+pub record MayFlush (c : Call) (s : Session) (sp o t rs : List ℕ) : Type 0 where
+  pub around : Storage
+  pub may : MayDo c s (with-order around sp o t rs)
+
+abbrev pub Flushes : Call → Session → Session → List ℕ → List ℕ → List ℕ → List ℕ → List ℕ → List ℕ → List ℕ → Type 0
+Flushes c s s′ sp o t rs o′ t′ rs′ = (σ : Storage) → Does c s s′ (with-order σ sp o t rs) (with-order σ sp o′ t′ rs′)
+
+pub may-flush : {c : Call} {s : Session} {σ : Storage} → MayDo c s σ → MayFlush c s (σ .spans) (σ .order) (σ .tally) (σ .rows)
+may-flush {c} {s} {σ} m = record { around = σ; may = m }
+
+pub flushes : {c : Call} {s s′ : Session} {σ : Storage} {o t rs : List ℕ} → Flushes c s s′ (σ .spans) (σ .order) (σ .tally) (σ .rows) o t rs
+    → Does c s s′ σ (with-order σ (σ .spans) o t rs)
+flushes {σ = σ} f = f σ
 
 -- the session after a plain flush, and after final
 abbrev pub flushed-session : Session → Guide → Session
 flushed-session s h =
-    record { guide = h; lead = s .lead; added = s .added; used = s .used; delayed = s .delayed; flushes = s .flushes + 1; closed = s .closed; registrations = s .registrations; places = s .places }
+    record {
+      guide = h;
+      watermark = s .watermark;
+      added = s .added;
+      used = s .used;
+      delayed = s .delayed;
+      flushes = s .flushes + 1;
+      closed = s .closed;
+      registrations = s .registrations;
+      places = s .places;
+    }
 
 abbrev pub final-session : Session → Guide → Session
 final-session s h =
-    record { guide = h; lead = s .lead; added = s .added; used = s .used; delayed = s .delayed; flushes = s .flushes; closed = true; registrations = s .added; places = s .lead }
+    record { guide = h; watermark = s .watermark; added = s .added; used = s .used; delayed = s .delayed; flushes = s .flushes; closed = true; registrations = s .added; places = s .watermark }
 
 -- what fits does not depend on the count of flushes, nor on whether closed
 fits-flushed : (P N f g : ℕ) (b c : Bool) (k : Model) → Fits P N (with-flush P f b k) → Fits P N (with-flush P g c k)
-unfolding with-flush watermark tracked
+unfolding with-flush watermark-of tracked
 fits-flushed P N f g b c k F =
     record {
       many = F .many;
@@ -72,13 +94,26 @@ module _ (P N : ℕ) (k : Model) (s : Session) (σ : Storage) (R : Rep P N k s �
 
   may-release : Fits P N (with-flush P (k .flushes) (k .closed) k) → MayRelease (s .guide) (s .added) (σ .spans) (σ .order) (σ .tally) (σ .rows)
   may-release F =
-      record { P = P; N = N; k = k; lead = s .lead; m = σ .marks; l = σ .locations; w = σ .waiting; pool = σ .pool; core = R .core; fits = fits-now; flushed = F; added-is = R .counted .added-is }
+      record {
+        P = P;
+        N = N;
+        k = k;
+        watermark = s .watermark;
+        m = σ .marks;
+        l = σ .locations;
+        w = σ .waiting;
+        pool = σ .pool;
+        core = R .core;
+        fits = fits-now;
+        flushed = F;
+        added-is = R .counted .added-is;
+      }
 
   module _ (F : Fits P N (with-flush P (k .flushes) (k .closed) k)) (h : Guide) (o t rs : List ℕ) (Z : Releases (s .guide) h (s .added) (σ .spans) (σ .order) (σ .tally) (σ .rows) o t rs) where
-    core-flushed : (f : ℕ) (b : Bool) → Core P N (note-flush (with-flush P f b k)) h (s .lead) (with-order σ o t rs)
-    core-flushed f b = Z .core P N k (s .lead) f b (σ .marks) (σ .locations) (σ .waiting) (σ .pool) (R .core) F (B .noted) (R .counted .added-is)
+    core-flushed : (f : ℕ) (b : Bool) → Core P N (note-flush (with-flush P f b k)) h (s .watermark) (with-order σ (σ .spans) o t rs)
+    core-flushed f b = Z .core P N k (s .watermark) f b (σ .marks) (σ .locations) (σ .waiting) (σ .pool) (R .core) F (B .noted) (R .counted .added-is)
 
-    rep-flush : Rep P N (do-flush P k) (flushed-session s h) (with-order σ o t rs)
+    rep-flush : Rep P N (do-flush P k) (flushed-session s h) (with-order σ (σ .spans) o t rs)
     unfolding do-flush note-flush with-record with-flush
     rep-flush =
         record {
@@ -95,15 +130,15 @@ module _ (P N : ℕ) (k : Model) (s : Session) (σ : Storage) (R : Rep P N k s �
           delayed-is = R .delayed-is;
         }
 
-    rep-final : Rep P N (do-final P N k) (final-session s h) (with-order σ o t rs)
-    unfolding do-final note-final note-flush with-record with-flush watermark tracked taken row-of
+    rep-final : Rep P N (do-final P N k) (final-session s h) (with-order σ (σ .spans) o t rs)
+    unfolding do-final note-final note-flush with-record with-flush watermark-of tracked taken row-of
     rep-final =
         let c = core-flushed (k .flushes) true in
         record {
           core = record {
             guided = record { p-is = c .guided .p-is; v-is = c .guided .v-is; places = c .guided .places; stands = c .guided .stands; view-is = c .guided .view-is };
             rowed = record { long = c .rowed .long; rows = c .rowed .rows };
-            tracked = record { places = c .tracked .places; lead-is = c .tracked .lead-is };
+            tracked = record { places = c .tracked .places; watermark-is = c .tracked .watermark-is };
             stored = record { lists = c .stored .lists; flags = c .stored .flags };
           };
           counted = record {
@@ -112,7 +147,7 @@ module _ (P N : ℕ) (k : Model) (s : Session) (σ : Storage) (R : Rep P N k s �
             flushes-is = R .counted .flushes-is;
             closed-is = refl;
             registrations-is = R .counted .added-is;
-            places-is = c .tracked .lead-is;
+            places-is = c .tracked .watermark-is;
           };
           delayed = R .delayed;
           delayed-is = R .delayed-is;
@@ -130,17 +165,22 @@ module _ (s : Session) (σ : Storage) where
   pub flush-counts : MayDo flush-call s σ → s .flushes + 1 < 4294967296
   flush-counts a = omega (arith, a .rep .counted .flushes-is, flush-passed (a .places) (length (σ .pool)) (a .model) (a .accepted) .few)
 
-  pub final-counts : MayDo final-call s σ → s .lead < 4294967296
+  pub final-counts : MayDo final-call s σ → s .watermark < 4294967296
   final-counts a =
-      omega (arith, a .rep .core .tracked .lead-is, fits-now (a .parallelism) (a .places) (a .model) s σ (a .rep) (a .between) .mark-low, small (a .parallelism) (a .places) (a .model) s σ (a .rep) (a .between))
+      omega (
+        arith,
+        a .rep .core .tracked .watermark-is,
+        fits-now (a .parallelism) (a .places) (a .model) s σ (a .rep) (a .between) .mark-low,
+        small (a .parallelism) (a .places) (a .model) s σ (a .rep) (a .between),
+      )
 
   module _ (h : Guide) (o t rs : List ℕ) (Z : Releases (s .guide) h (s .added) (σ .spans) (σ .order) (σ .tally) (σ .rows) o t rs) where
-    pub flush-does : Does flush-call s (flushed-session s h) σ (with-order σ o t rs)
+    pub flush-does : Does flush-call s (flushed-session s h) σ (with-order σ (σ .spans) o t rs)
     unfolding apply-call
     flush-does =
         record { rep = λ P N k R B e. rep-flush P N k s σ R B (fits-flush P N k s σ R B e) h o t rs Z; frame = Z .frame (σ .marks) (σ .locations) (σ .waiting) (σ .pool) }
 
-    pub final-does : Does final-call s (final-session s h) σ (with-order σ o t rs)
+    pub final-does : Does final-call s (final-session s h) σ (with-order σ (σ .spans) o t rs)
     unfolding apply-call
     final-does =
         record { rep = λ P N k R B e. rep-final P N k s σ R B (fits-final P N k s σ R B e) h o t rs Z; frame = Z .frame (σ .marks) (σ .locations) (σ .waiting) (σ .pool) }

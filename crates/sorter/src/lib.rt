@@ -5,10 +5,11 @@ ghost use mathlib.Core.Path.{_≡_};
 ghost use mathlib.Core.List.{[]};
 ghost use Prim.Native.Nat.{_+_};
 ghost use Rattle.rules.specs.Calls.{set as set-call, add as add-call, flush as flush-call, final as final-call};
-ghost use Rattle.session.specs.Storage.{storage};
-ghost use Rattle.admitting.specs.Promise.{Asks, Called, MayDo, Does};
+ghost use Rattle.session.specs.Storage.{given, before, after};
+ghost use Rattle.admitting.specs.Promise.{Asks, Called};
 ghost use Rattle.rules.specs.Summary.{figures};
 ghost use Rattle.summary.specs.Figured.{figured};
+ghost use Rattle.sorter.specs.FlushWork.{MayFlush, Flushes};
 ghost use Rattle.sorter.specs.FinalWork.{Concludes};
 use session::Session;
 use summary::Summary;
@@ -32,21 +33,10 @@ pub fn set(
     pool: &mut [u32],
     x: u64,
 ) -> Answer
-    requires { ⌜ Asks s (storage (now spans) (now order) (now tally) (now rows) (now marks) (now locations) (now waiting) (now pool)) ⌝ }
-    ensures { λ r. ⌜ Called (set-call x) (r .number) s (r .session) (storage (now (spans .entry)) (now (order .entry)) (now (tally .entry)) (now (rows .entry)) (now (marks .entry)) (now (locations .entry)) (now (waiting .entry)) (now (pool .entry))) (storage (now (spans .exit)) (now (order .exit)) (now (tally .exit)) (now (rows .exit)) (now (marks .exit)) (now (locations .exit)) (now (waiting .exit)) (now (pool .exit))) ⌝ }
+    requires { ⌜ Asks s (given spans order tally rows marks locations waiting pool) ⌝ }
+    ensures { λ r. ⌜ Called (set-call x) (r .number) s (r .session) (before spans order tally rows marks locations waiting pool) (after spans order tally rows marks locations waiting pool) ⌝ }
 {
-    let a = admitting::admit_set(
-        s,
-        spans,
-        order,
-        tally,
-        rows,
-        marks,
-        locations,
-        waiting,
-        pool,
-        x,
-    );
+    let a = admitting::admit_set(s, marks, waiting, x);
     if a.number != 0 {
         return Answer {
             number: a.number,
@@ -85,22 +75,10 @@ pub fn add(
     ins: &[u64],
     outs: &[u64],
 ) -> Answer
-    requires { ⌜ Asks s (storage (now spans) (now order) (now tally) (now rows) (now marks) (now locations) (now waiting) (now pool)) ⌝ }
-    ensures { λ r. ⌜ Called (add-call (now (ins .entry)) (now (outs .entry))) (r .number) s (r .session) (storage (now (spans .entry)) (now (order .entry)) (now (tally .entry)) (now (rows .entry)) (now (marks .entry)) (now (locations .entry)) (now (waiting .entry)) (now (pool .entry))) (storage (now (spans .exit)) (now (order .exit)) (now (tally .exit)) (now (rows .exit)) (now (marks .exit)) (now (locations .exit)) (now (waiting .exit)) (now (pool .exit))) ⌝ }
+    requires { ⌜ Asks s (given spans order tally rows marks locations waiting pool) ⌝ }
+    ensures { λ r. ⌜ Called (add-call (now (ins .entry)) (now (outs .entry))) (r .number) s (r .session) (before spans order tally rows marks locations waiting pool) (after spans order tally rows marks locations waiting pool) ⌝ }
 {
-    let a = admitting::admit_add(
-        s,
-        spans,
-        order,
-        tally,
-        rows,
-        marks,
-        locations,
-        waiting,
-        pool,
-        ins,
-        outs,
-    );
+    let a = admitting::admit_add(s, waiting, pool, ins, outs);
     if a.number != 0 {
         return Answer {
             number: a.number,
@@ -132,19 +110,15 @@ fn do_flush(
     order: &mut [u32],
     tally: &mut [u32],
     rows: &mut [u32],
-    marks: &[u16],
-    locations: &[u64],
-    waiting: &[u64],
-    pool: &[u32],
 ) -> Session
-    requires { ⌜ MayDo flush-call s (storage (now spans) (now order) (now tally) (now rows) (now marks) (now locations) (now waiting) (now pool)) ⌝ }
-    ensures { λ r. ⌜ Does flush-call s r (storage (now (spans .entry)) (now (order .entry)) (now (tally .entry)) (now (rows .entry)) (now (marks .entry)) (now (locations .entry)) (now (waiting .entry)) (now (pool .entry))) (storage (now (spans .entry)) (now (order .exit)) (now (tally .exit)) (now (rows .exit)) (now (marks .entry)) (now (locations .entry)) (now (waiting .entry)) (now (pool .entry))) ⌝ }
+    requires { ⌜ MayFlush flush-call s (now spans) (now order) (now tally) (now rows) ⌝ }
+    ensures { λ r. ⌜ Flushes flush-call s r (now (spans .entry)) (now (order .entry)) (now (tally .entry)) (now (rows .entry)) (now (order .exit)) (now (tally .exit)) (now (rows .exit)) ⌝ }
 {
     let g = s.guide;
-    let h = flushing::release_all(order, tally, rows, spans, g, s.added);
+    let h = flushing::release_all(g, spans, order, tally, rows, s.added);
     Session {
         guide: h,
-        lead: s.lead,
+        watermark: s.watermark,
         added: s.added,
         used: s.used,
         delayed: s.delayed,
@@ -167,8 +141,8 @@ pub fn flush(
     waiting: &mut [u64],
     pool: &mut [u32],
 ) -> Answer
-    requires { ⌜ Asks s (storage (now spans) (now order) (now tally) (now rows) (now marks) (now locations) (now waiting) (now pool)) ⌝ }
-    ensures { λ r. ⌜ Called flush-call (r .number) s (r .session) (storage (now (spans .entry)) (now (order .entry)) (now (tally .entry)) (now (rows .entry)) (now (marks .entry)) (now (locations .entry)) (now (waiting .entry)) (now (pool .entry))) (storage (now (spans .exit)) (now (order .exit)) (now (tally .exit)) (now (rows .exit)) (now (marks .exit)) (now (locations .exit)) (now (waiting .exit)) (now (pool .exit))) ⌝ }
+    requires { ⌜ Asks s (given spans order tally rows marks locations waiting pool) ⌝ }
+    ensures { λ r. ⌜ Called flush-call (r .number) s (r .session) (before spans order tally rows marks locations waiting pool) (after spans order tally rows marks locations waiting pool) ⌝ }
 {
     let n = checking::check_flush(s.closed, s.flushes);
     if n != 0 {
@@ -177,17 +151,7 @@ pub fn flush(
             session: s,
         };
     }
-    let t = do_flush(
-        s,
-        spans,
-        order,
-        tally,
-        rows,
-        marks,
-        locations,
-        waiting,
-        pool,
-    );
+    let t = do_flush(s, spans, order, tally, rows);
     Answer {
         number: 0,
         session: t,
@@ -201,26 +165,22 @@ fn do_final(
     order: &mut [u32],
     tally: &mut [u32],
     rows: &mut [u32],
-    marks: &[u16],
-    locations: &[u64],
-    waiting: &[u64],
-    pool: &[u32],
 ) -> Session
-    requires { ⌜ MayDo final-call s (storage (now spans) (now order) (now tally) (now rows) (now marks) (now locations) (now waiting) (now pool)) ⌝ }
-    ensures { λ r. ⌜ Does final-call s r (storage (now (spans .entry)) (now (order .entry)) (now (tally .entry)) (now (rows .entry)) (now (marks .entry)) (now (locations .entry)) (now (waiting .entry)) (now (pool .entry))) (storage (now (spans .entry)) (now (order .exit)) (now (tally .exit)) (now (rows .exit)) (now (marks .entry)) (now (locations .entry)) (now (waiting .entry)) (now (pool .entry))) ⌝ }
+    requires { ⌜ MayFlush final-call s (now spans) (now order) (now tally) (now rows) ⌝ }
+    ensures { λ r. ⌜ Flushes final-call s r (now (spans .entry)) (now (order .entry)) (now (tally .entry)) (now (rows .entry)) (now (order .exit)) (now (tally .exit)) (now (rows .exit)) ⌝ }
 {
     let g = s.guide;
-    let h = flushing::release_all(order, tally, rows, spans, g, s.added);
+    let h = flushing::release_all(g, spans, order, tally, rows, s.added);
     Session {
         guide: h,
-        lead: s.lead,
+        watermark: s.watermark,
         added: s.added,
         used: s.used,
         delayed: s.delayed,
         flushes: s.flushes,
         closed: true,
         registrations: s.added,
-        places: s.lead as u32,
+        places: s.watermark as u32,
     }
 }
 
@@ -255,8 +215,8 @@ pub fn finish(
     waiting: &mut [u64],
     pool: &mut [u32],
 ) -> Finished
-    requires { ⌜ Asks s (storage (now spans) (now order) (now tally) (now rows) (now marks) (now locations) (now waiting) (now pool)) ⌝ }
-    ensures { λ r. ⌜ Concludes (r .number) s (r .session) (storage (now (spans .entry)) (now (order .entry)) (now (tally .entry)) (now (rows .entry)) (now (marks .entry)) (now (locations .entry)) (now (waiting .entry)) (now (pool .entry))) (storage (now (spans .exit)) (now (order .exit)) (now (tally .exit)) (now (rows .exit)) (now (marks .exit)) (now (locations .exit)) (now (waiting .exit)) (now (pool .exit))) (figured (r .summary)) ⌝ }
+    requires { ⌜ Asks s (given spans order tally rows marks locations waiting pool) ⌝ }
+    ensures { λ r. ⌜ Concludes (r .number) s (r .session) (before spans order tally rows marks locations waiting pool) (after spans order tally rows marks locations waiting pool) (figured (r .summary)) ⌝ }
 {
     let n = checking::check_final(s.closed, s.delayed);
     if n != 0 {
@@ -266,17 +226,7 @@ pub fn finish(
             summary: no_summary(),
         };
     }
-    let t = do_final(
-        s,
-        spans,
-        order,
-        tally,
-        rows,
-        marks,
-        locations,
-        waiting,
-        pool,
-    );
+    let t = do_final(s, spans, order, tally, rows);
     let h = t.guide;
     let figures = summary::finalize(tally, h.p);
     Finished {

@@ -1,5 +1,4 @@
--- The summary: what the promises cite, and the laws of the loops and of the exported call.
+-- The summary: what the promises cite, and the laws of the exported call.
 pub mod Figured
 pub mod Layout
-pub mod Loops
 pub mod Writing

@@ -1,7 +1,7 @@
 -- Laws of `tallied` of `rules`: it goes entry by entry, it counts at most one an entry, and the counts beyond P stay. Assumes nothing.
 use mathlib.Core.Path.{_≡_, refl, sym, ap, _∙_}
 use mathlib.Core.List.{List, [], _∷_, _++_}
-use Prim.Native.Nat.{ℕ, _+_, _-_, _≤_, _<_}
+use Prim.Native.Nat.{ℕ, _+_, _≤_, _<_}
 use native.Mathlib.Omega.{arith}
 use lib.ListN.{length, getD, set, take, length-set}
 use lib.Seq.{getD-set-other, take-set-lt, getD-take}
@@ -46,4 +46,5 @@ tallied-front p t [] k = refl
 tallied-front p t (y ∷ l) k =
     let w = y .parallelism in
     let h : w < p + 1 = omega (arith, k .0) in
-    tallied-front p (set t w (getD t w 0 + 1)) l (k .1) ∙ ap (λ z. tallied z l) (take-set-lt (p + 1) t w (getD t w 0 + 1) h ∙ ap (λ z. set (take (p + 1) t) w (z + 1)) (sym (getD-take (p + 1) t w 0 h)))
+    tallied-front p (set t w (getD t w 0 + 1)) l (k .1)
+    ∙ ap (λ z. tallied z l) (take-set-lt (p + 1) t w (getD t w 0 + 1) h ∙ ap (λ z. set (take (p + 1) t) w (z + 1)) (sym (getD-take (p + 1) t w 0 h)))

@@ -7,7 +7,7 @@ use mathlib.Core.Logic.{_⊎_, inl, inr}
 use Prim.Native.Nat.{ℕ, zero, suc, _+_, _-_, _≤_, _<_, max}
 use native.Mathlib.Nat.{add-zero, sub-zero, zero-add}
 use native.Mathlib.Omega.{arith}
-use lib.ListN.{length, getD, set}
+use lib.ListN.{length, getD, set, length-set}
 use Rattle.rules.specs.Model.{run-from}
 use Rattle.lists.specs.Part.{part, part-step, part-end, part-begin}
 use Rattle.tracking.specs.Tracking.{peak, stamped, nz}
@@ -16,7 +16,7 @@ use Rattle.tracking.specs.Tracking.{peak, stamped, nz}
 abbrev pub to-peak : List ℕ → ℕ → ℕ → List ℕ → ℕ → ℕ → ℕ
 to-peak pool at n l m j = max m (peak l (part pool (at + j) (n - j)))
 
-abbrev pub to-stamp : List ℕ → ℕ → ℕ → ℕ → List ℕ → ℕ → List ℕ
+abbrev to-stamp : List ℕ → ℕ → ℕ → ℕ → List ℕ → ℕ → List ℕ
 to-stamp pool at n v l j = stamped l (part pool (at + j) (n - j)) v
 
 module _ (pool : List ℕ) (at n : ℕ) (h : at + n ≤ length pool) where
@@ -45,17 +45,23 @@ module _ (pool : List ℕ) (at n : ℕ) (h : at + n ≤ length pool) where
     unfolding peak
     peak-ends m j k = rw (part-end pool at n h j k) (omega arith)
 
-  module _ (v : ℕ) where
-    pub stamp-begins : (l : List ℕ) → stamped l (part pool at n) v ≡ to-stamp pool at n v l 0
-    stamp-begins l = ap (λ x. stamped l x v) (part-begin pool at n h)
+-- the loop of `stamp`, of one of its two slices, at j: the places from the j-th on are still to be stamped
+pub record Stamping (pool : List ℕ) (at n v : ℕ) (l₀ l : List ℕ) (j : ℕ) : Type 0 where
+  pub long : length l ≡ length l₀
+  pub left : stamped l₀ (part pool at n) v ≡ to-stamp pool at n v l j
 
-    pub stamp-turn : (l : List ℕ) (j : ℕ) → j < n → to-stamp pool at n v l j ≡ to-stamp pool at n v (set l (getD pool (at + j) 0) v) (j + 1)
-    unfolding stamped
-    stamp-turn l j k = rw (part-step pool at n h j k)
+module _ {pool : List ℕ} {at n : ℕ} (h : at + n ≤ length pool) where
+  pub stamp-start : (v : ℕ) (l : List ℕ) → Stamping pool at n v l l 0
+  stamp-start v l = record { long = refl; left = ap (λ x. stamped l x v) (part-begin pool at n h) }
 
-    pub stamp-ends : (l : List ℕ) (j : ℕ) → n ≤ j → to-stamp pool at n v l j ≡ l
+  module _ {v : ℕ} {l₀ l : List ℕ} {j : ℕ} (g : Stamping pool at n v l₀ l j) where
+    pub stamp-next : {x : ℕ} → x ≡ getD pool (at + j) 0 → j < n → Stamping pool at n v l₀ (set l x v) (j + 1)
     unfolding stamped
-    stamp-ends l j k = rw (part-end pool at n h j k)
+    stamp-next {x} e k = record { long = length-set l x v ∙ g .long; left = rw e (g .left ∙ rw (part-step pool at n h j k)) }
+
+    pub stamp-end : n ≤ j → l ≡ stamped l₀ (part pool at n) v
+    unfolding stamped
+    stamp-end k = sym (g .left ∙ rw (part-end pool at n h j k))
 
 -- the run of tracked places
 module _ (t : ℕ → Bool) where

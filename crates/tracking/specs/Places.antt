@@ -4,13 +4,14 @@ use mathlib.Core.Path.{_≡_, refl, sym, ap, _∙_}
 use mathlib.Core.List.{List, [], _∷_, _++_}
 use mathlib.Core.Bool.{Bool, true, false, _||_, cond, or-true}
 use mathlib.Core.Logic.{_⊎_, inl, inr}
-use Prim.Native.Nat.{ℕ, zero, suc, _+_, _*_, _-_, _/_, _%_, _^_, _≤_, _<_, max}
+use Prim.Native.Nat.{ℕ, zero, suc, _+_, _≤_, _<_, max}
 use native.Mathlib.Omega.{arith}
 use native.Mathlib.Decide.{ℕ-discrete}
 use lib.Dec.{ltb, eqb}
 use lib.ListN.{length, getD, set, drop, length-set}
 use lib.Seq.{getD-set-same, getD-set-other, drop-set-lt}
 use borrow.Author.Tests.{ltb-true, ltb-false, eq-eqb, ne-eqb}
+use Rattle.rules.specs.Limits.{mark-written, mark-set}
 use Rattle.rules.specs.Guide.{Loc, origin}
 use Rattle.rules.specs.Record.{mark-by, pack}
 use Rattle.rules.specs.Model.{Located, Model, member, marked, tracked, run-from, watermark, loc-of, later, top, spotted}
@@ -19,11 +20,11 @@ use Rattle.lists.specs.Part.{Below}
 use Rattle.tracking.specs.Tracking.{peak, stamped, nz, tracked-in}
 
 -- marks and locations of the first N places are those of the set places and of the located ones
-pub record Places (N : ℕ) (sets : List ℕ) (ls : List Located) (marks locs : List ℕ) : Type 0 where
+pub record Places (N : ℕ) (sets : List ℕ) (ls : List Located) (marks locations : List ℕ) : Type 0 where
   pub marks-long : N ≤ length marks
-  pub locs-long : N ≤ length locs
+  pub locations-long : N ≤ length locations
   pub at : (x : ℕ) → x < N → getD marks x 0 ≡ mark-by (member x sets) (marked x ls)
-  pub place-of : (x : ℕ) → x < N → getD locs x 0 ≡ pack (loc-of ls x)
+  pub place-of : (x : ℕ) → x < N → getD locations x 0 ≡ pack (loc-of ls x)
   pub low : (x : ℕ) → (loc-of ls x) .pos < 4294967296
 
 later-pack : (l m : Loc) → l .pos < 4294967296 → m .pos < 4294967296 → (pack (later l m) ≡ max (pack l) (pack m)) × ((later l m) .pos < 4294967296)
@@ -46,13 +47,14 @@ later-pack l m hl hm = go (bool-cases (ltb (l .span) (m .span))) (bool-cases (lt
         rw (a, b, c, later) (omega arith, hl)
 
 -- the greatest number among the inputs' is the greatest location's
-pub top-pack : (N : ℕ) (sets : List ℕ) (ls : List Located) (marks locs : List ℕ) → Places N sets ls marks locs → (xs : List ℕ) → Below N xs → (pack (top ls xs) ≡ peak locs xs) × ((top ls xs) .pos < 4294967296)
+pub top-pack : (N : ℕ) (sets : List ℕ) (ls : List Located) (marks locations : List ℕ) → Places N sets ls marks locations → (xs : List ℕ) → Below N xs
+    → (pack (top ls xs) ≡ peak locations xs) × ((top ls xs) .pos < 4294967296)
 unfolding top peak Below pack
-top-pack N sets ls marks locs k [] h = (refl, omega arith)
-top-pack N sets ls marks locs k (x ∷ xs) h =
-    let r = top-pack N sets ls marks locs k xs (h .1) in
+top-pack N sets ls marks locations k [] h = (refl, omega arith)
+top-pack N sets ls marks locations k (x ∷ xs) h =
+    let r = top-pack N sets ls marks locations k xs (h .1) in
     let l = later-pack (loc-of ls x) (top ls xs) (k .low x) (r .1) in
-    (l .0 ∙ two (pack (loc-of ls x)) (getD locs x 0) (pack (top ls xs)) (peak locs xs) (sym (k .place-of x (h .0))) (r .0), l .1)
+    (l .0 ∙ two (pack (loc-of ls x)) (getD locations x 0) (pack (top ls xs)) (peak locations xs) (sym (k .place-of x (h .0))) (r .0), l .1)
   where
     two : (a b c d : ℕ) → a ≡ b → c ≡ d → max a c ≡ max b d
     two a b c d e f = rw (e, f)
@@ -78,11 +80,11 @@ stamped-at l (y ∷ xs) v x h = stamped-at (set l y v) xs v x (omega (arith, len
     other n = rw (ne-eqb x y n, getD-set-other l y x v 0 n)
 
 -- stamping never untracks a place
-pub stamped-tracked : (l xs : List ℕ) (x : ℕ) → x < length l → tracked-in l x ≡ true → tracked-in (stamped l xs 32768) x ≡ true
+pub stamped-tracked : (l xs : List ℕ) (x : ℕ) → x < length l → tracked-in l x ≡ true → tracked-in (stamped l xs mark-written) x ≡ true
 unfolding tracked-in nz
-stamped-tracked l xs x h e = rw (stamped-at l xs 32768 x h) (go (member x xs))
+stamped-tracked l xs x h e = rw (stamped-at l xs mark-written x h) (go (member x xs))
   where
-    go : (b : Bool) → nz (cond {A = ℕ} b 32768 (getD l x 0)) ≡ true
+    go : (b : Bool) → nz (cond {A = ℕ} b mark-written (getD l x 0)) ≡ true
     go true = refl
     go false = e
 
@@ -114,7 +116,7 @@ pub record Fresh (sets : List ℕ) (ls : List Located) (outs : List ℕ) : Type 
   pub unset : (x : ℕ) → member x outs ≡ true → member x sets ≡ false
   pub unplaced : (x : ℕ) → member x outs ≡ true → marked x ls ≡ false
 
-module _ (N : ℕ) (sets : List ℕ) (ls : List Located) (marks locs outs : List ℕ) (l : Loc) (k : Places N sets ls marks locs) (f : Fresh sets ls outs) (hl : l .pos < 4294967296) where
+module _ (N : ℕ) (sets : List ℕ) (ls : List Located) (marks locations outs : List ℕ) (l : Loc) (k : Places N sets ls marks locations) (f : Fresh sets ls outs) (hl : l .pos < 4294967296) where
   abbrev ls′ : List Located
   ls′ = ls ++ spotted l outs
 
@@ -135,18 +137,18 @@ module _ (N : ℕ) (sets : List ℕ) (ls : List Located) (marks locs outs : List
       go (inl m) = loc-of-left ls (spotted l outs) x m
       go (inr m) = loc-of-right ls (spotted l outs) x m ∙ unspotted (spotted l outs) x (spotted-marked l outs x ∙ e) ∙ sym (unspotted ls x m)
 
-  at′ : (x : ℕ) → x < N → getD (stamped marks outs 32768) x 0 ≡ mark-by (member x sets) (marked x ls′)
+  at′ : (x : ℕ) → x < N → getD (stamped marks outs mark-written) x 0 ≡ mark-by (member x sets) (marked x ls′)
   unfolding mark-by
-  at′ x h = stamped-at marks outs 32768 x (omega (arith, k .marks-long)) ∙ go (bool-cases (member x outs))
+  at′ x h = stamped-at marks outs mark-written x (omega (arith, k .marks-long)) ∙ go (bool-cases (member x outs))
     where
-      go : (member x outs ≡ true) ⊎ (member x outs ≡ false) → cond {A = ℕ} (member x outs) 32768 (getD marks x 0) ≡ mark-by (member x sets) (marked x ls′)
+      go : (member x outs ≡ true) ⊎ (member x outs ≡ false) → cond {A = ℕ} (member x outs) mark-written (getD marks x 0) ≡ mark-by (member x sets) (marked x ls′)
       go (inl e) = rw (marked′ x, e, f .unset x e, or-true)
       go (inr e) = rw (marked′ x, e, or-false (marked x ls)) (k .at x h)
 
-  place-of′ : (x : ℕ) → x < N → getD (stamped locs outs (pack l)) x 0 ≡ pack (loc-of ls′ x)
-  place-of′ x h = stamped-at locs outs (pack l) x (omega (arith, k .locs-long)) ∙ go (bool-cases (member x outs))
+  place-of′ : (x : ℕ) → x < N → getD (stamped locations outs (pack l)) x 0 ≡ pack (loc-of ls′ x)
+  place-of′ x h = stamped-at locations outs (pack l) x (omega (arith, k .locations-long)) ∙ go (bool-cases (member x outs))
     where
-      go : (member x outs ≡ true) ⊎ (member x outs ≡ false) → cond {A = ℕ} (member x outs) (pack l) (getD locs x 0) ≡ pack (loc-of ls′ x)
+      go : (member x outs ≡ true) ⊎ (member x outs ≡ false) → cond {A = ℕ} (member x outs) (pack l) (getD locations x 0) ≡ pack (loc-of ls′ x)
       go (inl e) = rw (e, loc-new x e)
       go (inr e) = rw (e, loc-old x e) (k .place-of x h)
 
@@ -157,9 +159,15 @@ module _ (N : ℕ) (sets : List ℕ) (ls : List Located) (marks locs outs : List
       go (inl e) = rw (loc-new x e) hl
       go (inr e) = rw (loc-old x e) (k .low x)
 
-  pub places-stamped : Places N sets (ls ++ spotted l outs) (stamped marks outs 32768) (stamped locs outs (pack l))
+  pub places-stamped : Places N sets (ls ++ spotted l outs) (stamped marks outs mark-written) (stamped locations outs (pack l))
   places-stamped =
-      record { marks-long = omega (arith, stamped-length marks outs 32768, k .marks-long); locs-long = omega (arith, stamped-length locs outs (pack l), k .locs-long); at = at′; place-of = place-of′; low = low′ }
+      record {
+        marks-long = omega (arith, stamped-length marks outs mark-written, k .marks-long);
+        locations-long = omega (arith, stamped-length locations outs (pack l), k .locations-long);
+        at = at′;
+        place-of = place-of′;
+        low = low′;
+      }
 
 -- the watermark read from marks
 run-cong : (t u : ℕ → Bool) (f m : ℕ) → ((x : ℕ) → x < m + f → t x ≡ u x) → run-from t f m ≡ run-from u f m
@@ -178,14 +186,14 @@ nz-mark false true = refl
 nz-mark false false = refl
 
 -- a mark says whether the place is tracked
-pub tracked-is : (N : ℕ) (sets : List ℕ) (ls : List Located) (marks locs : List ℕ) → Places N sets ls marks locs → (x : ℕ) → x < N → tracked-in marks x ≡ (member x sets || marked x ls)
+pub tracked-is : (N : ℕ) (sets : List ℕ) (ls : List Located) (marks locations : List ℕ) → Places N sets ls marks locations → (x : ℕ) → x < N → tracked-in marks x ≡ (member x sets || marked x ls)
 unfolding tracked-in
-tracked-is N sets ls marks locs k x h = ap nz (k .at x h) ∙ nz-mark (member x sets) (marked x ls)
+tracked-is N sets ls marks locations k x h = ap nz (k .at x h) ∙ nz-mark (member x sets) (marked x ls)
 
 -- the run of tracked marks is the watermark
-pub run-is : (N : ℕ) (k : Model) (marks locs : List ℕ) → Places N (k .sets) (k .located) marks locs → run-from (tracked-in marks) N 0 ≡ watermark N k
+pub run-is : (N : ℕ) (k : Model) (marks locations : List ℕ) → Places N (k .sets) (k .located) marks locations → run-from (tracked-in marks) N 0 ≡ watermark N k
 unfolding watermark tracked
-run-is N k marks locs p = run-cong (tracked-in marks) (tracked k) N 0 (λ x h. tracked-is N (k .sets) (k .located) marks locs p x (omega arith))
+run-is N k marks locations p = run-cong (tracked-in marks) (tracked k) N 0 (λ x h. tracked-is N (k .sets) (k .located) marks locations p x (omega arith))
 
 -- tracking more never lowers it
 pub run-mono : (t u : ℕ → Bool) (f m : ℕ) → ((x : ℕ) → x < m + f → t x ≡ true → u x ≡ true) → run-from t f m ≤ run-from u f m
@@ -205,60 +213,47 @@ run-mono t u (suc f) m h = go (bool-cases (t m)) (run-mono t u f (suc m) (λ x k
     go (inl e) r = let d : u m ≡ true = h m (omega arith) e in rw (run-from, e, d) r
     go (inr e) r = let z = ge (suc f) m in rw (run-from, e) z
 
-pub set-tracked : (l : List ℕ) (y x : ℕ) → x < length l → tracked-in l x ≡ true → tracked-in (set l y 49152) x ≡ true
+pub set-tracked : (l : List ℕ) (y x : ℕ) → x < length l → tracked-in l x ≡ true → tracked-in (set l y mark-set) x ≡ true
 unfolding tracked-in nz
 set-tracked l y x h e = elim (ℕ-discrete x y) [ yes d ↦ same d | no n ↦ other n ]
   where
-    same : x ≡ y → nz (getD (set l y 49152) x 0) ≡ true
-    same d = rw d (rw (getD-set-same l y 49152 0 (omega arith)))
+    same : x ≡ y → nz (getD (set l y mark-set) x 0) ≡ true
+    same d = rw d (rw (getD-set-same l y mark-set 0 (omega arith)))
 
-    other : (x ≡ y → ⊥) → nz (getD (set l y 49152) x 0) ≡ true
-    other n = rw (getD-set-other l y x 49152 0 n) e
+    other : (x ≡ y → ⊥) → nz (getD (set l y mark-set) x 0) ≡ true
+    other n = rw (getD-set-other l y x mark-set 0 n) e
 
 -- a known lower bound stays one after a stamping and after a set: what `advance` asks
-pub stamped-from : (N from : ℕ) (marks xs : List ℕ) → N ≤ length marks → from ≤ run-from (tracked-in marks) N 0 → from ≤ run-from (tracked-in (stamped marks xs 32768)) N 0
+pub stamped-from : (N from : ℕ) (marks xs : List ℕ) → N ≤ length marks → from ≤ run-from (tracked-in marks) N 0 → from ≤ run-from (tracked-in (stamped marks xs mark-written)) N 0
 stamped-from N from marks xs long h =
-    omega (arith, run-mono (tracked-in marks) (tracked-in (stamped marks xs 32768)) N 0 (λ x k e. stamped-tracked marks xs x (omega arith) e))
+    omega (arith, run-mono (tracked-in marks) (tracked-in (stamped marks xs mark-written)) N 0 (λ x k e. stamped-tracked marks xs x (omega arith) e))
 
-pub set-from : (N from : ℕ) (marks : List ℕ) (y : ℕ) → N ≤ length marks → from ≤ run-from (tracked-in marks) N 0 → from ≤ run-from (tracked-in (set marks y 49152)) N 0
-set-from N from marks y long h = omega (arith, run-mono (tracked-in marks) (tracked-in (set marks y 49152)) N 0 (λ x k e. set-tracked marks y x (omega arith) e))
+pub set-from : (N from : ℕ) (marks : List ℕ) (y : ℕ) → N ≤ length marks → from ≤ run-from (tracked-in marks) N 0 → from ≤ run-from (tracked-in (set marks y mark-set)) N 0
+set-from N from marks y long h = omega (arith, run-mono (tracked-in marks) (tracked-in (set marks y mark-set)) N 0 (λ x k e. set-tracked marks y x (omega arith) e))
 
 -- opening: storage of zeros stands for no set and no placed place
-pub places-open : (N : ℕ) (marks locs : List ℕ) → N ≤ length marks → N ≤ length locs → ((x : ℕ) → x < N → getD marks x 0 ≡ 0) → ((x : ℕ) → x < N → getD locs x 0 ≡ 0)
-    → Places N [] [] marks locs
+pub places-open : (N : ℕ) (marks locations : List ℕ) → N ≤ length marks → N ≤ length locations → ((x : ℕ) → x < N → getD marks x 0 ≡ 0) → ((x : ℕ) → x < N → getD locations x 0 ≡ 0)
+    → Places N [] [] marks locations
 unfolding mark-by member marked loc-of origin pack
-places-open N marks locs hm hl zm zl = record { marks-long = hm; locs-long = hl; at = zm; place-of = zl; low = λ x. omega arith }
+places-open N marks locations hm hl zm zl = record { marks-long = hm; locations-long = hl; at = zm; place-of = zl; low = λ x. omega arith }
 
 -- a set place
-pub places-set : (N : ℕ) (sets : List ℕ) (ls : List Located) (marks locs : List ℕ) (x : ℕ) → Places N sets ls marks locs → Places N (x ∷ sets) ls (set marks x 49152) locs
+pub places-set : (N : ℕ) (sets : List ℕ) (ls : List Located) (marks locations : List ℕ) (x : ℕ) → Places N sets ls marks locations → Places N (x ∷ sets) ls (set marks x mark-set) locations
 unfolding mark-by member
-places-set N sets ls marks locs x k =
-    record { marks-long = omega (arith, length-set marks x 49152, k .marks-long); locs-long = k .locs-long; at = at″; place-of = k .place-of; low = k .low }
+places-set N sets ls marks locations x k =
+    record { marks-long = omega (arith, length-set marks x mark-set, k .marks-long); locations-long = k .locations-long; at = at″; place-of = k .place-of; low = k .low }
   where
-    at″ : (y : ℕ) → y < N → getD (set marks x 49152) y 0 ≡ mark-by (member y (x ∷ sets)) (marked y ls)
+    at″ : (y : ℕ) → y < N → getD (set marks x mark-set) y 0 ≡ mark-by (member y (x ∷ sets)) (marked y ls)
     at″ y h = elim (ℕ-discrete y x) [ yes e ↦ same e | no n ↦ other n ]
       where
-        same : y ≡ x → getD (set marks x 49152) y 0 ≡ mark-by (member y (x ∷ sets)) (marked y ls)
-        same e = rw (eq-eqb y x e) (rw e (getD-set-same marks x 49152 0 (omega (arith, k .marks-long))))
+        same : y ≡ x → getD (set marks x mark-set) y 0 ≡ mark-by (member y (x ∷ sets)) (marked y ls)
+        same e = rw (eq-eqb y x e) (rw e (getD-set-same marks x mark-set 0 (omega (arith, k .marks-long))))
 
-        other : (y ≡ x → ⊥) → getD (set marks x 49152) y 0 ≡ mark-by (member y (x ∷ sets)) (marked y ls)
-        other n = rw (ne-eqb y x n, getD-set-other marks x y 49152 0 n) (k .at y h)
+        other : (y ≡ x → ⊥) → getD (set marks x mark-set) y 0 ≡ mark-by (member y (x ∷ sets)) (marked y ls)
+        other n = rw (ne-eqb y x n, getD-set-other marks x y mark-set 0 n) (k .at y h)
 
 -- what lies beyond the first N places is untouched
 pub stamped-beyond : (N : ℕ) (l xs : List ℕ) (v : ℕ) → Below N xs → drop N (stamped l xs v) ≡ drop N l
 unfolding stamped Below
 stamped-beyond N l [] v b = refl
 stamped-beyond N l (x ∷ xs) v b = stamped-beyond N (set l x v) xs v (b .1) ∙ drop-set-lt N l x v (b .0)
-
--- a location read back from its number
-pub pack-span : (l : Loc) → l .pos < 4294967296 → pack l / 4294967296 ≡ l .span
-unfolding pack
-pack-span l h = omega arith
-
-pub pack-pos : (l : Loc) → l .pos < 4294967296 → pack l % 4294967296 ≡ l .pos
-unfolding pack
-pack-pos l h = omega arith
-
-pub pack-fits : (l : Loc) → l .span < 4294967296 → l .pos < 4294967296 → pack l < 2 ^ 64
-unfolding pack
-pack-fits l h k = omega arith

@@ -5,6 +5,7 @@ use mathlib.Core.List.{List, [], _∷_}
 use mathlib.Core.Bool.{Bool, true, false}
 use Prim.Native.Nat.{ℕ, zero, suc, max}
 use lib.ListN.{getD, set}
+use Rattle.rules.specs.Limits.{mark-written}
 
 -- the greatest of the locations of the places xs
 unfoldable pub peak : List ℕ → List ℕ → ℕ
@@ -25,6 +26,6 @@ unfoldable pub tracked-in : List ℕ → ℕ → Bool
 tracked-in marks x = nz (getD marks x 0)
 
 -- the places xs are marked as written and have the location, no other has changed
-pub record Stamped (marks locs xs : List ℕ) (loc : ℕ) (marks′ locs′ : List ℕ) : Type 0 where
-  pub marks-are : marks′ ≡ stamped marks xs 32768
-  pub locs-are : locs′ ≡ stamped locs xs loc
+pub record Stamped (marks locations xs : List ℕ) (loc : ℕ) (marks′ locations′ : List ℕ) : Type 0 where
+  pub marks-are : marks′ ≡ stamped marks xs mark-written
+  pub locations-are : locations′ ≡ stamped locations xs loc

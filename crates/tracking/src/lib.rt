@@ -1,8 +1,9 @@
-// Marks and locations of places, and the count of leading tracked places. A location is one number, span * 2^32 + position, so that
-// the greatest location is the greatest number.
+// Marks and locations of places, and the watermark, the count of leading tracked places. A location is one number, span * 2^32 + position,
+// so that the greatest location is the greatest number.
 ghost use mathlib.Core.Path.{_≡_};
-ghost use Prim.Native.Nat.{ℕ, _<_, _≤_};
+ghost use Prim.Native.Nat.{_<_, _≤_};
 ghost use lib.ListN.{length, set};
+ghost use Rattle.rules.specs.Limits.{mark-set};
 ghost use Rattle.rules.specs.Model.{run-from};
 ghost use Rattle.lists.specs.Part.{part, Listed};
 ghost use Rattle.tracking.specs.Tracking.{peak, Stamped, tracked-in};
@@ -14,14 +15,14 @@ fn wide(x: u32) -> usize
 }
 
 // The greatest location of the n places listed in the pool from `at` on, 0 where there are none.
-pub fn top_loc(locs: &[u64], pool: &[u32], at: usize, n: usize) -> u64
-    requires { ⌜ Listed (now pool) at n (length (now locs)) ⌝ }
-    ensures { λ r. ⌜ r ≡ peak (now (locs .entry)) (part (now (pool .entry)) at n) ⌝ }
+pub fn top_loc(locations: &[u64], pool: &[u32], at: usize, n: usize) -> u64
+    requires { ⌜ Listed (now pool) at n (length (now locations)) ⌝ }
+    ensures { λ r. ⌜ r ≡ peak (now (locations .entry)) (part (now (pool .entry)) at n) ⌝ }
 {
     let mut m: u64 = 0;
     for j in 0..n {
         let x = wide(pool[at + j]);
-        let l = locs[x];
+        let l = locations[x];
         if m < l {
             m = l;
         }
@@ -30,26 +31,26 @@ pub fn top_loc(locs: &[u64], pool: &[u32], at: usize, n: usize) -> u64
 }
 
 // Marks the n places listed in the pool from `at` on as written, each with the location; no other place is touched.
-pub fn stamp(marks: &mut [u16], locs: &mut [u64], pool: &[u32], at: usize, n: usize, loc: u64)
-    requires { ⌜ (Listed (now pool) at n (length (now marks))) × (Listed (now pool) at n (length (now locs))) ⌝ }
-    ensures { λ _. ⌜ Stamped (now (marks .entry)) (now (locs .entry)) (part (now (pool .entry)) at n) loc (now (marks .exit)) (now (locs .exit)) ⌝ }
+pub fn stamp(marks: &mut [u16], locations: &mut [u64], pool: &[u32], at: usize, n: usize, loc: u64)
+    requires { ⌜ (Listed (now pool) at n (length (now marks))) × (Listed (now pool) at n (length (now locations))) ⌝ }
+    ensures { λ _. ⌜ Stamped (now (marks .entry)) (now (locations .entry)) (part (now (pool .entry)) at n) loc (now (marks .exit)) (now (locations .exit)) ⌝ }
 {
     for j in 0..n {
         let x = wide(pool[at + j]);
-        marks[x] = 32768;
-        locs[x] = loc;
+        marks[x] = rules::MARK_WRITTEN;
+        locations[x] = loc;
     }
 }
 
 // Marks place x as set; its location stays what it was, which is 0 for a place that nothing wrote.
 pub fn set_mark(marks: &mut [u16], x: usize)
     requires { ⌜ x < length (now marks) ⌝ }
-    ensures { λ _. ⌜ now (marks .exit) ≡ set (now (marks .entry)) x 49152 ⌝ }
+    ensures { λ _. ⌜ now (marks .exit) ≡ set (now (marks .entry)) x mark-set ⌝ }
 {
-    marks[x] = 49152;
+    marks[x] = rules::MARK_SET;
 }
 
-// The count of leading tracked places of the first v, looked for from `from` on: the places before `from` are known to be tracked.
+// The watermark of the first v places, looked for from `from` on: the places before `from` are known to be tracked.
 pub fn advance(marks: &[u16], v: usize, from: usize) -> usize
     requires { ⌜ (v ≤ length (now marks)) × (from ≤ run-from (tracked-in (now marks)) v 0) ⌝ }
     ensures { λ r. ⌜ r ≡ run-from (tracked-in (now (marks .entry))) v 0 ⌝ }

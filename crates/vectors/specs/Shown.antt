@@ -13,7 +13,7 @@ use Rattle.rules.specs.Calls.{Call, answer, step, run}
 use Rattle.rules.specs.Alone.{Alone, alone, Request, push, flush, reply, location, serve-step, serve-all}
 use Rattle.rules.specs.Summary.{Figures}
 use Rattle.rules.specs.Record.{Row, mark-of, row-of, summary}
-use Rattle.rules.specs.Job.{job-pool}
+use Rattle.rules.specs.Limits.{job-pool}
 
 -- a run: what the definitions give and what the oracle answered, each as a list of tables
 pub record Compared : Type 0 where

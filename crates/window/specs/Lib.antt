@@ -1,4 +1,2 @@
--- What the functions on a window are held to, beside the definitions of `rules`.
-pub mod Search
+-- What the functions on a window are held to.
 pub mod Rotate
-pub mod Chosen

@@ -1,23 +1,21 @@
 -- Laws of decimals: the digits before the last are those of the tenth, and how many there are. Assumes nothing.
-use mathlib.Core.Bool.{Bool, true, false}
 use mathlib.Core.List.{List, [], _∷_, _++_}
-use mathlib.Core.Logic.{_⊎_, inl, inr}
-use mathlib.Core.Path.{_≡_, refl, sym, ap, _∙_}
-use Prim.Native.Nat.{ℕ, zero, suc, _+_, _-_, _*_, _/_, _%_, _^_, _≤_, _<_, zero-le, suc-le-suc}
+use mathlib.Core.Path.{_≡_, sym, ap, _∙_}
+use Prim.Native.Nat.{ℕ, zero, suc, _+_, _/_, _%_, _^_, _≤_, _<_, zero-le, suc-le-suc}
 use native.Mathlib.Decide.{decLt}
 use native.Mathlib.Nat.{div-lt-iff-lt-mul, pow-suc}
 use native.Mathlib.Omega.{arith}
-use lib.Dec.{ltb, lit<}
+use lib.Dec.{lit<}
 use lib.ListN.{length, length-append, set}
 use borrow.Author.Tests.{lt-ltb, le-ltb}
 use Rattle.rules.specs.Listing.{digits, decimal}
 use Rattle.writer.specs.Wrote.{Wrote, wrote-then, wrote-byte}
 
-small : (f n : ℕ) → n < 10 → digits (suc f) n ≡ (48 + n) ∷ []
+pub small : (f n : ℕ) → n < 10 → digits (suc f) n ≡ (48 + n) ∷ []
 unfolding digits
 small f n h = rw (digits, lt-ltb n 10 h)
 
-large : (f n : ℕ) → 10 ≤ n → digits (suc f) n ≡ digits f (n / 10) ++ ((48 + n % 10) ∷ [])
+pub large : (f n : ℕ) → 10 ≤ n → digits (suc f) n ≡ digits f (n / 10) ++ ((48 + n % 10) ∷ [])
 unfolding digits
 large f n h = rw (digits, le-ltb n 10 h)
 
@@ -45,7 +43,7 @@ length-large : (n : ℕ) → 10 ≤ n → n < 2 ^ 64 → length (decimal n) ≡ 
 length-large n h lt = ap length (decimal-large n h lt) ∙ length-append (decimal (n / 10)) ((48 + n % 10) ∷ [])
 
 -- a number below 10 to the f has at most f digits, where f is not 0
-digits-few : (f m n : ℕ) → suc f ≤ m → n < 10 ^ suc f → length (digits m n) ≤ suc f
+pub digits-few : (f m n : ℕ) → suc f ≤ m → n < 10 ^ suc f → length (digits m n) ≤ suc f
 digits-few f zero n le h = absurd (omega arith)
 digits-few zero (suc m) n le h = rw (small m n h) (suc-le-suc zero-le)
 digits-few (suc f) (suc m) n le h =

@@ -10,6 +10,51 @@ use borrow.Author.Needs.{needs}
 use Rattle.admitting.proofs.admit_add.Statement.{statement}
 use Rattle.admitting.proofs.admit_add.Tie as tie
 
+-- places of the code, seen from where they are cited
+abbrev at-link-new : tie.After-struct-known3 → tie.After-link-new
+at-link-new c = c .before .before .before .before .before
+
+abbrev at-store-lists : tie.After-struct-known3 → tie.After-store-lists
+at-store-lists c =
+    let p1 = at-link-new c .before .before .before .before .before in
+    p1 .before
+
+abbrev at-else-1 : tie.After-struct-known3 → tie.Else1
+at-else-1 c = at-store-lists c .before .before .before
+
+abbrev at-claim-add : tie.After-struct-known3 → tie.After-claim-add
+at-claim-add c = at-else-1 c .before .before .before
+
+abbrev at-greatest : tie.After-struct-known3 → tie.After-greatest
+at-greatest c = at-claim-add c .before .before
+
+abbrev at-wide2 : tie.After-struct-known3 → tie.After-wide2
+at-wide2 c = at-greatest c .before
+
+abbrev at-wide : tie.After-struct-known3 → tie.After-wide
+at-wide c = at-wide2 c .before
+
+abbrev at-start : tie.After-struct-known3 → tie.Start
+at-start c = at-wide c .before .before .before .before .before
+
+abbrev at-else-1′ : tie.After-struct-known → tie.Else1
+at-else-1′ c =
+    let p1 = c .before .before .before .before .before in
+    let p2 = p1 .before .before .before .before .before in
+    p2 .before .before
+
+abbrev at-claim-add′ : tie.After-struct-known → tie.After-claim-add
+at-claim-add′ c = at-else-1′ c .before .before .before
+
+abbrev at-wide2′ : tie.After-struct-known → tie.After-wide2
+at-wide2′ c = at-claim-add′ c .before .before .before
+
+abbrev at-wide′ : tie.After-struct-known → tie.After-wide
+at-wide′ c = at-wide2′ c .before
+
+abbrev at-start′ : tie.After-struct-known → tie.Start
+at-start′ c = at-wide′ c .before .before .before .before .before
+
 wide-requires : tie.Need-wide-requires
 wide-requires c κs = search needs
 
@@ -20,40 +65,97 @@ greatest-requires : tie.Need-greatest-requires
 greatest-requires c κs = search needs
 
 claim-add-requires : tie.Need-claim-add-requires
-claim-add-requires c κs = may-check _ _ _ _ _ (c .before .before .before .wide .ensures) (c .before .greatest .ensures) (c .before .before .before .before .before .before .before .before .before .before .before .before .before .before .pre)
+claim-add-requires c κs =
+    let at-start-1 = c .before .before .before .before .before in
+    let at-start = at-start-1 .before .before .before in
+    may-check _ _ _ _ _ (c .before .before .before .wide .ensures) (c .before .greatest .ensures) (at-start .pre .asks)
 
 same-length : tie.Need-same-length
 same-length c = search needs
 
 returns : tie.Need-returns
-returns c = let d = c .before .before .before in admits-not _ _ _ _ _ (add-number _ _ _ _ _ _ _ _ (d .before .before .before .before .wide .ensures) (d .before .before .before .wide2 .ensures) (d .claim-add .ensures)) (c .if1 .taken) (same-waiting _ _ (d .claim-add .ensures .same (c .if1 .taken)))
+returns c σ q =
+    let at-claim-add = c .before .before .before in
+    let at-wide2 = at-claim-add .before .before .before in
+    let at-wide = at-wide2 .before in
+    admits-not _ _ _ _ _ (add-number _ _ _ _ _ _ _ _ (at-wide .wide .ensures) (at-wide2 .wide2 .ensures) (at-claim-add .claim-add .ensures)) (c .if1 .taken)
+    (same-waiting _ _ (at-claim-add .claim-add .ensures .same (c .if1 .taken)))
 
 store-lists-requires : tie.Need-store-lists-requires
-store-lists-requires c κs = let d = c .before .before .before .before .before in add-stores _ _ _ _ _ _ (d .before .before .before .before .wide .ensures) (d .before .before .before .wide2 .ensures) _ (d .claim-add .ensures .claims (c .before .before .if1 .left)) (may-add _ _ _ _ _ _ _ _ (d .before .before .before .before .wide .ensures) (d .before .before .before .wide2 .ensures) (d .claim-add .ensures) (c .before .before .if1 .left) (d .before .before .before .before .before .before .before .before .before .before .before .before .before .before .before .pre))
+store-lists-requires c κs =
+    let at-claim-add = c .before .before .before .before .before in
+    let at-wide2 = at-claim-add .before .before .before in
+    let at-wide = at-wide2 .before in
+    let at-start = at-wide .before .before .before .before .before in
+    add-stores _ _ _ _ _ _ (at-wide .wide .ensures) (at-wide2 .wide2 .ensures) _ (at-claim-add .claim-add .ensures .claims (c .before .before .if1 .left))
+    (may-add _ _ _ _ _ _ _ _ (at-wide .wide .ensures) (at-wide2 .wide2 .ensures) (at-claim-add .claim-add .ensures) (c .before .before .if1 .left)
+    (at-start .pre .asks))
 
 link-new-requires : tie.Need-link-new-requires
-link-new-requires c κs = let d = c .before .before .before .before .before .before .before .before .before .before .before in add-links _ _ _ _ _ _ (d .before .before .before .before .wide .ensures) (d .before .before .before .wide2 .ensures) _ (d .claim-add .ensures .claims (c .before .before .before .before .before .before .before .before .if1 .left)) _ _ (c .before .before .before .before .before .store-lists .ensures) (may-add _ _ _ _ _ _ _ _ (d .before .before .before .before .wide .ensures) (d .before .before .before .wide2 .ensures) (d .claim-add .ensures) (c .before .before .before .before .before .before .before .before .if1 .left) (d .before .before .before .before .before .before .before .before .before .before .before .before .before .before .before .pre)) _ (d .before .before .greatest .ensures)
+link-new-requires c κs =
+    let at-else-1-1 = c .before .before .before .before .before in
+    let at-else-1 = at-else-1-1 .before .before .before in
+    let at-claim-add = at-else-1 .before .before .before in
+    let at-greatest = at-claim-add .before .before in
+    let at-wide2 = at-greatest .before in
+    let at-wide = at-wide2 .before in
+    let at-start = at-wide .before .before .before .before .before in
+    add-links _ _ _ _ _ _ (at-wide .wide .ensures) (at-wide2 .wide2 .ensures) _ (at-claim-add .claim-add .ensures .claims (at-else-1 .if1 .left)) _ _
+    (c .before .before .before .before .before .store-lists .ensures)
+    (may-add _ _ _ _ _ _ _ _ (at-wide .wide .ensures) (at-wide2 .wide2 .ensures) (at-claim-add .claim-add .ensures) (at-else-1 .if1 .left) (at-start .pre .asks))
+    _ (at-greatest .greatest .ensures)
 
-add-t28 : tie.Need-add-t28
-add-t28 c = let d = c .before .before .before .before .before .before .before .before .before .before .before .before .before .before .before in omega (arith, add-counts _ _ _ _ (may-add _ _ _ _ _ _ _ _ (d .before .before .before .before .wide .ensures) (d .before .before .before .wide2 .ensures) (d .claim-add .ensures) (c .before .before .before .before .before .before .before .before .before .before .before .before .if1 .left) (d .before .before .before .before .before .before .before .before .before .before .before .before .before .before .before .pre)) .0)
+add-t22 : tie.Need-add-t22
+add-t22 c =
+    omega (
+      arith,
+      add-counts _ _ _ _ (may-add _ _ _ _ _ _ _ _ (at-wide′ c .wide .ensures) (at-wide2′ c .wide2 .ensures) (at-claim-add′ c .claim-add .ensures)
+          (at-else-1′ c .if1 .left) (at-start′ c .pre .asks)) .0,
+    )
 
-add-t30 : tie.Need-add-t30
-add-t30 c = let d = c .before .before .before .before .before .before .before .before .before .before .before .before .before .before .before in omega (arith, add-counts _ _ _ _ (may-add _ _ _ _ _ _ _ _ (d .before .before .before .before .wide .ensures) (d .before .before .before .wide2 .ensures) (d .claim-add .ensures) (c .before .before .before .before .before .before .before .before .before .before .before .before .if1 .left) (d .before .before .before .before .before .before .before .before .before .before .before .before .before .before .before .pre)) .3)
+add-t24 : tie.Need-add-t24
+add-t24 c =
+    omega (
+      arith,
+      add-counts _ _ _ _ (may-add _ _ _ _ _ _ _ _ (at-wide′ c .wide .ensures) (at-wide2′ c .wide2 .ensures) (at-claim-add′ c .claim-add .ensures)
+          (at-else-1′ c .if1 .left) (at-start′ c .pre .asks)) .3,
+    )
 
-add-t31 : tie.Need-add-t31
-add-t31 c = let d = c .before .before .before .before .before .before .before .before .before .before .before .before .before .before .before .before in omega (arith, add-counts _ _ _ _ (may-add _ _ _ _ _ _ _ _ (d .before .before .before .before .wide .ensures) (d .before .before .before .wide2 .ensures) (d .claim-add .ensures) (c .before .before .before .before .before .before .before .before .before .before .before .before .before .if1 .left) (d .before .before .before .before .before .before .before .before .before .before .before .before .before .before .before .pre)) .2, d .before .before .before .before .before .before .before .before .before .before .before .before .before .before .before .good)
+add-t25 : tie.Need-add-t25
+add-t25 c =
+    let at-else-1-1 = c .before .before .before .before .before in
+    let at-else-1-2 = at-else-1-1 .before .before .before .before .before in
+    let at-else-1 = at-else-1-2 .before .before .before in
+    let at-claim-add = at-else-1 .before .before .before in
+    let at-wide2 = at-claim-add .before .before .before in
+    let at-wide = at-wide2 .before in
+    let at-start = at-wide .before .before .before .before .before in
+    omega (
+      arith,
+      add-counts _ _ _ _ (may-add _ _ _ _ _ _ _ _ (at-wide .wide .ensures) (at-wide2 .wide2 .ensures) (at-claim-add .claim-add .ensures)
+          (at-else-1 .if1 .left) (at-start .pre .asks)) .2,
+      at-start .good,
+    )
 
-add-t32 : tie.Need-add-t32
-add-t32 c = let d = c .before .before .before .before .before .before .before .before .before .before .before .before .before .before .before .before .before in omega (arith, add-counts _ _ _ _ (may-add _ _ _ _ _ _ _ _ (d .before .before .before .before .wide .ensures) (d .before .before .before .wide2 .ensures) (d .claim-add .ensures) (c .before .before .before .before .before .before .before .before .before .before .before .before .before .before .if1 .left) (d .before .before .before .before .before .before .before .before .before .before .before .before .before .before .before .pre)) .1)
+add-t26 : tie.Need-add-t26
+add-t26 c =
+    omega (
+      arith,
+      add-counts _ _ _ _ (may-add _ _ _ _ _ _ _ _ (at-wide c .wide .ensures) (at-wide2 c .wide2 .ensures) (at-claim-add c .claim-add .ensures)
+          (at-else-1 c .if1 .left) (at-start c .pre .asks)) .1,
+    )
 
 same-length-2 : tie.Need-same-length-2
-same-length-2 c = c .before .before .before .before .before .link-new .kept .0 ∙ c .before .before .before .before .before .before .before .before .before .before .before .store-lists .kept .0 ∙ c .before .before .before .before .before .before .before .before .before .before .before .before .before .before .before .before .before .claim-add .kept .0
+same-length-2 c = at-link-new c .link-new .kept .0 ∙ at-store-lists c .store-lists .kept .0 ∙ at-claim-add c .claim-add .kept .0
 
 same-length-3 : tie.Need-same-length-3
 same-length-3 c = search needs
 
 returns-2 : tie.Need-returns-2
-returns-2 c = let d = c .before .before .before .before .before .before .before .before .before .before .before .before .before .before .before .before .before in add-admits _ _ _ _ _ _ (d .before .before .before .before .wide .ensures) (d .before .before .before .wide2 .ensures) _ (d .claim-add .ensures .claims (c .before .before .before .before .before .before .before .before .before .before .before .before .before .before .if1 .left)) _ _ (c .before .before .before .before .before .before .before .before .before .before .before .store-lists .ensures) _ _ (c .before .before .before .before .before .link-new .kept .0) (c .before .before .before .before .before .link-new .ensures _ refl (d .before .before .greatest .ensures)) _ (add-number _ _ _ _ _ _ _ _ (d .before .before .before .before .wide .ensures) (d .before .before .before .wide2 .ensures) (d .claim-add .ensures)) (c .before .before .before .before .before .before .before .before .before .before .before .before .before .before .if1 .left) (d .before .before .before .before .before .before .before .before .before .before .before .before .before .before .before .pre)
+returns-2 c σ q =
+    add-admits _ _ _ _ _ _ (at-wide c .wide .ensures) (at-wide2 c .wide2 .ensures) _ (at-claim-add c .claim-add .ensures .claims (at-else-1 c .if1 .left))
+    _ _ (at-store-lists c .store-lists .ensures) _ _ (at-link-new c .link-new .kept .0) (at-link-new c .link-new .ensures _ refl (at-greatest c .greatest .ensures))
+    _ (add-number _ _ _ _ _ _ _ _ (at-wide c .wide .ensures) (at-wide2 c .wide2 .ensures) (at-claim-add c .claim-add .ensures)) (at-else-1 c .if1 .left) q
 
 pub admit-add-spec : {M : Type 1} → statement M
 admit-add-spec =
@@ -67,10 +169,10 @@ admit-add-spec =
     returns
     store-lists-requires
     link-new-requires
-    add-t28
-    add-t30
-    add-t31
-    add-t32
+    add-t22
+    add-t24
+    add-t25
+    add-t26
     same-length-2
     same-length-3
     returns-2)

@@ -12,7 +12,8 @@ same-length : tie.Need-same-length
 same-length c = search needs
 
 returns : tie.Need-returns
-returns c = links-high _ _ _ _ _ _ _ (c .before .before .before .before .before .if1 .taken) (c .before .before .before .before .if2 .taken) (c .before .before .delay .ensures)
+returns c =
+    links-high _ _ _ _ _ _ _ (c .before .before .before .before .before .if1 .taken) (c .before .before .before .before .if2 .taken) (c .before .before .delay .ensures)
 
 stack-requires : tie.Need-stack-requires
 stack-requires c κs = search needs
@@ -21,7 +22,9 @@ same-length-2 : tie.Need-same-length-2
 same-length-2 c = search needs
 
 returns-2 : tie.Need-returns-2
-returns-2 c = let z = c .before .before .stack .ensures in ⊎-elim (λ w. links-low _ _ _ _ _ _ _ _ (w .1 .left) z) (λ w. links-none _ _ _ _ _ _ _ _ (w .left) z) (c .before .before .before .before .if1 .came)
+returns-2 c =
+    let z = c .before .before .stack .ensures in
+    ⊎-elim (λ w. links-low _ _ _ _ _ _ _ _ (w .1 .left) z) (λ w. links-none _ _ _ _ _ _ _ _ (w .left) z) (c .before .before .before .before .if1 .came)
 
 pub link-new-spec : {M : Type 1} → statement M
 link-new-spec =

@@ -8,26 +8,57 @@ use borrow.Author.Needs.{needs}
 use Rattle.alone.proofs.push.Statement.{statement}
 use Rattle.alone.proofs.push.Tie as tie
 
-array-read-check-push : tie.Need-array-read-check-push
-array-read-check-push c = search needs
+-- places: the start, seen from the window; that, seen from the check; the branch, seen from the push; the push, seen from the end
+abbrev start : tie.After-w → tie.Start
+start c = c .before .before .before .before .before
 
-array-read-check-push-2 : tie.Need-array-read-check-push-2
-array-read-check-push-2 c = search needs
+abbrev begun : tie.After-check-push → tie.After-w
+begun c = c .before .before .before .before
+
+abbrev accepted : tie.After-push-arg3 → tie.Else1
+accepted c = c .before .before .before
+
+abbrev returned : tie.After-tally → tie.After-push
+returned c = c .before .before .before .before .before
+
+element-copy-out-check-push : tie.Need-element-copy-out-check-push
+element-copy-out-check-push c = search needs
+
+element-copy-out-check-push-2 : tie.Need-element-copy-out-check-push-2
+element-copy-out-check-push-2 c = search needs
 
 check-push-requires : tie.Need-check-push-requires
 check-push-requires c κs = search needs
 
-push-requires : tie.Need-push-requires
-push-requires c κs = let a = c .before .before .before .before .before .before .before .before .before .before .before .before .args in
-    let z = sym (c .before .before .before .before .check-push .ensures) ∙ c .before .before .before .if1 .taken in
-    (c .before .before .before .before .before .before .before .before .before .before .before .before .pre .stands, (ready (a .x) (now (a .spans)) (now (a .order)) (now (a .tally)) (c .before .before .before .before .before .before .before .before .before .before .before .before .pre) (low-last (a .x) (now (a .spans)) (now (a .order)) (now (a .tally)) (c .before .before .before .before .before .before .before .before .before .before .before .before .pre) (a .has) (a .span) (a .pos) z), near (a .x) (now (a .spans)) (now (a .order)) (now (a .tally)) (c .before .before .before .before .before .before .before .before .before .before .before .before .pre) (a .has) (a .span) (a .pos) z))
+returns : tie.Need-returns
+returns c =
+    let k = c .before in
+    let s = start (begun k) in
+    let a = s .args in
+    push-refused (a .x) (now (a .spans)) (now (a .order)) (now (a .tally)) (s .pre) (a .has) (a .span) (a .pos) (a .value) (a .added) (a .accepted)
+    (k .check-push .result) (k .check-push .ensures) (c .if1 .taken)
 
-add-t33 : tie.Need-add-t33
-add-t33 c = let a = c .before .before .before .before .before .before .before .before .before .before .before .before .before .before .before .before .before .before .before .before .before .args in
-    let z = sym (c .before .before .before .before .before .before .before .before .before .before .before .before .before .check-push .ensures) ∙ c .before .before .before .before .before .before .before .before .before .before .before .before .if1 .taken in
-    let k = few-pushes (a .x) (now (a .spans)) (now (a .order)) (now (a .tally)) (c .before .before .before .before .before .before .before .before .before .before .before .before .before .before .before .before .before .before .before .before .before .pre) (a .has) (a .span) (a .pos) z in
-    let m = c .before .before .before .before .before .before .before .before .before .before .before .before .before .before .before .before .before .before .before .before .before .pre .stands .small in
-    omega arith
+push-requires : tie.Need-push-requires
+push-requires c κs =
+    let k = accepted c .before in
+    let s = start (begun k) in
+    let a = s .args in
+    let sp = now (a .spans) in
+    let o = now (a .order) in
+    let t = now (a .tally) in
+    let z = sym (k .check-push .ensures) ∙ accepted c .if1 .left in (
+      s .pre .stands,
+      (ready (a .x) sp o t (s .pre) (low-last (a .x) sp o t (s .pre) (a .has) (a .span) (a .pos) z), near (a .x) sp o t (s .pre) (a .has) (a .span) (a .pos) z),
+    )
+
+add-t20 : tie.Need-add-t20
+add-t20 c =
+    let e = accepted (returned (c .before .before .before) .before) in
+    let k = e .before in
+    let s = start (begun k) in
+    let a = s .args in
+    let z = sym (k .check-push .ensures) ∙ e .if1 .left in
+    omega (arith, few-pushes (a .x) (now (a .spans)) (now (a .order)) (now (a .tally)) (s .pre) (a .has) (a .span) (a .pos) z, s .pre .stands .small)
 
 same-length : tie.Need-same-length
 same-length c = search needs
@@ -38,28 +69,30 @@ same-length-2 c = search needs
 same-length-3 : tie.Need-same-length-3
 same-length-3 c = search needs
 
-returns : tie.Need-returns
-unfolding item-of
-returns c = let a = c .before .before .before .before .before .before .before .before .before .before .before .before .before .before .before .before .before .before .before .before .before .args in
-    let z = sym (c .before .before .before .before .before .before .before .before .before .before .before .before .before .check-push .ensures) ∙ c .before .before .before .before .before .before .before .before .before .before .before .before .if1 .taken in
-    let f = c .before .before .before .before .before .before .before .before .push in
-    push-served (a .x) (now (a .spans)) (now (a .order)) (now (a .tally)) (c .before .before .before .before .before .before .before .before .before .before .before .before .before .before .before .before .before .before .before .before .before .pre) (a .has) (a .span) (a .pos) (a .value) (a .added) (a .accepted) _ (f .last .1 .0) (f .last .1 .1 .0) (f .last .1 .1 .1 .0) (f .result .span) (f .result .pos) z refl (f .ensures)
-
 returns-2 : tie.Need-returns-2
-returns-2 c = let a = c .before .before .before .before .before .before .before .before .before .args in
-    push-refused (a .x) (now (a .spans)) (now (a .order)) (now (a .tally)) (c .before .before .before .before .before .before .before .before .before .pre) (a .has) (a .span) (a .pos) (a .value) (a .added) (a .accepted) (c .before .check-push .result) (c .before .check-push .ensures) (c .if1 .left)
+unfolding item-of
+returns-2 c =
+    let r = returned (c .before .before .before) in
+    let f = r .push in
+    let e = accepted (r .before) in
+    let k = e .before in
+    let s = start (begun k) in
+    let a = s .args in
+    let z = sym (k .check-push .ensures) ∙ e .if1 .left in
+    push-served (a .x) (now (a .spans)) (now (a .order)) (now (a .tally)) (s .pre) (a .has) (a .span) (a .pos) (a .value) (a .added) (a .accepted) _
+    (f .last .1 .0) (f .last .1 .1 .0) (f .last .1 .1 .1 .0) (f .result .span) (f .result .pos) z refl (f .ensures)
 
 pub push-spec : {M : Type 1} → statement M
 push-spec =
     tie.close
     (tie.spec
-    array-read-check-push
-    array-read-check-push-2
+    element-copy-out-check-push
+    element-copy-out-check-push-2
     check-push-requires
+    returns
     push-requires
-    add-t33
+    add-t20
     same-length
     same-length-2
     same-length-3
-    returns
     returns-2)

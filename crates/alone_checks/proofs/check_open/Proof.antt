@@ -1,59 +1,74 @@
 -- `alone_checks::check_open` meets its contract: each return is one way to a verdict. Assumes nothing.
-use Rattle.alone_checks.specs.Verdicts.{or-left, or-right, or-none, open-p, open-v, open-short, open-good}
-use borrow.Author.Tests.{le-ltb, lt-ltb}
+use mathlib.Core.Path.{_≡_, sym, _∙_}
+use mathlib.Core.Bool.{false, _||_}
+use lib.Dec.{ltb}
+use Rattle.rules.specs.Limits.{most-parallelism, most-places}
+use Rattle.alone_checks.specs.Verdicts.{within, open-p, open-v, open-short, open-good}
 use borrow.Author.Needs.{needs}
 use Rattle.alone_checks.proofs.check_open.Statement.{statement}
 use Rattle.alone_checks.proofs.check_open.Tie as tie
 
+-- p is in range, and so is v
+good-p : (c : tie.Else1) → (ltb (c .before .before .args .p) 1 || ltb most-parallelism (c .before .before .args .p)) ≡ false
+good-p c = sym (c .before .outside .ensures) ∙ c .if1 .left
+
+good-v : (c : tie.Else2) → (ltb (c .before .before .before .before .args .v) 1 || ltb most-places (c .before .before .before .before .args .v)) ≡ false
+good-v c = sym (c .before .outside2 .ensures) ∙ c .if2 .left
+
+outside-requires : tie.Need-outside-requires
+outside-requires c κs = search needs
+
+cast-result : tie.Need-cast-result
+cast-result c = search needs
+
 returns : tie.Need-returns
-returns c = let a = c .before .args in
-    open-p (a .p) (a .v) (a .spans) (a .order) (a .tally) (or-left _ _ (lt-ltb _ _ (c .if1 .taken)))
+returns c = let a = c .before .before .args in open-p (a .p) (a .v) (a .spans) (a .order) (a .tally) (sym (c .before .outside .ensures) ∙ c .if1 .taken)
+
+outside-requires-2 : tie.Need-outside-requires-2
+outside-requires-2 c κs = search needs
+
+cast-result-2 : tie.Need-cast-result-2
+cast-result-2 c = search needs
 
 returns-2 : tie.Need-returns-2
-returns-2 c = let a = c .before .before .args in
-    open-p (a .p) (a .v) (a .spans) (a .order) (a .tally) (or-right _ _ (le-ltb _ _ (c .before .if1 .left)) (lt-ltb _ _ (c .if2 .taken)))
+returns-2 c =
+    let first = c .before .before in
+    let a = first .before .before .args in
+    open-v (a .p) (a .v) (a .spans) (a .order) (a .tally) (good-p first) (sym (c .before .outside2 .ensures) ∙ c .if2 .taken)
+
+short-requires : tie.Need-short-requires
+short-requires c κs =
+    let first = c .before .before in
+    within (first .before .before .args .p) most-parallelism (good-p first)
+
+cast-result-3 : tie.Need-cast-result-3
+cast-result-3 c = search needs
 
 returns-3 : tie.Need-returns-3
-returns-3 c = let a = c .before .before .before .args in
-    open-v (a .p) (a .v) (a .spans) (a .order) (a .tally) (or-none _ _ (le-ltb _ _ (c .before .before .if1 .left)) (le-ltb _ _ (c .before .if2 .left))) (or-left _ _ (lt-ltb _ _ (c .if3 .taken)))
+returns-3 c =
+    let second = c .before .before in
+    let first = second .before .before in
+    let a = first .before .before .args in
+    open-short (a .p) (a .v) (a .spans) (a .order) (a .tally) (good-p first) (good-v second) (sym (c .before .short .ensures) ∙ c .if3 .taken)
 
 returns-4 : tie.Need-returns-4
-returns-4 c = let a = c .before .before .before .before .args in
-    open-v (a .p) (a .v) (a .spans) (a .order) (a .tally) (or-none _ _ (le-ltb _ _ (c .before .before .before .if1 .left)) (le-ltb _ _ (c .before .before .if2 .left))) (or-right _ _ (le-ltb _ _ (c .before .if3 .left)) (lt-ltb _ _ (c .if4 .taken)))
-
-add-counts : tie.Need-add-counts
-add-counts c = search needs
-
-mul-if5 : tie.Need-mul-if5
-mul-if5 c = search needs
-
-returns-5 : tie.Need-returns-5
-returns-5 c = let a = c .before .before .before .before .before .args in
-    open-short (a .p) (a .v) (a .spans) (a .order) (a .tally) (or-none _ _ (le-ltb _ _ (c .before .before .before .before .if1 .left)) (le-ltb _ _ (c .before .before .before .if2 .left))) (or-none _ _ (le-ltb _ _ (c .before .before .if3 .left)) (le-ltb _ _ (c .before .if4 .left))) (or-left _ _ (lt-ltb _ _ (c .if5 .taken)))
-
-returns-6 : tie.Need-returns-6
-returns-6 c = let a = c .before .before .before .before .before .before .args in
-    open-short (a .p) (a .v) (a .spans) (a .order) (a .tally) (or-none _ _ (le-ltb _ _ (c .before .before .before .before .before .if1 .left)) (le-ltb _ _ (c .before .before .before .before .if2 .left))) (or-none _ _ (le-ltb _ _ (c .before .before .before .if3 .left)) (le-ltb _ _ (c .before .before .if4 .left))) (or-right _ _ (le-ltb _ _ (c .before .if5 .left)) (or-left _ _ (lt-ltb _ _ (c .if6 .taken))))
-
-returns-7 : tie.Need-returns-7
-returns-7 c = let a = c .before .before .before .before .before .before .before .args in
-    open-short (a .p) (a .v) (a .spans) (a .order) (a .tally) (or-none _ _ (le-ltb _ _ (c .before .before .before .before .before .before .if1 .left)) (le-ltb _ _ (c .before .before .before .before .before .if2 .left))) (or-none _ _ (le-ltb _ _ (c .before .before .before .before .if3 .left)) (le-ltb _ _ (c .before .before .before .if4 .left))) (or-right _ _ (le-ltb _ _ (c .before .before .if5 .left)) (or-right _ _ (le-ltb _ _ (c .before .if6 .left)) (lt-ltb _ _ (c .if7 .taken))))
-
-returns-8 : tie.Need-returns-8
-returns-8 c = let a = c .before .before .before .before .before .before .before .args in
-    open-good (a .p) (a .v) (a .spans) (a .order) (a .tally) (or-none _ _ (le-ltb _ _ (c .before .before .before .before .before .before .if1 .left)) (le-ltb _ _ (c .before .before .before .before .before .if2 .left))) (or-none _ _ (le-ltb _ _ (c .before .before .before .before .if3 .left)) (le-ltb _ _ (c .before .before .before .if4 .left))) (or-none _ _ (le-ltb _ _ (c .before .before .if5 .left)) (or-none _ _ (le-ltb _ _ (c .before .if6 .left)) (le-ltb _ _ (c .if7 .left))))
+returns-4 c =
+    let second = c .before .before in
+    let first = second .before .before in
+    let a = first .before .before .args in
+    open-good (a .p) (a .v) (a .spans) (a .order) (a .tally) (good-p first) (good-v second) (sym (c .before .short .ensures) ∙ c .if3 .left)
 
 pub check-open-spec : {M : Type 1} → statement M
 check-open-spec =
     tie.close
     (tie.spec
+    outside-requires
+    cast-result
     returns
+    outside-requires-2
+    cast-result-2
     returns-2
+    short-requires
+    cast-result-3
     returns-3
-    returns-4
-    add-counts
-    mul-if5
-    returns-5
-    returns-6
-    returns-7
-    returns-8)
+    returns-4)

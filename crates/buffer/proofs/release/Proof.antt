@@ -2,10 +2,19 @@
 use borrow.Author.Needs.{needs}
 use lib.ListN.{getD}
 use native.Mathlib.Omega.{arith}
+use Prim.Native.Nat.{_+_, _≤_}
+use Rattle.rules.specs.Checks.{spans-needed}
+use Rattle.buffer.specs.View.{start-of}
 use Rattle.buffer.specs.Rows.{row-ends}
 use Rattle.buffer.specs.Moves.{released-guide, released-order}
 use Rattle.buffer.proofs.release.Statement.{statement}
 use Rattle.buffer.proofs.release.Tie as tie
+
+-- the places of the code, each named once
+abbrev to-start : tie.After-append-row-arg → tie.Start
+to-start c =
+    let after-a = c .before .before .before .before in
+    after-a .before .before .before .before .before
 
 element-copy-out-row : tie.Need-element-copy-out-row
 element-copy-out-row c = search needs
@@ -34,18 +43,18 @@ cast-n c = search needs
 add-append-row : tie.Need-add-append-row
 add-append-row c = search needs
 
+-- the row of span 0 ends within the span storage
+row-within : (s : tie.Start) → start-of (s .args .g) 0 + (s .args .g .p + 1) ≤ spans-needed (s .args .g .p)
+row-within s = row-ends (s .args .g .p) (getD (s .args .g .window .rows) 0 0) 32 (s .pre .in-rows)
+
 mul-append-row : tie.Need-mul-append-row
-mul-append-row c =
-    let s = c .before .before .before .before .before .before .before .before in
-    let g = s .args .g in
-    omega (arith, row-ends (g .p) (getD (g .window .rows) 0 0) 32 (s .pre .0 .in-rows), s .pre .0 .few)
+mul-append-row c = let s = to-start c in omega (arith, row-within s, s .pre .few)
 
 append-row-requires : tie.Need-append-row-requires
 append-row-requires c κs =
-    let s = c .before .before .before .before .before .before .before .before .before in
-    let g = s .args .g in
-    let fit = s .pre .0 in
-    omega (arith, row-ends (g .p) (getD (g .window .rows) 0 0) 32 (fit .in-rows), fit .few, fit .one, fit .short, fit .lent, s .pre .1 .0 .0, s .pre .1 .1)
+    let s = to-start c in
+    let fit = s .pre in
+    omega (arith, row-within s, fit .few, fit .one, fit .short, fit .lent, fit .next-short, fit .room)
 
 rotate-requires : tie.Need-rotate-requires
 rotate-requires c κs = search needs
@@ -58,7 +67,9 @@ same-length c = search needs
 
 returns : tie.Need-returns
 unfolding released-guide released-order
-returns c = (rw (c .before .rotate .ensures), c .before .before .before .before .append-row .ensures)
+returns c =
+    let after-append-row = c .before .before .before .before in
+    (rw (c .before .rotate .ensures), after-append-row .append-row .ensures)
 
 pub release-spec : {M : Type 1} → statement M
 release-spec =

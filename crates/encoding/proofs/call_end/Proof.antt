@@ -4,6 +4,17 @@ use borrow.Author.Needs.{needs}
 use Rattle.encoding.proofs.call_end.Statement.{statement}
 use Rattle.encoding.proofs.call_end.Tie as tie
 
+-- the places of the code, each named once (-2, -3: the same place, seen from another)
+abbrev to-start : tie.Else5 → tie.Start
+to-start c =
+    let else2 = c .before .before .before in
+    else2 .before .before .before .before
+
+abbrev to-start-2 : tie.Then5 → tie.Start
+to-start-2 c =
+    let else2 = c .before .before .before in
+    else2 .before .before .before .before
+
 mul-tag : tie.Need-mul-tag
 mul-tag c = search needs
 
@@ -17,19 +28,25 @@ add-end-requires : tie.Need-add-end-requires
 add-end-requires c κs = search needs
 
 returns : tie.Need-returns
-returns c = call-add _ _ (c .before .before .before .before .pre) _ (c .before .if1 .taken) (c .add-end .ensures)
+returns c =
+    let start = c .before .before .before .before in
+    call-add _ _ (start .pre) _ (c .before .if1 .taken) (c .add-end .ensures)
 
 add-result : tie.Need-add-result
 add-result c = search needs
 
 returns-2 : tie.Need-returns-2
-returns-2 c = call-flush _ _ (c .before .before .before .before .pre) (c .if2 .taken)
+returns-2 c =
+    let start = c .before .before .before .before in
+    call-flush _ _ (start .pre) (c .if2 .taken)
 
 add-result-2 : tie.Need-add-result-2
 add-result-2 c = search needs
 
 returns-3 : tie.Need-returns-3
-returns-3 c = call-final _ _ (c .before .before .before .before .before .pre) (c .if3 .taken)
+returns-3 c =
+    let start = c .before .before .before .before .before in
+    call-final _ _ (start .pre) (c .if3 .taken)
 
 add-if5 : tie.Need-add-if5
 add-if5 c = search needs
@@ -38,13 +55,17 @@ add-result-3 : tie.Need-add-result-3
 add-result-3 c = search needs
 
 returns-4 : tie.Need-returns-4
-returns-4 c = call-set _ _ (c .before .before .before .before .before .before .before .pre) (c .before .if4 .taken) (c .if5 .taken)
+returns-4 c = call-set _ _ (to-start-2 c .pre) (c .before .if4 .taken) (c .if5 .taken)
 
 returns-5 : tie.Need-returns-5
-returns-5 c = call-set-short _ _ (c .before .before .before .before .before .before .before .pre) (c .before .if4 .taken) (c .if5 .left)
+returns-5 c = call-set-short _ _ (to-start c .pre) (c .before .if4 .taken) (c .if5 .left)
 
 returns-6 : tie.Need-returns-6
-returns-6 c = call-other _ _ (c .before .before .before .before .before .before .pre) (c .if4 .left) (c .before .before .before .if1 .left) (c .before .before .if2 .left) (c .before .if3 .left)
+returns-6 c =
+    let else2 = c .before .before in
+    let else1 = else2 .before in
+    let start = else1 .before .before .before in
+    call-other _ _ (start .pre) (c .if4 .left) (else1 .if1 .left) (else2 .if2 .left) (c .before .if3 .left)
 
 pub call-end-spec : {M : Type 1} → statement M
 call-end-spec =

@@ -20,16 +20,23 @@ call-end-requires : tie.Need-call-end-requires Inv-loop μ-loop
 call-end-requires c κs = search needs
 
 returns : tie.Need-returns Inv-loop μ-loop
-returns c = count-stop _ _ _ _ (c .before .before .before .loop .inv) (c .before .before .loop-test .taken) (c .before .call-end .ensures) (c .if1 .taken)
+returns c =
+    let in-loop = c .before .before in
+    let at-loop = in-loop .before in
+    count-stop _ _ _ _ (at-loop .loop .inv) (in-loop .loop-test .taken) (c .before .call-end .ensures) (c .if1 .taken)
 
 add-n : tie.Need-add-n Inv-loop μ-loop
-add-n c = omega (arith, c .before .before .before .loop .inv .few)
+add-n c =
+    let at-loop = c .before .before .before in
+    omega (arith, at-loop .loop .inv .few)
 
 loop-less : tie.Need-loop-less Inv-loop μ-loop
 loop-less c = count-less _ _ _ (c .before .before .loop-test .taken) (c .before .call-end .ensures) (c .if1 .left)
 
 loop-again : tie.Need-loop-again Inv-loop μ-loop
-loop-again c = count-turn _ _ _ _ (c .before .before .before .loop .inv) (c .before .call-end .ensures) (c .if1 .left)
+loop-again c =
+    let at-loop = c .before .before .before in
+    count-turn _ _ _ _ (at-loop .loop .inv) (c .before .call-end .ensures) (c .if1 .left)
 
 returns-2 : tie.Need-returns-2 Inv-loop μ-loop
 returns-2 c = count-end _ _ _ (c .before .loop .inv) (c .loop-test .left)

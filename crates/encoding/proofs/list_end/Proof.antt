@@ -23,7 +23,9 @@ sub-left-2 : tie.Need-sub-left-2
 sub-left-2 c = search needs
 
 returns-2 : tie.Need-returns-2
-returns-2 c = list-short _ _ _ (c .before .short .ensures) (c .before .before .before .if1 .left) (c .if2 .taken)
+returns-2 c =
+    let else1 = c .before .before .before in
+    list-short _ _ _ (c .before .short .ensures) (else1 .if1 .left) (c .if2 .taken)
 
 add-result : tie.Need-add-result
 add-result c = search needs
@@ -32,7 +34,9 @@ add-result-2 : tie.Need-add-result-2
 add-result-2 c = search needs
 
 returns-3 : tie.Need-returns-3
-returns-3 c = list-whole _ _ _ (c .before .short .ensures) (c .before .before .before .if1 .left) (c .if2 .left)
+returns-3 c =
+    let else1 = c .before .before .before in
+    list-whole _ _ _ (c .before .short .ensures) (else1 .if1 .left) (c .if2 .left)
 
 pub list-end-spec : {M : Type 1} → statement M
 list-end-spec =

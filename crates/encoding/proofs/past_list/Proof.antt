@@ -19,10 +19,18 @@ short-requires : tie.Need-short-requires
 short-requires c κs = search needs
 
 add-result-2 : tie.Need-add-result-2
-add-result-2 c = let a = c .before .before .before .args in let t = list-there (now (a .calls)) (a .at) (c .before .before .before .pre) in omega (arith, t .0, t .1, c .short .ensures, c .before .before .before .good)
+add-result-2 c =
+    let start = c .before .before .before in
+    let a = start .args in
+    let t = list-there (now (a .calls)) (a .at) (start .pre) in
+    omega (arith, t .0, t .1, c .short .ensures, start .good)
 
 returns : tie.Need-returns
-returns c = let a = c .before .before .before .args in let t = list-there (now (a .calls)) (a .at) (c .before .before .before .pre) in list-whole _ _ _ (c .short .ensures) (t .0) (omega (arith, t .1, c .short .ensures))
+returns c =
+    let start = c .before .before .before in
+    let a = start .args in
+    let t = list-there (now (a .calls)) (a .at) (start .pre) in
+    list-whole _ _ _ (c .short .ensures) (t .0) (omega (arith, t .1, c .short .ensures))
 
 pub past-list-spec : {M : Type 1} → statement M
 past-list-spec =

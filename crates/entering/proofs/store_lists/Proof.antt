@@ -1,8 +1,15 @@
--- `entering::store_lists` meets its contract: its three steps, one after the other.
+-- Its three steps, one after the other. Assumes nothing.
 use Rattle.entering.specs.Entering.{stores}
 use borrow.Author.Needs.{needs}
 use Rattle.entering.proofs.store_lists.Statement.{statement}
 use Rattle.entering.proofs.store_lists.Tie as tie
+
+-- places of the code: each call, seen from the next
+abbrev outputs : tie.After-set-cell → tie.After-store-list2
+outputs c = c .before .before .before .before
+
+abbrev inputs : tie.After-store-list2 → tie.After-store-list
+inputs c = c .before .before .before .before
 
 store-list-requires : tie.Need-store-list-requires
 store-list-requires c κs = search needs
@@ -23,7 +30,10 @@ same-length-2 : tie.Need-same-length-2
 same-length-2 c = search needs
 
 returns : tie.Need-returns
-returns c = stores _ _ _ _ _ _ _ _ (c .before .before .before .before .before .before .before .before .before .before .store-list .ensures) _ _ (c .before .before .before .before .before .before .store-list2 .ensures) (c .before .before .set-cell .ensures)
+returns c =
+    let s = c .before .before in
+    let o = outputs s in
+    stores _ _ _ _ _ _ _ _ (inputs o .store-list .ensures) _ _ (o .store-list2 .ensures) (s .set-cell .ensures)
 
 pub store-lists-spec : {M : Type 1} → statement M
 store-lists-spec =

@@ -1,21 +1,22 @@
 -- `entries::append_row` meets its contract. The invariant says what is still to be appended. Assumes nothing.
 use borrow.Author.Needs.{needs}
-use mathlib.Core.Path.{_≡_, refl, sym, _∙_}
-use Prim.Native.Nat.{_-_, _≤_}
+use mathlib.Core.Path.{_≡_, refl, sym, ap, _∙_}
+use Prim.Native.Nat.{_+_, _-_, _≤_}
 use native.Mathlib.Omega.{arith}
 use lib.ListN.{length}
 use denote.Ref.{now}
-use Rattle.entries.specs.Entries.{row, annotated, appended}
+use Rattle.entries.specs.Entries.{with-entry, row, annotated, appended}
+use Rattle.entries.specs.declared.Entry.{Entry}
 use Rattle.entries.proofs.Laws.{rest, begins, turn, ends}
 use Rattle.entries.proofs.append_row.Statement.{statement}
 use Rattle.entries.proofs.append_row.Tie as tie
 
 abbrev Inv-loop : tie.InvT-loop
-Inv-loop spans base p a b order₀ n q₀ order q =
+Inv-loop spans order₀ base n p a b q₀ order q =
     (q ≤ a) × ((length order ≡ length order₀) × (appended order₀ n (annotated p a b 0 (row spans base a)) ≡ rest spans p a b n base order q))
 
 abbrev μ-loop : tie.MeasureT-loop
-μ-loop spans base p a b order₀ n q₀ order q = a - q
+μ-loop spans order₀ base n p a b q₀ order q = a - q
 
 loop-holds : tie.Need-loop-holds Inv-loop μ-loop
 loop-holds c =
@@ -37,6 +38,9 @@ parallelism-of-requires c κs = search needs
 add-store : tie.Need-add-store Inv-loop μ-loop
 add-store c = search needs
 
+with-parallelism-requires : tie.Need-with-parallelism-requires Inv-loop μ-loop
+with-parallelism-requires c κs = search needs
+
 store-requires : tie.Need-store-requires Inv-loop μ-loop
 store-requires c κs = search needs
 
@@ -48,14 +52,22 @@ loop-less c = search needs
 
 loop-again : tie.Need-loop-again Inv-loop μ-loop
 loop-again c =
-    let at = c .before .before .before .before .before .before .before in
-    let g = at .before .before .before .args in
-    let st = c .before .before .store in (
+    let stored = c .before .before in
+    let made = stored .before in
+    let worked-out = made .before .before in
+    let loaded = worked-out .before in
+    let turn-begun = loaded .before in
+    let l = turn-begun .before .loop in
+    let g = turn-begun .before .before .before .before .args in
+    let w = worked-out .parallelism-of in
+    let e = loaded .load in
+    let is = stored .store .ensures ∙ ap (λ (x : Entry). with-entry (l .order) (g .n + l .q) x) (made .with-parallelism .ensures) in (
       omega arith,
       (
-        st .kept .0 ∙ at .loop .inv .1 .0,
-        at .loop .inv .1 .1
-            ∙ turn (now (g .spans)) (g .p) (g .a) (g .b) (g .n) (g .base) (at .loop .order) (st .last .0) (at .loop .q) (c .before .before .before .before .before .load .result) (c .before .before .before .before .parallelism-of .result) (c .before .before .before .before .before .before .loop-test .taken) (c .before .before .before .before .before .load .ensures) (c .before .before .before .before .parallelism-of .ensures) (st .ensures),
+        stored .store .kept .0 ∙ l .inv .1 .0,
+        l .inv .1 .1
+            ∙ turn (now (g .spans)) (g .p) (g .a) (g .b) (g .n) (g .base) (l .order) (stored .store .last .0) (l .q) (e .result) (w .result)
+            (turn-begun .loop-test .taken) (e .ensures) (w .ensures) is,
       ),
     )
 
@@ -80,6 +92,7 @@ append-row-spec =
     load-requires
     parallelism-of-requires
     add-store
+    with-parallelism-requires
     store-requires
     add-q
     loop-less

@@ -3,7 +3,7 @@ use borrow.Author.Needs.{needs}
 use native.Mathlib.Omega.{arith}
 use lib.ListN.{length-set}
 use denote.Ref.{now}
-use Prim.Native.Nat.{_*_}
+use Rattle.entries.specs.Entries.{extent}
 use Rattle.entries.specs.Stored.{stored}
 use Rattle.entries.proofs.store.Statement.{statement}
 use Rattle.entries.proofs.store.Tie as tie
@@ -48,7 +48,7 @@ same-length : tie.Need-same-length
 same-length c = search needs
 
 returns : tie.Need-returns
-returns c = let e = c .args .e in stored (now (c .args .s)) (4 * c .args .k) (e .value) (e .added) (e .accepted) (e .parallelism) (c .pre)
+returns c = let e = c .args .e in stored (now (c .args .s)) (extent (c .args .k)) (e .value) (e .added) (e .accepted) (e .parallelism) (c .pre)
 
 pub store-spec : {M : Type 1} → statement M
 store-spec =

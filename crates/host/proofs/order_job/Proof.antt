@@ -1,6 +1,6 @@
 -- The number of each answer. Assumes nothing.
 use native.Mathlib.Omega.{arith}
-use Rattle.host.specs.Laws.{small-listed, small-refused, called-listed, called-refused}
+use Rattle.host.specs.Laws.{replied-as, called-listed, called-refused}
 use borrow.Author.Needs.{needs}
 use Rattle.host.proofs.order_job.Statement.{statement}
 use Rattle.host.proofs.order_job.Tie as tie
@@ -12,28 +12,28 @@ enum-known-r : tie.Need-enum-known-r
 enum-known-r c = search needs
 
 mul-result : tie.Need-mul-result
-mul-result c = omega (arith, small-listed (c .before .before .before .before .before .reply-to .ensures) _ (c .before .r .given .1))
+mul-result c = omega (arith, replied-as (c .before .before .before .before .before .reply-to .ensures) (c .before .r .given .1) .small .1)
 
 enum-known-r-2 : tie.Need-enum-known-r-2
 enum-known-r-2 c = search needs
 
 mul-result-2 : tie.Need-mul-result-2
-mul-result-2 c = omega (arith, small-refused (c .before .before .before .before .before .reply-to .ensures) _ _ (c .before .r2 .given .1))
+mul-result-2 c = omega (arith, replied-as (c .before .before .before .before .before .reply-to .ensures) (c .before .r2 .given .1) .small)
 
 add-result : tie.Need-add-result
-add-result c = omega (arith, small-refused (c .before .before .before .before .before .reply-to .ensures) _ _ (c .before .r2 .given .1))
+add-result c = omega (arith, replied-as (c .before .before .before .before .before .reply-to .ensures) (c .before .r2 .given .1) .small)
 
 same-length : tie.Need-same-length
 same-length c = search needs
 
 returns : tie.Need-returns
-returns c = called-listed (c .before .before .before .before .before .reply-to .ensures) _ (c .before .r .given .1)
+returns c = called-listed _ (replied-as (c .before .before .before .before .before .reply-to .ensures) (c .before .r .given .1))
 
 same-length-2 : tie.Need-same-length-2
 same-length-2 c = search needs
 
 returns-2 : tie.Need-returns-2
-returns-2 c = called-refused (c .before .before .before .before .before .reply-to .ensures) _ _ (c .before .r2 .given .1)
+returns-2 c = called-refused _ _ (replied-as (c .before .before .before .before .before .reply-to .ensures) (c .before .r2 .given .1))
 
 pub order-job-spec : {M : Type 1} → statement M
 order-job-spec =

@@ -1,13 +1,43 @@
 -- Each way out is a law: too long, a bad head, opening refused, or the calls run to their end. Assumes nothing.
-use native.Mathlib.Omega.{arith}
-use Rattle.job.specs.Laws.{ran-long, ran-malformed, ran-refused, may-run, ran-all}
 use mathlib.Core.Path.{refl, _∙_}
+use Rattle.job.specs.Laws.{ran-long, ran-malformed, ran-refused, may-run, ran-all}
 use borrow.Author.Needs.{needs}
 use Rattle.job.proofs.run.Statement.{statement}
 use Rattle.job.proofs.run.Tie as tie
 
+-- places: the start, the head read, what it is, the session opened, opening passed, and the calls run
+abbrev start : tie.After-shared-slice-known → tie.Start
+start c =
+    let after-slice-known5 = c .before .before .before .before .before in
+    after-slice-known5 .before .before .before .before .before
+
+abbrev read : tie.After-slice-known10 → tie.After-read-head
+read c = c .before .before
+
+abbrev told : tie.After-open-arg7 → tie.After-head
+told c =
+    let after-open-arg4 = c .before .before .before in
+    after-open-arg4 .before .before .before .before .before
+
+abbrev opened : tie.After-slice-known15 → tie.After-open
+opened c =
+    let after-marks = c .before .before .before .before .before in
+    after-marks .before .before .before .before .before
+
+abbrev passed : tie.After-run-calls-arg9 → tie.Else2
+passed c =
+    let after-run-calls-arg4 = c .before .before .before .before .before in
+    after-run-calls-arg4 .before .before .before .before .before
+
+abbrev ran : tie.After-slice-known24 → tie.After-run-calls
+ran c =
+    let after-slice-known22 = c .before .before .before .before in
+    let after-marks2 = after-slice-known22 .before .before .before .before .before in
+    let after-tally2 = after-marks2 .before .before .before .before in
+    after-tally2 .before .before .before .before .before
+
 returns : tie.Need-returns
-returns c = ran-long (c .before .before .before .before .before .before .before .before .before .before .before .args .job .now) _ _ (c .if1 .taken)
+returns c = ran-long (start (c .before) .args .job .now) _ _ (c .if1 .taken)
 
 read-head-requires : tie.Need-read-head-requires
 read-head-requires c κs = search needs
@@ -40,107 +70,92 @@ same-length-7 : tie.Need-same-length-7
 same-length-7 c = search needs
 
 same-length-8 : tie.Need-same-length-8
-same-length-8 c = search needs
-
-same-length-9 : tie.Need-same-length-9
-same-length-9 c =
-    let opened = c .before .before .before .before .before .before .before .before .before .before .before in
-    let read = opened .before .before .before .before .before .before .before .before .before .before .before .before .before .before in
-    read .read-head .kept .1 .0
+same-length-8 c = read (told (opened (c .before) .before) .before .before) .read-head .kept .1 .0
 
 returns-2 : tie.Need-returns-2
 returns-2 c =
-    let opened = c .before .before .before .before .before .before .before .before .before .before .before in
-    let sized = opened .before .before .before .before .before .before .before .before .before .before in
-    let read = sized .before .before .before .before in
+    let opened = opened (c .before) in
+    let sized = told (opened .before) in
+    let read = read (sized .before .before) in
     let within = read .before .before in
-    let start = within .before .before .before .before .before .before .before .before .before .before .before in
+    let start = start (within .before) in
     ran-refused (start .args .job .now) (within .if1 .left) _ _ _ _ _ _ (read .read-head .ensures) (sized .head .given .1) _ _ _ _ _
-    (start .pre) (opened .«open» .ensures) (c .if2 .taken)
+    (start .pre) (opened .«open» .ensures _) (c .if2 .taken)
 
 run-calls-requires : tie.Need-run-calls-requires
 run-calls-requires c κs =
-    let passed = c .before .before .before .before .before .before .before .before .before .before in
-    let opened = passed .before .before .before .before .before .before .before .before .before .before .before in
-    let sized = opened .before .before .before .before .before .before .before .before .before .before in
-    let read = sized .before .before .before .before in
+    let passed = passed c in
+    let opened = opened (passed .before) in
+    let sized = told (opened .before) in
+    let read = read (sized .before .before) in
     let within = read .before .before in
-    let start = within .before .before .before .before .before .before .before .before .before .before .before in
+    let start = start (within .before) in
     may-run (start .args .job .now) (within .if1 .left) _ _ _ _ _ _ (read .read-head .ensures) (sized .head .given .1) _ _ _ _ _
-    (start .pre) (opened .«open» .ensures) (passed .if2 .left) _ (read .read-head .kept .1 .0)
+    (start .pre) (opened .«open» .ensures _) (passed .if2 .left) _ (read .read-head .kept .1 .0)
 
 enum-known-head-2 : tie.Need-enum-known-head-2
 enum-known-head-2 c = search needs
 
+same-length-9 : tie.Need-same-length-9
+same-length-9 c = ran c .run-calls .kept .1 .0
+
 same-length-10 : tie.Need-same-length-10
-same-length-10 c = c .before .before .before .before .before .before .before .before .before .before .before .before .before .before .before .before .before .before .run-calls .kept .0
+same-length-10 c = ran c .run-calls .kept .1 .1 .0
 
 same-length-11 : tie.Need-same-length-11
-same-length-11 c = c .before .before .before .before .before .before .before .before .before .before .before .before .before .before .before .before .before .before .run-calls .kept .1 .0
+same-length-11 c =
+    let ran = ran c in
+    ran .run-calls .kept .1 .1 .1 .0 ∙ opened (passed (ran .before) .before) .«open» .kept .1 .1 .0
 
 same-length-12 : tie.Need-same-length-12
 same-length-12 c =
-    let ran = c .before .before .before .before .before .before .before .before .before .before .before .before .before .before .before .before .before .before in
-    let opened = ran .before .before .before .before .before .before .before .before .before .before .before .before .before .before .before .before .before .before .before .before .before .before in
-    ran .run-calls .kept .1 .1 .0 ∙ opened .«open» .kept .0
+    let ran = ran c in
+    ran .run-calls .kept .1 .1 .1 .1 .0 ∙ opened (passed (ran .before) .before) .«open» .kept .1 .1 .1 .0
 
 same-length-13 : tie.Need-same-length-13
 same-length-13 c =
-    let ran = c .before .before .before .before .before .before .before .before .before .before .before .before .before .before .before .before .before .before in
-    let opened = ran .before .before .before .before .before .before .before .before .before .before .before .before .before .before .before .before .before .before .before .before .before .before in
-    ran .run-calls .kept .1 .1 .1 .0 ∙ opened .«open» .kept .1 .0
+    let ran = ran c in
+    ran .run-calls .kept .1 .1 .1 .1 .1 .0 ∙ opened (passed (ran .before) .before) .«open» .kept .1 .1 .1 .1 .0
 
 same-length-14 : tie.Need-same-length-14
 same-length-14 c =
-    let ran = c .before .before .before .before .before .before .before .before .before .before .before .before .before .before .before .before .before .before in
-    let opened = ran .before .before .before .before .before .before .before .before .before .before .before .before .before .before .before .before .before .before .before .before .before .before in
-    ran .run-calls .kept .1 .1 .1 .1 .0 ∙ opened .«open» .kept .1 .1 .0
+    let ran = ran c in
+    ran .run-calls .kept .1 .1 .1 .1 .1 .1 .0 ∙ opened (passed (ran .before) .before) .«open» .kept .1 .1 .1 .1 .1 .0
 
 same-length-15 : tie.Need-same-length-15
 same-length-15 c =
-    let ran = c .before .before .before .before .before .before .before .before .before .before .before .before .before .before .before .before .before .before in
-    let opened = ran .before .before .before .before .before .before .before .before .before .before .before .before .before .before .before .before .before .before .before .before .before .before in
-    ran .run-calls .kept .1 .1 .1 .1 .1 .0 ∙ opened .«open» .kept .1 .1 .1 .0
+    let ran = ran c in
+    ran .run-calls .kept .1 .1 .1 .1 .1 .1 .1 .0 ∙ opened (passed (ran .before) .before) .«open» .kept .1 .1 .1 .1 .1 .1 .0
 
 same-length-16 : tie.Need-same-length-16
-same-length-16 c =
-    let ran = c .before .before .before .before .before .before .before .before .before .before .before .before .before .before .before .before .before .before in
-    let opened = ran .before .before .before .before .before .before .before .before .before .before .before .before .before .before .before .before .before .before .before .before .before .before in
-    ran .run-calls .kept .1 .1 .1 .1 .1 .1 .0 ∙ opened .«open» .kept .1 .1 .1 .1 .0
+same-length-16 c = ran c .run-calls .kept .1 .1 .1 .1 .1 .1 .1 .1 .0
 
 same-length-17 : tie.Need-same-length-17
 same-length-17 c =
-    let ran = c .before .before .before .before .before .before .before .before .before .before .before .before .before .before .before .before .before .before in
-    ran .run-calls .kept .1 .1 .1 .1 .1 .1 .1 .0
-
-same-length-18 : tie.Need-same-length-18
-same-length-18 c =
-    let ran = c .before .before .before .before .before .before .before .before .before .before .before .before .before .before .before .before .before .before in
-    let opened = ran .before .before .before .before .before .before .before .before .before .before .before .before .before .before .before .before .before .before .before .before .before .before in
-    let read = opened .before .before .before .before .before .before .before .before .before .before .before .before .before .before in
-    ran .run-calls .kept .1 .1 .1 .1 .1 .1 .1 .1 .0 ∙ read .read-head .kept .1 .0
+    let ran = ran c in
+    ran .run-calls .kept .1 .1 .1 .1 .1 .1 .1 .1 .1 .0 ∙ read (told (opened (passed (ran .before) .before) .before) .before .before) .read-head .kept .1 .0
 
 returns-3 : tie.Need-returns-3
 returns-3 c =
-    let ran = c .before .before .before .before .before .before .before .before .before .before .before .before .before .before .before .before .before .before in
-    let passed = ran .before .before .before .before .before .before .before .before .before .before .before in
-    let opened = passed .before .before .before .before .before .before .before .before .before .before .before in
-    let sized = opened .before .before .before .before .before .before .before .before .before .before in
-    let read = sized .before .before .before .before in
+    let ran = ran c in
+    let passed = passed (ran .before) in
+    let opened = opened (passed .before) in
+    let sized = told (opened .before) in
+    let read = read (sized .before .before) in
     let within = read .before .before in
-    let start = within .before .before .before .before .before .before .before .before .before .before .before in
+    let start = start (within .before) in
     ran-all (start .args .job .now) (within .if1 .left) _ _ _ _ _ _ (read .read-head .ensures) (sized .head .given .1) _ _ _ _ _
-    (start .pre) (opened .«open» .ensures) (passed .if2 .left) _ _ _ (ran .run-calls .ensures) refl
+    (start .pre) (opened .«open» .ensures _) (passed .if2 .left) _ _ _ (ran .run-calls .ensures) refl
 
-same-length-19 : tie.Need-same-length-19
-same-length-19 c = search needs
+same-length-18 : tie.Need-same-length-18
+same-length-18 c = search needs
 
 returns-4 : tie.Need-returns-4
 returns-4 c =
-    let read = c .before .before .before .before .before in
+    let told = c .before in
+    let read = read (told .before .before) in
     let within = read .before .before in
-    let start = within .before .before .before .before .before .before .before .before .before .before .before in
-    ran-malformed (start .args .job .now) (within .if1 .left) _ _ _ _ (read .read-head .ensures) (read .read-head .kept .1 .0) (c .before .head2 .given .1) _
+    ran-malformed (start (within .before) .args .job .now) (within .if1 .left) _ _ _ _ (read .read-head .ensures) (read .read-head .kept .1 .0) (told .head2 .given .1) _
 
 pub run-spec : {M : Type 1} → statement M
 run-spec =
@@ -158,10 +173,10 @@ run-spec =
     same-length-6
     same-length-7
     same-length-8
-    same-length-9
     returns-2
     run-calls-requires
     enum-known-head-2
+    same-length-9
     same-length-10
     same-length-11
     same-length-12
@@ -170,7 +185,6 @@ run-spec =
     same-length-15
     same-length-16
     same-length-17
-    same-length-18
     returns-3
-    same-length-19
+    same-length-18
     returns-4)

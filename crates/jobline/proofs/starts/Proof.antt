@@ -1,11 +1,10 @@
 -- The key and the line from i on agree as the whole ones do. Assumes nothing.
 use Prim.Native.Nat.{_≤_, _-_}
-use mathlib.Core.Path.{_≡_, refl, sym, _∙_}
+use mathlib.Core.Path.{_≡_, sym, _∙_}
 use lib.ListN.{length, drop}
 use Rattle.jobline.specs.Lines.{begins}
-use Rattle.jobline.specs.Keys.{begins-on, begins-not, begins-short, begins-end, begins-whole}
+use Rattle.jobline.specs.Keys.{begins-on, begins-not, begins-short, begins-end}
 use borrow.Author.Needs.{needs}
-use native.Mathlib.Omega.{arith}
 use Rattle.jobline.proofs.starts.Statement.{statement}
 use Rattle.jobline.proofs.starts.Tie as tie
 
@@ -19,7 +18,10 @@ loop-holds : tie.Need-loop-holds Inv-loop μ-loop
 loop-holds c = search needs
 
 returns : tie.Need-returns Inv-loop μ-loop
-returns c = sym (c .before .before .loop .inv .1 ∙ begins-short (c .before .before .before .args .key .now) (c .before .before .before .args .s .now) (c .before .before .loop .i) (c .before .loop-test .taken) (c .if1 .taken))
+returns c =
+    let at-loop = c .before .before in
+    let start = at-loop .before in
+    sym (at-loop .loop .inv .1 ∙ begins-short (start .args .key .now) (start .args .s .now) (at-loop .loop .i) (c .before .loop-test .taken) (c .if1 .taken))
 
 shared-slice-read-if2 : tie.Need-shared-slice-read-if2 Inv-loop μ-loop
 shared-slice-read-if2 c = search needs
@@ -28,7 +30,12 @@ shared-slice-read-if2-2 : tie.Need-shared-slice-read-if2-2 Inv-loop μ-loop
 shared-slice-read-if2-2 c = search needs
 
 returns-2 : tie.Need-returns-2 Inv-loop μ-loop
-returns-2 c = sym (c .before .before .before .before .before .loop .inv .1 ∙ begins-not (c .before .before .before .before .before .before .args .key .now) (c .before .before .before .before .before .before .args .s .now) (c .before .before .before .before .before .loop .i) (c .before .before .before .before .loop-test .taken) (c .before .before .before .if1 .left) (c .if2 .taken))
+returns-2 c =
+    let else1 = c .before .before .before in
+    let in-loop = else1 .before in
+    let at-loop = in-loop .before in
+    let start = at-loop .before in
+    sym (at-loop .loop .inv .1 ∙ begins-not (start .args .key .now) (start .args .s .now) (at-loop .loop .i) (in-loop .loop-test .taken) (else1 .if1 .left) (c .if2 .taken))
 
 add-i : tie.Need-add-i Inv-loop μ-loop
 add-i c = search needs
@@ -37,7 +44,12 @@ loop-less : tie.Need-loop-less Inv-loop μ-loop
 loop-less c = search needs
 
 loop-again : tie.Need-loop-again Inv-loop μ-loop
-loop-again c = (search needs, c .before .before .before .before .before .loop .inv .1 ∙ begins-on (c .before .before .before .before .before .before .args .key .now) (c .before .before .before .before .before .before .args .s .now) (c .before .before .before .before .before .loop .i) (c .before .before .before .before .loop-test .taken) (c .before .before .before .if1 .left) (c .if2 .left))
+loop-again c =
+    let else1 = c .before .before .before in
+    let in-loop = else1 .before in
+    let at-loop = in-loop .before in
+    let start = at-loop .before in
+    (search needs, at-loop .loop .inv .1 ∙ begins-on (start .args .key .now) (start .args .s .now) (at-loop .loop .i) (in-loop .loop-test .taken) (else1 .if1 .left) (c .if2 .left))
 
 returns-3 : tie.Need-returns-3 Inv-loop μ-loop
 returns-3 c = sym (c .before .loop .inv .1 ∙ begins-end (c .before .before .args .key .now) (c .before .before .args .s .now) (c .before .loop .i) (c .loop-test .left))

@@ -22,7 +22,11 @@ shared-slice-read-if1 : tie.Need-shared-slice-read-if1 Inv-loop μ-loop
 shared-slice-read-if1 c = search needs
 
 returns : tie.Need-returns Inv-loop μ-loop
-returns c = omega (arith, c .before .before .before .loop .inv .1, before-stop (c .before .before .before .before .args .b) (c .before .before .before .before .args .s .now) (c .before .before .before .loop .i) (c .before .before .loop-test .taken) (c .if1 .taken))
+returns c =
+    let in-loop = c .before .before in
+    let at-loop = in-loop .before in
+    let start = at-loop .before in
+    omega (arith, at-loop .loop .inv .1, before-stop (start .args .b) (start .args .s .now) (at-loop .loop .i) (in-loop .loop-test .taken) (c .if1 .taken))
 
 add-i : tie.Need-add-i Inv-loop μ-loop
 add-i c = search needs
@@ -31,10 +35,15 @@ loop-less : tie.Need-loop-less Inv-loop μ-loop
 loop-less c = search needs
 
 loop-again : tie.Need-loop-again Inv-loop μ-loop
-loop-again c = omega (arith, c .before .before .before .loop .inv, before-on (c .before .before .before .before .args .b) (c .before .before .before .before .args .s .now) (c .before .before .before .loop .i) (c .before .before .loop-test .taken) (c .if1 .left))
+loop-again c =
+    let in-loop = c .before .before in
+    let at-loop = in-loop .before in
+    let start = at-loop .before in
+    omega (arith, at-loop .loop .inv, before-on (start .args .b) (start .args .s .now) (at-loop .loop .i) (in-loop .loop-test .taken) (c .if1 .left))
 
 returns-2 : tie.Need-returns-2 Inv-loop μ-loop
-returns-2 c = omega (arith, c .before .loop .inv .1, ap (before (c .before .before .args .b)) (drop-of-length-le (c .before .before .args .s .now) (c .loop-test .left)), before-end (c .before .before .args .b))
+returns-2 c =
+    omega (arith, c .before .loop .inv .1, ap (before (c .before .before .args .b)) (drop-of-length-le (c .before .before .args .s .now) (c .loop-test .left)), before-end (c .before .before .args .b))
 
 pub find-spec : {M : Type 1} → statement M
 find-spec =

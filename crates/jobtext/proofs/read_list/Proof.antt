@@ -15,11 +15,32 @@ Inv-loop s into₀ off at₀ n₀ into at n = Reading s into₀ into off at n
 abbrev μ-loop : tie.MeasureT-loop
 μ-loop s into₀ off at₀ n₀ into at n = length s + 1 - at
 
+-- the places of the code, each named once (-2, -3: the same place, seen from another)
+abbrev to-start : tie.After-find Inv-loop μ-loop → tie.Start Inv-loop μ-loop
+to-start c =
+    let else1 = c .before .before .before in
+    else1 .before .before .before
+
+abbrev to-find : tie.Else2 Inv-loop μ-loop → tie.After-find Inv-loop μ-loop
+to-find c =
+    let at-match-keys1 = c .before .before .before in
+    at-match-keys1 .before .before .before
+
+abbrev to-at-loop : tie.Else2 Inv-loop μ-loop → tie.At-loop Inv-loop μ-loop
+to-at-loop c = to-find c .before .before
+
+abbrev to-start-2 : tie.Else2 Inv-loop μ-loop → tie.Start Inv-loop μ-loop
+to-start-2 c = to-start (to-find c)
+
 returns : tie.Need-returns Inv-loop μ-loop
-returns c = says-none (c .before .before .before .args .s .now) (c .before .before .before .args .into .now) (c .before .before .before .args .off) (c .before .before .before .pre) (c .if1 .taken)
+returns c =
+    let start = c .before .before .before in
+    says-none (start .args .s .now) (start .args .into .now) (start .args .off) (start .pre) (c .if1 .taken)
 
 loop-holds : tie.Need-loop-holds Inv-loop μ-loop
-loop-holds c = reading-begins (c .before .before .before .args .s .now) (c .before .before .before .args .into .now) (c .before .before .before .args .off) (c .if1 .left)
+loop-holds c =
+    let start = c .before .before .before in
+    reading-begins (start .args .s .now) (start .args .into .now) (start .args .off) (c .if1 .left)
 
 find-requires : tie.Need-find-requires Inv-loop μ-loop
 find-requires c κs = search needs
@@ -31,7 +52,7 @@ part-read-number-start : tie.Need-part-read-number-start Inv-loop μ-loop
 part-read-number-start c = search needs
 
 part-read-number-end : tie.Need-part-read-number-end Inv-loop μ-loop
-part-read-number-end c = end-in (c .before .before .loop .inv) (c .before .before .before .before .before .before .pre) (c .find .result) (c .find .ensures)
+part-read-number-end c = end-in (c .before .before .loop .inv) (to-start c .pre) (c .find .result) (c .find .ensures)
 
 read-number-requires : tie.Need-read-number-requires Inv-loop μ-loop
 read-number-requires c κs = search needs
@@ -46,7 +67,12 @@ same-length : tie.Need-same-length Inv-loop μ-loop
 same-length c = search needs
 
 returns-2 : tie.Need-returns-2 Inv-loop μ-loop
-returns-2 c = says-bad (c .before .before .before .before .before .before .loop .inv) (c .before .before .before .before .before .before .before .before .before .before .pre) (c .before .before .before .before .find .result) (c .before .before .before .before .find .ensures) (ap value-of (sym (c .enum-told .given .1)) ∙ c .before .before .read-number .ensures)
+returns-2 c =
+    let after-read-number = c .before .before in
+    let after-find = after-read-number .before .before in
+    let at-loop = after-find .before .before in
+    let start = at-loop .before .before .before .before in
+    says-bad (at-loop .loop .inv) (start .pre) (after-find .find .result) (after-find .find .ensures) (ap value-of (sym (c .enum-told .given .1)) ∙ after-read-number .read-number .ensures)
 
 add-into : tie.Need-add-into Inv-loop μ-loop
 add-into c = search needs
@@ -64,16 +90,35 @@ same-length-2 : tie.Need-same-length-2 Inv-loop μ-loop
 same-length-2 c = search needs
 
 returns-3 : tie.Need-returns-3 Inv-loop μ-loop
-returns-3 c = says-all (c .before .before .before .before .before .before .before .before .loop .inv) (c .before .before .before .before .before .before .before .before .before .before .before .before .pre) (c .before .before .before .before .before .before .find .result) (c .before .before .before .before .before .before .find .ensures) _ (ap value-of (sym (c .before .before .x .given .1)) ∙ c .before .before .before .before .read-number .ensures) (c .if2 .taken)
+returns-3 c =
+    let after-x = c .before .before in
+    let after-read-number = after-x .before .before in
+    let after-find = after-read-number .before .before in
+    let at-loop = after-find .before .before in
+    let start = at-loop .before .before .before .before in
+    says-all (at-loop .loop .inv) (start .pre) (after-find .find .result) (after-find .find .ensures) _
+    (ap value-of (sym (after-x .x .given .1)) ∙ after-read-number .read-number .ensures) (c .if2 .taken)
 
 add-at : tie.Need-add-at Inv-loop μ-loop
-add-at c = omega (arith, end-in (c .before .before .before .before .before .before .before .before .loop .inv) (c .before .before .before .before .before .before .before .before .before .before .before .before .pre) (c .before .before .before .before .before .before .find .result) (c .before .before .before .before .before .before .find .ensures), c .before .before .before .before .before .before .before .before .before .before .before .before .good .0 .0, c .if2 .left)
+add-at c = omega (arith, end-in (to-at-loop c .loop .inv) (to-start-2 c .pre) (to-find c .find .result) (to-find c .find .ensures), to-start-2 c .good .0 .0, c .if2 .left)
 
 loop-less : tie.Need-loop-less Inv-loop μ-loop
-loop-less c = omega (arith, not-empty (c .before .before .before .before .before .before .before .before .loop .inv) (c .before .before .before .before .before .before .before .before .before .before .before .before .pre) (c .before .before .before .before .before .before .find .result) (c .before .before .before .before .before .before .find .ensures) _ (ap value-of (sym (c .before .before .x .given .1)) ∙ c .before .before .before .before .read-number .ensures), end-in (c .before .before .before .before .before .before .before .before .loop .inv) (c .before .before .before .before .before .before .before .before .before .before .before .before .pre) (c .before .before .before .before .before .before .find .result) (c .before .before .before .before .before .before .find .ensures))
+loop-less c =
+    let after-x = c .before .before in
+    let after-read-number = after-x .before .before in
+    omega (
+      arith,
+      not-empty (to-at-loop c .loop .inv) (to-start-2 c .pre) (to-find c .find .result) (to-find c .find .ensures) _
+          (ap value-of (sym (after-x .x .given .1)) ∙ after-read-number .read-number .ensures),
+      end-in (to-at-loop c .loop .inv) (to-start-2 c .pre) (to-find c .find .result) (to-find c .find .ensures),
+    )
 
 loop-again : tie.Need-loop-again Inv-loop μ-loop
-loop-again c = reads-on (c .before .before .before .before .before .before .before .before .loop .inv) (c .before .before .before .before .before .before .before .before .before .before .before .before .pre) (c .before .before .before .before .before .before .find .result) (c .before .before .before .before .before .before .find .ensures) _ (ap value-of (sym (c .before .before .x .given .1)) ∙ c .before .before .before .before .read-number .ensures) (c .if2 .left)
+loop-again c =
+    let after-x = c .before .before in
+    let after-read-number = after-x .before .before in
+    reads-on (to-at-loop c .loop .inv) (to-start-2 c .pre) (to-find c .find .result) (to-find c .find .ensures) _
+    (ap value-of (sym (after-x .x .given .1)) ∙ after-read-number .read-number .ensures) (c .if2 .left)
 
 same-length-3 : tie.Need-same-length-3 Inv-loop μ-loop
 same-length-3 c = search needs

@@ -1,40 +1,79 @@
 -- Each way out is the promise of the session's call. Assumes nothing.
 use native.Mathlib.Omega.{arith}
-use Rattle.jobturn.specs.Laws.{made-as, made-add, made-none, lists-in}
-use Rattle.jobcalls.specs.Told.{call-of}
-use Rattle.jobcalls.specs.declared.Act.{Act}
-use Rattle.rules.specs.Calls as calls
 use lib.ListN.{length-take}
-use mathlib.Core.Path.{ap}
+use Rattle.jobturn.specs.Laws.{called-as, made-add, lists-in}
 use borrow.Author.Needs.{needs}
 use Rattle.jobturn.proofs.make.Statement.{statement}
 use Rattle.jobturn.proofs.make.Tie as tie
 
-enum-known-a : tie.Need-enum-known-a
-enum-known-a c = search needs
+-- places: the start, and for each call what it is and where it was made
+abbrev start : tie.After-shared-slice-known → tie.Start
+start c =
+    let after-slice-known5 = c .before .before .before .before in
+    after-slice-known5 .before .before .before .before .before
+
+abbrev told-set : tie.After-set-arg8 → tie.After-call
+told-set c =
+    let after-set-arg4 = c .before .before .before .before in
+    after-set-arg4 .before .before .before .before .before
+
+abbrev made-set : tie.After-slice-known16 → tie.After-set
+made-set c =
+    let after-slice-known14 = c .before .before .before .before in
+    let after-slice-known12 = after-slice-known14 .before .before .before .before in
+    let after-slice-known10 = after-slice-known12 .before .before .before .before in
+    after-slice-known10 .before .before .before .before
+
+abbrev told-lists : tie.After-add-arg9 → tie.After-call2
+told-lists c =
+    let after-add-arg4 = c .before .before .before .before .before in
+    after-add-arg4 .before .before .before .before .before
+
+abbrev made-lists : tie.After-slice-known24 → tie.After-add
+made-lists c =
+    let after-slice-known22 = c .before .before .before .before in
+    let after-slice-known20 = after-slice-known22 .before .before .before .before in
+    let after-slice-known18 = after-slice-known20 .before .before .before .before in
+    after-slice-known18 .before .before .before .before
+
+abbrev told-flush : tie.After-flush-arg8 → tie.After-enum-told
+told-flush c =
+    let after-flush-arg4 = c .before .before .before .before in
+    after-flush-arg4 .before .before .before .before
+
+abbrev made-flush : tie.After-slice-known32 → tie.After-flush
+made-flush c =
+    let after-slice-known30 = c .before .before .before .before in
+    let after-slice-known28 = after-slice-known30 .before .before .before .before in
+    let after-slice-known26 = after-slice-known28 .before .before .before .before in
+    after-slice-known26 .before .before .before .before
+
+enum-known-call : tie.Need-enum-known-call
+enum-known-call c = search needs
 
 set-requires : tie.Need-set-requires
-set-requires c κs = c .before .before .before .before .before .before .before .before .before .before .before .before .before .before .before .before .before .before .before .before .pre .asks
+set-requires c κs = start (told-set c .before .before) .pre .0
 
-enum-known-a-2 : tie.Need-enum-known-a-2
-enum-known-a-2 c = search needs
+enum-known-call-2 : tie.Need-enum-known-call-2
+enum-known-call-2 c = search needs
 
-add-m : tie.Need-add-m
-add-m c =
-    let start = c .before .before .before .before .before .before .before .before .before .before .before .before in
-    omega (arith, lists-in (start .args .a) (start .args .numbers .now) _ _ (c .before .a2 .given .1) (start .pre .there), start .good .1 .1 .1 .1 .1 .1 .1 .1 .0 .0)
+add-end : tie.Need-add-end
+add-end c =
+    let told = c .before in
+    let start = start (told .before .before) in
+    omega (arith, lists-in (told .call2 .given .1) (start .pre .1), start .good .1 .1 .1 .1 .1 .1 .1 .1 .1 .0 .0)
 
 slice-aggregate-add : tie.Need-slice-aggregate-add
 slice-aggregate-add c =
-    let told = c .before .before .before .before .before .before .before .before .before .before in
-    let start = told .before .before .before .before .before .before .before .before .before .before .before in
-    simp length-take (omega (arith, lists-in (start .args .a) (start .args .numbers .now) _ _ (told .a2 .given .1) (start .pre .there)))
+    let told = told-lists c in
+    let start = start (told .before .before) in
+    simp length-take (omega (arith, lists-in (told .call2 .given .1) (start .pre .1)))
 
 mul-add : tie.Need-mul-add
 mul-add c =
-    let told = c .before .before .before .before .before .before .before .before .before .before in
-    let start = told .before .before .before .before .before .before .before .before .before .before .before in
-    omega (arith, lists-in (start .args .a) (start .args .numbers .now) _ _ (told .a2 .given .1) (start .pre .there), start .good .1 .1 .1 .1 .1 .1 .1 .1 .0 .1)
+    let told = told-lists c in
+    let start = start (told .before .before) in
+    omega (arith, lists-in (told .call2 .given .1) (start .pre .1), start .good .1 .1 .1 .1 .1 .1 .1 .1 .1 .0 .1)
 
 sub-add : tie.Need-sub-add
 sub-add c = search needs
@@ -44,167 +83,119 @@ part-add-start c = search needs
 
 part-add-end : tie.Need-part-add-end
 part-add-end c =
-    let told = c .before .before .before .before .before .before .before .before .before .before in
-    let start = told .before .before .before .before .before .before .before .before .before .before .before in
-    lists-in (start .args .a) (start .args .numbers .now) _ _ (told .a2 .given .1) (start .pre .there)
+    let told = told-lists c in
+    let start = start (told .before .before) in
+    lists-in (told .call2 .given .1) (start .pre .1)
 
 add-requires : tie.Need-add-requires
-add-requires c κs =
-    let start = c .before .before .before .before .before .before .before .before .before .before .before .before .before .before .before .before .before .before .before .before .before .before in
-    start .pre .asks
+add-requires c κs = start (told-lists (c .before) .before .before) .pre .0
 
 enum-told : tie.Need-enum-told
 enum-told c = search needs
 
 flush-requires : tie.Need-flush-requires
-flush-requires c κs = c .before .before .before .before .before .before .before .before .before .before .before .before .before .before .before .before .before .before .before .pre .asks
-
-enum-told-2 : tie.Need-enum-told-2
-enum-told-2 c = search needs
-
-finish-requires : tie.Need-finish-requires
-finish-requires c κs = c .before .before .before .before .before .before .before .before .before .before .before .before .before .before .before .before .before .before .before .pre .asks
-
-enum-told-3 : tie.Need-enum-told-3
-enum-told-3 c = search needs
+flush-requires c κs = start (told-flush c .before .before) .pre .0
 
 same-length : tie.Need-same-length
-same-length c = c .before .before .before .before .before .before .before .before .before .before .before .before .before .before .before .before .set .kept .1 .0
+same-length c = made-set c .set .kept .1 .0
 
 same-length-2 : tie.Need-same-length-2
-same-length-2 c = c .before .before .before .before .before .before .before .before .before .before .before .before .before .before .before .before .set .kept .1 .1 .0
+same-length-2 c = made-set c .set .kept .1 .1 .0
 
 same-length-3 : tie.Need-same-length-3
-same-length-3 c = c .before .before .before .before .before .before .before .before .before .before .before .before .before .before .before .before .set .kept .1 .1 .1 .0
+same-length-3 c = made-set c .set .kept .1 .1 .1 .0
 
 same-length-4 : tie.Need-same-length-4
-same-length-4 c = c .before .before .before .before .before .before .before .before .before .before .before .before .before .before .before .before .set .kept .1 .1 .1 .1 .0
+same-length-4 c = made-set c .set .kept .1 .1 .1 .1 .0
 
 same-length-5 : tie.Need-same-length-5
-same-length-5 c = c .before .before .before .before .before .before .before .before .before .before .before .before .before .before .before .before .set .kept .1 .1 .1 .1 .1 .0
+same-length-5 c = made-set c .set .kept .1 .1 .1 .1 .1 .0
 
 same-length-6 : tie.Need-same-length-6
-same-length-6 c = c .before .before .before .before .before .before .before .before .before .before .before .before .before .before .before .before .set .kept .1 .1 .1 .1 .1 .1 .0
+same-length-6 c = made-set c .set .kept .1 .1 .1 .1 .1 .1 .0
 
 same-length-7 : tie.Need-same-length-7
-same-length-7 c = c .before .before .before .before .before .before .before .before .before .before .before .before .before .before .before .before .set .kept .1 .1 .1 .1 .1 .1 .1 .0
+same-length-7 c = made-set c .set .kept .1 .1 .1 .1 .1 .1 .1 .0
 
 same-length-8 : tie.Need-same-length-8
-same-length-8 c = c .before .before .before .before .before .before .before .before .before .before .before .before .before .before .before .before .set .kept .1 .1 .1 .1 .1 .1 .1 .1 .0
+same-length-8 c = made-set c .set .kept .1 .1 .1 .1 .1 .1 .1 .1 .0
 
 returns : tie.Need-returns
 returns c =
-    let made = c .before .before .before .before .before .before .before .before .before .before .before .before .before .before .before .before in
-    let told = made .before .before .before .before .before .before .before .before .before .before in
-    let start = told .before .before .before .before .before .before .before .before .before .before .before in
-    made-as (start .args .a) (start .args .numbers .now) _ _ _ _ _ (calls.set _) (ap (λ (y : Act). call-of y (start .args .numbers .now)) (told .a .given .1)) (made .set .ensures)
+    let made = made-set c in
+    let told = told-set (made .before) in
+    called-as (start (told .before .before) .args .numbers .now) (told .call .given .1) (made .set .ensures)
 
 same-length-9 : tie.Need-same-length-9
-same-length-9 c = c .before .before .before .before .before .before .before .before .before .before .before .before .before .before .before .before .add .kept .1 .0
+same-length-9 c = made-lists c .add .kept .1 .0
 
 same-length-10 : tie.Need-same-length-10
-same-length-10 c = c .before .before .before .before .before .before .before .before .before .before .before .before .before .before .before .before .add .kept .1 .1 .0
+same-length-10 c = made-lists c .add .kept .1 .1 .0
 
 same-length-11 : tie.Need-same-length-11
-same-length-11 c = c .before .before .before .before .before .before .before .before .before .before .before .before .before .before .before .before .add .kept .1 .1 .1 .0
+same-length-11 c = made-lists c .add .kept .1 .1 .1 .0
 
 same-length-12 : tie.Need-same-length-12
-same-length-12 c = c .before .before .before .before .before .before .before .before .before .before .before .before .before .before .before .before .add .kept .1 .1 .1 .1 .0
+same-length-12 c = made-lists c .add .kept .1 .1 .1 .1 .0
 
 same-length-13 : tie.Need-same-length-13
-same-length-13 c = c .before .before .before .before .before .before .before .before .before .before .before .before .before .before .before .before .add .kept .1 .1 .1 .1 .1 .0
+same-length-13 c = made-lists c .add .kept .1 .1 .1 .1 .1 .0
 
 same-length-14 : tie.Need-same-length-14
-same-length-14 c = c .before .before .before .before .before .before .before .before .before .before .before .before .before .before .before .before .add .kept .1 .1 .1 .1 .1 .1 .0
+same-length-14 c = made-lists c .add .kept .1 .1 .1 .1 .1 .1 .0
 
 same-length-15 : tie.Need-same-length-15
-same-length-15 c = c .before .before .before .before .before .before .before .before .before .before .before .before .before .before .before .before .add .kept .1 .1 .1 .1 .1 .1 .1 .0
+same-length-15 c = made-lists c .add .kept .1 .1 .1 .1 .1 .1 .1 .0
 
 same-length-16 : tie.Need-same-length-16
-same-length-16 c = c .before .before .before .before .before .before .before .before .before .before .before .before .before .before .before .before .add .kept .1 .1 .1 .1 .1 .1 .1 .1 .0
+same-length-16 c = made-lists c .add .kept .1 .1 .1 .1 .1 .1 .1 .1 .0
 
 returns-2 : tie.Need-returns-2
 returns-2 c =
-    let made = c .before .before .before .before .before .before .before .before .before .before .before .before .before .before .before .before in
-    let told = made .before .before .before .before .before .before .before .before .before .before .before .before in
-    let start = told .before .before .before .before .before .before .before .before .before .before .before in
-    made-add (start .args .a) (start .args .numbers .now) _ _ _ _ _ _ _ (told .a2 .given .1) (made .add .ensures)
+    let made = made-lists c in
+    let told = told-lists (made .before .before) in
+    let lists = told .call2 .given .0 in
+    let numbers = start (told .before .before) .args .numbers .now in
+    called-as numbers (told .call2 .given .1) (made-add (lists .0) (lists .1 .0) numbers (made .add .ensures))
 
 same-length-17 : tie.Need-same-length-17
-same-length-17 c = c .before .before .before .before .before .before .before .before .before .before .before .before .before .before .before .before .flush .kept .1 .0
+same-length-17 c = made-flush c .flush .kept .1 .0
 
 same-length-18 : tie.Need-same-length-18
-same-length-18 c = c .before .before .before .before .before .before .before .before .before .before .before .before .before .before .before .before .flush .kept .1 .1 .0
+same-length-18 c = made-flush c .flush .kept .1 .1 .0
 
 same-length-19 : tie.Need-same-length-19
-same-length-19 c = c .before .before .before .before .before .before .before .before .before .before .before .before .before .before .before .before .flush .kept .1 .1 .1 .0
+same-length-19 c = made-flush c .flush .kept .1 .1 .1 .0
 
 same-length-20 : tie.Need-same-length-20
-same-length-20 c = c .before .before .before .before .before .before .before .before .before .before .before .before .before .before .before .before .flush .kept .1 .1 .1 .1 .0
+same-length-20 c = made-flush c .flush .kept .1 .1 .1 .1 .0
 
 same-length-21 : tie.Need-same-length-21
-same-length-21 c = c .before .before .before .before .before .before .before .before .before .before .before .before .before .before .before .before .flush .kept .1 .1 .1 .1 .1 .0
+same-length-21 c = made-flush c .flush .kept .1 .1 .1 .1 .1 .0
 
 same-length-22 : tie.Need-same-length-22
-same-length-22 c = c .before .before .before .before .before .before .before .before .before .before .before .before .before .before .before .before .flush .kept .1 .1 .1 .1 .1 .1 .0
+same-length-22 c = made-flush c .flush .kept .1 .1 .1 .1 .1 .1 .0
 
 same-length-23 : tie.Need-same-length-23
-same-length-23 c = c .before .before .before .before .before .before .before .before .before .before .before .before .before .before .before .before .flush .kept .1 .1 .1 .1 .1 .1 .1 .0
+same-length-23 c = made-flush c .flush .kept .1 .1 .1 .1 .1 .1 .1 .0
 
 same-length-24 : tie.Need-same-length-24
-same-length-24 c = c .before .before .before .before .before .before .before .before .before .before .before .before .before .before .before .before .flush .kept .1 .1 .1 .1 .1 .1 .1 .1 .0
+same-length-24 c = made-flush c .flush .kept .1 .1 .1 .1 .1 .1 .1 .1 .0
 
 returns-3 : tie.Need-returns-3
 returns-3 c =
-    let made = c .before .before .before .before .before .before .before .before .before .before .before .before .before .before .before .before in
-    let told = made .before .before .before .before .before .before .before .before .before in
-    let start = told .before .before .before .before .before .before .before .before .before .before .before in
-    made-as (start .args .a) (start .args .numbers .now) _ _ _ _ _ calls.flush (ap (λ (y : Act). call-of y (start .args .numbers .now)) (told .enum-told .given .1)) (made .flush .ensures)
-
-same-length-25 : tie.Need-same-length-25
-same-length-25 c = c .before .before .before .before .before .before .before .before .before .before .before .before .before .before .before .before .before .finish .kept .1 .0
-
-same-length-26 : tie.Need-same-length-26
-same-length-26 c = c .before .before .before .before .before .before .before .before .before .before .before .before .before .before .before .before .before .finish .kept .1 .1 .0
-
-same-length-27 : tie.Need-same-length-27
-same-length-27 c = c .before .before .before .before .before .before .before .before .before .before .before .before .before .before .before .before .before .finish .kept .1 .1 .1 .0
-
-same-length-28 : tie.Need-same-length-28
-same-length-28 c = c .before .before .before .before .before .before .before .before .before .before .before .before .before .before .before .before .before .finish .kept .1 .1 .1 .1 .0
-
-same-length-29 : tie.Need-same-length-29
-same-length-29 c = c .before .before .before .before .before .before .before .before .before .before .before .before .before .before .before .before .before .finish .kept .1 .1 .1 .1 .1 .0
-
-same-length-30 : tie.Need-same-length-30
-same-length-30 c = c .before .before .before .before .before .before .before .before .before .before .before .before .before .before .before .before .before .finish .kept .1 .1 .1 .1 .1 .1 .0
-
-same-length-31 : tie.Need-same-length-31
-same-length-31 c = c .before .before .before .before .before .before .before .before .before .before .before .before .before .before .before .before .before .finish .kept .1 .1 .1 .1 .1 .1 .1 .0
-
-same-length-32 : tie.Need-same-length-32
-same-length-32 c = c .before .before .before .before .before .before .before .before .before .before .before .before .before .before .before .before .before .finish .kept .1 .1 .1 .1 .1 .1 .1 .1 .0
-
-returns-4 : tie.Need-returns-4
-returns-4 c =
-    let made = c .before .before .before .before .before .before .before .before .before .before .before .before .before .before .before .before .before in
-    let told = made .before .before .before .before .before .before .before .before .before in
-    let start = told .before .before .before .before .before .before .before .before .before .before .before in
-    made-as (start .args .a) (start .args .numbers .now) _ _ _ _ _ calls.final (ap (λ (y : Act). call-of y (start .args .numbers .now)) (told .enum-told2 .given .1)) (made .finish .ensures .called)
-
-returns-5 : tie.Need-returns-5
-returns-5 c =
-    let start = c .before .before .before .before .before .before .before .before .before .before .before in
-    made-none (start .args .a) (start .args .numbers .now) _ _ _ _ _ (c .enum-told3 .given .1)
+    let made = made-flush c in
+    let told = told-flush (made .before) in
+    called-as (start (told .before .before) .args .numbers .now) (told .enum-told .given .1) (made .flush .ensures)
 
 pub make-spec : {M : Type 1} → statement M
 make-spec =
     tie.close
     (tie.spec
-    enum-known-a
+    enum-known-call
     set-requires
-    enum-known-a-2
-    add-m
+    enum-known-call-2
+    add-end
     slice-aggregate-add
     mul-add
     sub-add
@@ -213,9 +204,6 @@ make-spec =
     add-requires
     enum-told
     flush-requires
-    enum-told-2
-    finish-requires
-    enum-told-3
     same-length
     same-length-2
     same-length-3
@@ -242,14 +230,4 @@ make-spec =
     same-length-22
     same-length-23
     same-length-24
-    returns-3
-    same-length-25
-    same-length-26
-    same-length-27
-    same-length-28
-    same-length-29
-    same-length-30
-    same-length-31
-    same-length-32
-    returns-4
-    returns-5)
+    returns-3)

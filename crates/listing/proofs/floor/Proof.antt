@@ -1,42 +1,38 @@
 -- The least so far with that of the entries left is the floor. Assumes nothing.
-use Rattle.listing.specs.Lines.{least-of, floor-none, floor-begins, floor-less, floor-same, floor-ends}
-use Rattle.listing.specs.Listed.{entries-from}
-use Rattle.rules.specs.Listing.{floor}
 use mathlib.Core.Logic.{⊎-elim}
-use lib.ListN.{length, getD}
-use Prim.Native.Nat.{ℕ, _+_, _-_, _*_, _≤_, _<_, _^_}
-use mathlib.Core.Path.{_≡_, refl, sym, ap, _∙_, subst}
-use borrow.Author.Needs.{needs}
+use mathlib.Core.Path.{_≡_, _∙_}
+use Prim.Native.Nat.{_-_, _≤_, _<_, _^_}
 use native.Mathlib.Omega.{arith}
+use Rattle.rules.specs.Listing.{floor}
+use Rattle.listing.specs.Listed.{entries-from}
+use Rattle.listing.specs.Lines.{least-of, floor-none, floor-begins, floor-less, floor-same, floor-ends}
+use borrow.Author.Needs.{needs}
 use Rattle.listing.proofs.floor.Statement.{statement}
 use Rattle.listing.proofs.floor.Tie as tie
 
 abbrev Inv-loop : tie.InvT-loop
-Inv-loop order n least₀ i₀ least i = (1 ≤ i) × ((i ≤ n) × ((least < 4294967296) × (floor (entries-from order 0 n) ≡ least-of least (entries-from order i (n - i)))))
+Inv-loop order n least₀ i₀ least i = (1 ≤ i) × ((i ≤ n) × ((least < 2 ^ 32) × (floor (entries-from order 0 n) ≡ least-of least (entries-from order i (n - i)))))
 
 abbrev μ-loop : tie.MeasureT-loop
 μ-loop order n least₀ i₀ least i = n - i
 
-returns : tie.Need-returns Inv-loop μ-loop
-returns c = floor-none (c .before .args .order .now) (c .before .args .n) (c .if1 .taken)
+-- the start, from the test of n
+abbrev start : tie.Else1 Inv-loop μ-loop → tie.Start Inv-loop μ-loop
+start c = c .before .before
 
-shared-slice-read-least : tie.Need-shared-slice-read-least Inv-loop μ-loop
-shared-slice-read-least c = search needs
+returns : tie.Need-returns Inv-loop μ-loop
+returns c = let a = c .before .before .args in floor-none (a .order .now) (a .n) (c .if1 .taken)
+
+parallelism-at-requires : tie.Need-parallelism-at-requires Inv-loop μ-loop
+parallelism-at-requires c κs = search needs
 
 loop-holds : tie.Need-loop-holds Inv-loop μ-loop
-loop-holds c = (omega arith, (omega arith, (omega (arith, c .shared-slice-known .given 3), floor-begins (c .before .before .args .order .now) (c .before .before .args .n) (c .before .if1 .left))))
+loop-holds c =
+    let a = start (c .before) .args in
+    (omega arith, (omega arith, (omega (arith, c .parallelism-at .ok), rw (c .parallelism-at .ensures) (floor-begins (a .order .now) (a .n) (c .before .if1 .left)))))
 
-mul-p : tie.Need-mul-p Inv-loop μ-loop
-mul-p c = search needs
-
-add-p : tie.Need-add-p Inv-loop μ-loop
-add-p c = search needs
-
-mul-p-2 : tie.Need-mul-p-2 Inv-loop μ-loop
-mul-p-2 c = search needs
-
-shared-slice-read-p : tie.Need-shared-slice-read-p Inv-loop μ-loop
-shared-slice-read-p c = search needs
+parallelism-at-requires-2 : tie.Need-parallelism-at-requires-2 Inv-loop μ-loop
+parallelism-at-requires-2 c κs = search needs
 
 add-i : tie.Need-add-i Inv-loop μ-loop
 add-i c = search needs
@@ -45,13 +41,40 @@ loop-less : tie.Need-loop-less Inv-loop μ-loop
 loop-less c = search needs
 
 loop-again : tie.Need-loop-again Inv-loop μ-loop
-loop-again c = ⊎-elim
-    (λ w. (omega arith, (omega arith, (omega (arith, w), floor-less (c .before .before .before .before .before .before .args .order .now) (c .before .before .before .before .before .before .args .n) (c .before .before .before .loop .i) (c .before .before .before .loop .least) (c .if2 .least) _ (c .before .before .loop-test .taken) (c .before .before .before .loop .inv .1 .1 .1) (w .0 .taken) (w .1)))))
-    (λ w. (omega arith, (omega arith, (omega (arith, w), floor-same (c .before .before .before .before .before .before .args .order .now) (c .before .before .before .before .before .before .args .n) (c .before .before .before .loop .i) (c .before .before .before .loop .least) (c .if2 .least) _ (c .before .before .loop-test .taken) (c .before .before .before .loop .inv .1 .1 .1) (w .0 .left) (w .1)))))
+loop-again c =
+    let read = c .before in
+    let loop = read .before .before in
+    let a = start (loop .before .before) .args in
+    let i = loop .loop .i in
+    let p = read .parallelism-at2 in
+    ⊎-elim
+    (λ w. (
+      omega arith,
+      (
+        omega arith,
+        (
+          omega (arith, w, p .ok),
+          floor-less (a .order .now) (a .n) i (loop .loop .least) (c .if2 .least) _ (read .before .loop-test .taken) (loop .loop .inv .1 .1 .1) (rw (p .ensures) at (w .0 .taken)) (w .1 ∙ p .ensures),
+        ),
+      ),
+    ))
+    (λ w. (
+      omega arith,
+      (
+        omega arith,
+        (
+          omega (arith, w),
+          floor-same (a .order .now) (a .n) i (loop .loop .least) (c .if2 .least) _ (read .before .loop-test .taken) (loop .loop .inv .1 .1 .1) (rw (p .ensures) at (w .0 .left)) (w .1),
+        ),
+      ),
+    ))
     (c .if2 .came)
 
 returns-2 : tie.Need-returns-2 Inv-loop μ-loop
-returns-2 c = floor-ends (c .before .before .before .before .args .order .now) (c .before .before .before .before .args .n) (c .before .loop .i) (c .before .loop .least) _ (c .loop-test .left) (c .before .loop .inv .1 .1 .1)
+returns-2 c =
+    let loop = c .before in
+    let a = start (loop .before .before) .args in
+    floor-ends (a .order .now) (a .n) (loop .loop .i) (loop .loop .least) _ (c .loop-test .left) (loop .loop .inv .1 .1 .1)
 
 pub floor-spec : {M : Type 1} → statement M
 floor-spec =
@@ -60,12 +83,9 @@ floor-spec =
     Inv-loop
     μ-loop
     returns
-    shared-slice-read-least
+    parallelism-at-requires
     loop-holds
-    mul-p
-    add-p
-    mul-p-2
-    shared-slice-read-p
+    parallelism-at-requires-2
     add-i
     loop-less
     loop-again

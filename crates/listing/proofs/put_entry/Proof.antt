@@ -1,47 +1,143 @@
 -- Five words with their numbers, the last as a line; 32 bits have at most 10 digits. Assumes nothing.
+use Prim.Native.Nat.{_+_, _≤_}
 use native.Mathlib.Omega.{arith}
-use Rattle.listing.specs.Lines.{wrote-entry}
-use Rattle.writer.specs.Lines.{field-few, line-few32}
 use Rattle.rules.specs.Listing.{word-order, word-added, word-accepted, word-parallelism, word-written}
+use Rattle.writer.specs.Lines.{field-few, line-few32}
+use Rattle.listing.specs.Lines.{wrote-entry}
 use borrow.Author.Needs.{needs}
 use Rattle.listing.proofs.put_entry.Statement.{statement}
 use Rattle.listing.proofs.put_entry.Tie as tie
+
+-- places: the start, and each field, as the next one finds it
+abbrev start : tie.After-put-field → tie.Start
+start c = c .before .before .before .before
+
+abbrev one : tie.After-struct-known → tie.After-put-field
+one c = c .before .before .before .before .before
+
+abbrev two : tie.After-struct-known2 → tie.After-put-field2
+two c = c .before .before .before .before .before
+
+abbrev three : tie.After-struct-known3 → tie.After-put-field3
+three c = c .before .before .before .before .before
+
+abbrev four : tie.After-put-line-arg2 → tie.After-put-field4
+four c = c .before .before .before .before
+
+-- how far the fields reach
+upto-1 : (c : tie.After-put-field) → c .put-field .result ≤ start c .args .at + 16
+upto-1 c = omega (arith, c .put-field .ensures .next, field-few word-order (start c .args .index) (start c .pre .0))
+
+upto-2 : (c : tie.After-put-field2) → c .put-field2 .result ≤ start (one (c .before)) .args .at + 33
+upto-2 c =
+    let known = c .before .struct-known .given .1 .0 .fits in
+    omega (arith, c .put-field2 .ensures .next, upto-1 (one (c .before)), field-few word-added (start (one (c .before)) .args .e .added) known)
+
+upto-3 : (c : tie.After-put-field3) → c .put-field3 .result ≤ start (one (two (c .before) .before)) .args .at + 53
+upto-3 c =
+    let known = c .before .struct-known2 .given .1 .1 .0 .fits in
+    omega (arith, c .put-field3 .ensures .next, upto-2 (two (c .before)), field-few word-accepted (start (one (two (c .before) .before)) .args .e .accepted) known)
+
+upto-4 : (c : tie.After-put-field4) → c .put-field4 .result ≤ start (one (two (three (c .before) .before) .before)) .args .at + 76
+upto-4 c =
+    let known = c .before .struct-known3 .given .1 .1 .1 .0 .fits in
+    let first = one (two (three (c .before) .before) .before) in
+    omega (arith, c .put-field4 .ensures .next, upto-3 (three (c .before)), field-few word-parallelism (start first .args .e .parallelism) known)
 
 slice-aggregate-put-field : tie.Need-slice-aggregate-put-field
 slice-aggregate-put-field c = search needs
 
 put-field-requires : tie.Need-put-field-requires
-put-field-requires c κs = omega (arith, field-few word-order (c .before .before .before .args .index) (omega (arith, c .before .before .before .pre .0)), c .before .before .before .pre .1)
+put-field-requires c κs =
+    let start = c .before .before .before in
+    omega (arith, field-few word-order (start .args .index) (start .pre .0), start .pre .1)
 
 slice-aggregate-put-field-2 : tie.Need-slice-aggregate-put-field-2
 slice-aggregate-put-field-2 c = search needs
 
+cast-put-field : tie.Need-cast-put-field
+cast-put-field c = search needs
+
 put-field-requires-2 : tie.Need-put-field-requires-2
-put-field-requires-2 c κs = omega (arith, field-few word-order (c .before .before .before .before .before .before .before .before .args .index) (omega (arith, c .before .before .before .before .before .before .before .before .pre .0)), field-few word-added (c .before .before .before .before .before .before .before .before .args .added) (c .before .before .before .before .before .before .before .before .fits .added .fits), c .before .before .before .before .put-field .ensures .next, c .before .before .before .before .put-field .kept .0, c .before .before .before .before .before .before .before .before .pre .1)
+put-field-requires-2 c κs =
+    let last = one c in
+    omega (arith, upto-1 last, field-few word-added (start last .args .e .added) (c .struct-known .given .1 .0 .fits), last .put-field .kept .0, start last .pre .1)
 
 slice-aggregate-put-field-3 : tie.Need-slice-aggregate-put-field-3
 slice-aggregate-put-field-3 c = search needs
 
+cast-put-field-2 : tie.Need-cast-put-field-2
+cast-put-field-2 c = search needs
+
 put-field-requires-3 : tie.Need-put-field-requires-3
-put-field-requires-3 c κs = omega (arith, field-few word-order (c .before .before .before .before .before .before .before .before .before .before .before .before .before .args .index) (omega (arith, c .before .before .before .before .before .before .before .before .before .before .before .before .before .pre .0)), field-few word-added (c .before .before .before .before .before .before .before .before .before .before .before .before .before .args .added) (c .before .before .before .before .before .before .before .before .before .before .before .before .before .fits .added .fits), field-few word-accepted (c .before .before .before .before .before .before .before .before .before .before .before .before .before .args .accepted) (c .before .before .before .before .before .before .before .before .before .before .before .before .before .fits .accepted .fits), c .before .before .before .before .before .before .before .before .before .put-field .ensures .next, c .before .before .before .before .before .before .before .before .before .put-field .kept .0, c .before .before .before .before .put-field2 .ensures .next, c .before .before .before .before .put-field2 .kept .0, c .before .before .before .before .before .before .before .before .before .before .before .before .before .pre .1)
+put-field-requires-3 c κs =
+    let last = two c in
+    let first = one (last .before) in
+    omega (
+      arith,
+      upto-2 last,
+      field-few word-accepted (start first .args .e .accepted) (c .struct-known2 .given .1 .1 .0 .fits),
+      last .put-field2 .kept .0,
+      first .put-field .kept .0,
+      start first .pre .1,
+    )
 
 slice-aggregate-put-field-4 : tie.Need-slice-aggregate-put-field-4
 slice-aggregate-put-field-4 c = search needs
 
+cast-put-field-3 : tie.Need-cast-put-field-3
+cast-put-field-3 c = search needs
+
 put-field-requires-4 : tie.Need-put-field-requires-4
-put-field-requires-4 c κs = omega (arith, field-few word-order (c .before .before .before .before .before .before .before .before .before .before .before .before .before .before .before .before .before .before .args .index) (omega (arith, c .before .before .before .before .before .before .before .before .before .before .before .before .before .before .before .before .before .before .pre .0)), field-few word-added (c .before .before .before .before .before .before .before .before .before .before .before .before .before .before .before .before .before .before .args .added) (c .before .before .before .before .before .before .before .before .before .before .before .before .before .before .before .before .before .before .fits .added .fits), field-few word-accepted (c .before .before .before .before .before .before .before .before .before .before .before .before .before .before .before .before .before .before .args .accepted) (c .before .before .before .before .before .before .before .before .before .before .before .before .before .before .before .before .before .before .fits .accepted .fits), field-few word-parallelism (c .before .before .before .before .before .before .before .before .before .before .before .before .before .before .before .before .before .before .args .parallelism) (c .before .before .before .before .before .before .before .before .before .before .before .before .before .before .before .before .before .before .fits .parallelism .fits), c .before .before .before .before .before .before .before .before .before .before .before .before .before .before .put-field .ensures .next, c .before .before .before .before .before .before .before .before .before .before .before .before .before .before .put-field .kept .0, c .before .before .before .before .before .before .before .before .before .put-field2 .ensures .next, c .before .before .before .before .before .before .before .before .before .put-field2 .kept .0, c .before .before .before .before .put-field3 .ensures .next, c .before .before .before .before .put-field3 .kept .0, c .before .before .before .before .before .before .before .before .before .before .before .before .before .before .before .before .before .before .pre .1)
+put-field-requires-4 c κs =
+    let last = three c in
+    let second = two (last .before) in
+    let first = one (second .before) in
+    omega (
+      arith,
+      upto-3 last,
+      field-few word-parallelism (start first .args .e .parallelism) (c .struct-known3 .given .1 .1 .1 .0 .fits),
+      last .put-field3 .kept .0,
+      second .put-field2 .kept .0,
+      first .put-field .kept .0,
+      start first .pre .1,
+    )
 
 slice-aggregate-put-line : tie.Need-slice-aggregate-put-line
 slice-aggregate-put-line c = search needs
 
 put-line-requires : tie.Need-put-line-requires
-put-line-requires c κs = omega (arith, field-few word-order (c .before .before .before .before .before .before .before .before .before .before .before .before .before .before .before .before .before .before .before .before .before .before .before .args .index) (omega (arith, c .before .before .before .before .before .before .before .before .before .before .before .before .before .before .before .before .before .before .before .before .before .before .before .pre .0)), field-few word-added (c .before .before .before .before .before .before .before .before .before .before .before .before .before .before .before .before .before .before .before .before .before .before .before .args .added) (c .before .before .before .before .before .before .before .before .before .before .before .before .before .before .before .before .before .before .before .before .before .before .before .fits .added .fits), field-few word-accepted (c .before .before .before .before .before .before .before .before .before .before .before .before .before .before .before .before .before .before .before .before .before .before .before .args .accepted) (c .before .before .before .before .before .before .before .before .before .before .before .before .before .before .before .before .before .before .before .before .before .before .before .fits .accepted .fits), field-few word-parallelism (c .before .before .before .before .before .before .before .before .before .before .before .before .before .before .before .before .before .before .before .before .before .before .before .args .parallelism) (c .before .before .before .before .before .before .before .before .before .before .before .before .before .before .before .before .before .before .before .before .before .before .before .fits .parallelism .fits), line-few32 word-written (c .before .before .before .before .before .before .before .before .before .before .before .before .before .before .before .before .before .before .before .before .before .before .before .args .written) (c .before .before .before .before .before .before .before .before .before .before .before .before .before .before .before .before .before .before .before .before .before .before .before .fits .written .fits), c .before .before .before .before .before .before .before .before .before .before .before .before .before .before .before .before .before .before .before .put-field .ensures .next, c .before .before .before .before .before .before .before .before .before .before .before .before .before .before .before .before .before .before .before .put-field .kept .0, c .before .before .before .before .before .before .before .before .before .before .before .before .before .before .put-field2 .ensures .next, c .before .before .before .before .before .before .before .before .before .before .before .before .before .before .put-field2 .kept .0, c .before .before .before .before .before .before .before .before .before .put-field3 .ensures .next, c .before .before .before .before .before .before .before .before .before .put-field3 .kept .0, c .before .before .before .before .put-field4 .ensures .next, c .before .before .before .before .put-field4 .kept .0, c .before .before .before .before .before .before .before .before .before .before .before .before .before .before .before .before .before .before .before .before .before .before .before .pre .1)
+put-line-requires c κs =
+    let last = four c in
+    let third = three (last .before) in
+    let second = two (third .before) in
+    let first = one (second .before) in
+    omega (
+      arith,
+      upto-4 last,
+      line-few32 word-written (start first .args .written) (start first .fits .written .fits),
+      last .put-field4 .kept .0,
+      third .put-field3 .kept .0,
+      second .put-field2 .kept .0,
+      first .put-field .kept .0,
+      start first .pre .1,
+    )
 
 same-length : tie.Need-same-length
 same-length c = search needs
 
 returns : tie.Need-returns
-returns c = wrote-entry (c .before .before .before .before .before .before .before .before .before .before .before .before .before .before .before .before .before .before .before .before .before .before .before .before .before .before .args .index) (c .before .before .before .before .before .before .before .before .before .before .before .before .before .before .before .before .before .before .before .before .before .before .before .before .before .before .args .added) (c .before .before .before .before .before .before .before .before .before .before .before .before .before .before .before .before .before .before .before .before .before .before .before .before .before .before .args .accepted) (c .before .before .before .before .before .before .before .before .before .before .before .before .before .before .before .before .before .before .before .before .before .before .before .before .before .before .args .parallelism) (c .before .before .before .before .before .before .before .before .before .before .before .before .before .before .before .before .before .before .before .before .before .before .before .before .before .before .args .written) (c .before .before .before .before .before .before .before .before .before .before .before .before .before .before .before .before .before .before .before .before .before .before .put-field .ensures) (c .before .before .before .before .before .before .before .before .before .before .before .before .before .before .before .before .before .put-field2 .ensures) (c .before .before .before .before .before .before .before .before .before .before .before .before .put-field3 .ensures) (c .before .before .before .before .before .before .before .put-field4 .ensures) (c .before .before .put-line .ensures)
+returns c =
+    let last = c .before .before in
+    let fourth = four (last .before) in
+    let third = three (fourth .before) in
+    let second = two (third .before) in
+    let first = one (second .before) in
+    let start = start first in (
+      wrote-entry (start .args .index) (start .args .e) (start .args .written) (first .put-field .ensures) (second .put-field2 .ensures) (third .put-field3 .ensures)
+          (fourth .put-field4 .ensures) (last .put-line .ensures),
+      omega (arith, upto-4 fourth, last .put-line .ensures .next, line-few32 word-written (start .args .written) (start .fits .written .fits)),
+    )
 
 pub put-entry-spec : {M : Type 1} → statement M
 put-entry-spec =
@@ -50,10 +146,13 @@ put-entry-spec =
     slice-aggregate-put-field
     put-field-requires
     slice-aggregate-put-field-2
+    cast-put-field
     put-field-requires-2
     slice-aggregate-put-field-3
+    cast-put-field-2
     put-field-requires-3
     slice-aggregate-put-field-4
+    cast-put-field-3
     put-field-requires-4
     slice-aggregate-put-line
     put-line-requires

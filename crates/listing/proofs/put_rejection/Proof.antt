@@ -11,19 +11,35 @@ slice-aggregate-put-line : tie.Need-slice-aggregate-put-line
 slice-aggregate-put-line c = search needs
 
 put-line-requires : tie.Need-put-line-requires
-put-line-requires c κs = omega (arith, line-few word-status (c .before .before .before .args .code) (c .before .before .before .fits .code .fits), c .before .before .before .pre)
+put-line-requires c κs =
+    let start = c .before .before .before in
+    omega (arith, line-few word-status (start .args .code) (start .fits .code .fits), start .pre)
 
 slice-aggregate-put-line-2 : tie.Need-slice-aggregate-put-line-2
 slice-aggregate-put-line-2 c = search needs
 
 put-line-requires-2 : tie.Need-put-line-requires-2
-put-line-requires-2 c κs = omega (arith, line-few word-status (c .before .before .before .before .before .before .before .before .args .code) (c .before .before .before .before .before .before .before .before .fits .code .fits), line-few word-line (c .before .before .before .before .before .before .before .before .args .line) (c .before .before .before .before .before .before .before .before .fits .line .fits), c .before .before .before .before .put-line .ensures .next, c .before .before .before .before .put-line .kept .0, c .before .before .before .before .before .before .before .before .pre)
+put-line-requires-2 c κs =
+    let after-put-line = c .before .before .before .before in
+    let start = after-put-line .before .before .before .before in
+    omega (
+      arith,
+      line-few word-status (start .args .code) (start .fits .code .fits),
+      line-few word-line (start .args .line) (start .fits .line .fits),
+      after-put-line .put-line .ensures .next,
+      after-put-line .put-line .kept .0,
+      start .pre,
+    )
 
 same-length : tie.Need-same-length
 same-length c = search needs
 
 returns : tie.Need-returns
-returns c = wrote-rejection (c .before .before .before .before .before .before .before .before .before .before .before .args .line) (c .before .before .before .before .before .before .before .before .before .before .before .args .code) (c .before .before .before .before .before .before .before .put-line .ensures) (c .before .before .put-line2 .ensures)
+returns c =
+    let after-put-line2 = c .before .before in
+    let after-put-line = after-put-line2 .before .before .before .before .before in
+    let start = after-put-line .before .before .before .before in
+    wrote-rejection (start .args .line) (start .args .code) (after-put-line .put-line .ensures) (after-put-line2 .put-line2 .ensures)
 
 pub put-rejection-spec : {M : Type 1} → statement M
 put-rejection-spec =

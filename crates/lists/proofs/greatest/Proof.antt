@@ -17,6 +17,13 @@ Inv-loop xs m₀ i₀ m i = (i ≤ length xs) × (greatest xs ≡ max m (greates
 abbrev μ-loop : tie.MeasureT-loop
 μ-loop xs m₀ i₀ m i = length xs - i
 
+-- places of the code: the start, seen from the loop; the turn that reads a number
+abbrev start : tie.At-loop Inv-loop μ-loop → tie.Start Inv-loop μ-loop
+start c = c .before
+
+abbrev turn : tie.Joined1 Inv-loop μ-loop → tie.In-loop Inv-loop μ-loop
+turn c = c .before .before
+
 loop-holds : tie.Need-loop-holds Inv-loop μ-loop
 loop-holds c = (omega arith, greatest-begins (now (c .args .xs)))
 
@@ -33,10 +40,21 @@ loop-less : tie.Need-loop-less Inv-loop μ-loop
 loop-less c = omega arith
 
 loop-again : tie.Need-loop-again Inv-loop μ-loop
-loop-again c = let a = c .before .before .before .before .args in let l = c .before .before .before .loop in let h = c .before .before .loop-test .taken in (omega arith, l .inv .1 ∙ ⊎-elim (λ k. greatest-more (now (a .xs)) (l .m) (l .i) h (omega (arith, k .0 .taken)) ∙ ap (λ x. max x (greatest (drop (l .i + 1) (now (a .xs))))) (sym (k .1))) (λ k. greatest-less (now (a .xs)) (l .m) (l .i) h (omega (arith, k .0 .left)) ∙ ap (λ x. max x (greatest (drop (l .i + 1) (now (a .xs))))) (sym (k .1))) (c .if1 .came))
+loop-again c =
+    let t = turn c in
+    let xs = now (start (t .before) .args .xs) in
+    let l = t .before .loop in
+    let h = t .loop-test .taken in (
+      omega arith,
+      l .inv .1
+          ∙ ⊎-elim (λ k. greatest-more xs (l .m) (l .i) h (omega (arith, k .0 .taken)) ∙ ap (λ x. max x (greatest (drop (l .i + 1) xs))) (sym (k .1)))
+          (λ k. greatest-less xs (l .m) (l .i) h (omega (arith, k .0 .left)) ∙ ap (λ x. max x (greatest (drop (l .i + 1) xs))) (sym (k .1))) (c .if1 .came),
+    )
 
 returns : tie.Need-returns Inv-loop μ-loop
-returns c = let a = c .before .before .args in let l = c .before .loop in sym (l .inv .1 ∙ greatest-ends (now (a .xs)) (l .m) (l .i) (c .loop-test .left))
+returns c =
+    let l = c .before .loop in
+    sym (l .inv .1 ∙ greatest-ends (now (start (c .before) .args .xs)) (l .m) (l .i) (c .loop-test .left))
 
 pub greatest-spec : {M : Type 1} → statement M
 greatest-spec =

@@ -1,4 +1,4 @@
--- `opening::check_open` meets its contract: a law for each way out.
+-- A law for each way out. Assumes nothing.
 use Rattle.opening.specs.Refusal.{low-p, high-p, low-v, high-v, short-of, enough}
 use mathlib.Core.Path.{sym, _∙_}
 use borrow.Author.Needs.{needs}
@@ -15,16 +15,25 @@ returns-3 : tie.Need-returns-3
 returns-3 c = low-v _ _ _ (c .before .before .if1 .left) (c .before .if2 .left) (c .if3 .taken)
 
 returns-4 : tie.Need-returns-4
-returns-4 c = high-v _ _ _ (c .before .before .before .if1 .left) (c .before .before .if2 .left) (c .before .if3 .left) (c .if4 .taken)
+returns-4 c =
+    let else2 = c .before .before in
+    let else1 = else2 .before in
+    high-v _ _ _ (else1 .if1 .left) (else2 .if2 .left) (c .before .if3 .left) (c .if4 .taken)
 
 too-short-requires : tie.Need-too-short-requires
 too-short-requires c κs = search needs
 
 returns-5 : tie.Need-returns-5
-returns-5 c = short-of _ _ _ (c .before .before .before .before .before .if1 .left) (c .before .before .before .before .if2 .left) (c .before .before .before .if3 .left) (c .before .before .if4 .left) (sym (c .before .too-short .ensures) ∙ c .if5 .taken)
+returns-5 c =
+    let v = c .before .before in
+    let p = v .before .before in
+    short-of _ _ _ (p .before .if1 .left) (p .if2 .left) (v .before .if3 .left) (v .if4 .left) (sym (c .before .too-short .ensures) ∙ c .if5 .taken)
 
 returns-6 : tie.Need-returns-6
-returns-6 c = enough _ _ _ (c .before .before .before .before .before .if1 .left) (c .before .before .before .before .if2 .left) (c .before .before .before .if3 .left) (c .before .before .if4 .left) (sym (c .before .too-short .ensures) ∙ c .if5 .left)
+returns-6 c =
+    let v = c .before .before in
+    let p = v .before .before in
+    enough _ _ _ (p .before .if1 .left) (p .if2 .left) (v .before .if3 .left) (v .if4 .left) (sym (c .before .too-short .ensures) ∙ c .if5 .left)
 
 pub check-open-spec : {M : Type 1} → statement M
 check-open-spec =

@@ -10,7 +10,7 @@ fresh-requires : tie.Need-fresh-requires
 fresh-requires c κs = search needs
 
 returns : tie.Need-returns
-returns c = ap (λ (g : Guide). record { guide = g; lead = 0; added = 0; used = 0; delayed = 0; flushes = 0; closed = false; registrations = 0; places = 0 }) (c .fresh .ensures)
+returns c = ap (λ (g : Guide). record { guide = g; watermark = 0; added = 0; used = 0; delayed = 0; flushes = 0; closed = false; registrations = 0; places = 0 }) (c .fresh .ensures)
 
 pub fresh-spec : {M : Type 1} → statement M
 fresh-spec = tie.close (tie.spec fresh-requires returns)

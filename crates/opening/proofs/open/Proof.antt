@@ -1,11 +1,28 @@
--- `opening::open` meets its contract: refused by the checks, or the fresh session over cleared storage.
-use native.Mathlib.Omega.{arith}
+-- `opening::open` meets its contract: refused by the checks, or begun.
 use denote.Ref.{now}
 use mathlib.Core.Path.{sym, _∙_}
-use Rattle.opening.specs.Opened.{opens-refused, lengths-of, opens-done}
+use mathlib.Core.List.{[]}
+use Rattle.opening.specs.Opened.{opens-refused, lengths-of}
 use borrow.Author.Needs.{needs}
 use Rattle.opening.proofs.open.Statement.{statement}
 use Rattle.opening.proofs.open.Tie as tie
+
+-- the places of the code, each named once
+abbrev to-start : tie.After-check-open → tie.Start
+to-start c =
+    let after-slice-known5 = c .before .before .before in
+    after-slice-known5 .before .before .before .before .before
+
+abbrev to-else1 : tie.After-begin → tie.Else1
+to-else1 c =
+    let after-begin-arg3 = c .before .before .before in
+    after-begin-arg3 .before .before .before
+
+-- the session begun, seen from the end
+abbrev begun : tie.After-slice-known10 → tie.After-begin
+begun c =
+    let after-marks = c .before .before .before .before .before in
+    after-marks .before .before .before .before .before
 
 check-open-requires : tie.Need-check-open-requires
 check-open-requires c κs = search needs
@@ -14,37 +31,40 @@ fresh-requires : tie.Need-fresh-requires
 fresh-requires c κs = search needs
 
 returns : tie.Need-returns
-returns c = let a = c .before .before .before .before .before .before .before .before .before .before .before .args in opens-refused (a .p) (a .v) (now (a .spans)) (now (a .order)) (now (a .tally)) (now (a .rows)) (now (a .marks)) (now (a .locs)) (now (a .waiting)) (now (a .pool)) (c .before .before .check-open .result) (c .fresh .result) (c .before .before .check-open .ensures) (c .before .if1 .taken) (c .fresh .ensures)
+returns c = let a = to-start (c .before .before) .args in
+    let n = c .before .before .check-open in
+    λ pool. opens-refused (a .p) (a .v) (now (a .spans)) (now (a .order)) (now (a .tally)) (now (a .rows)) (now (a .marks)) (now (a .locations)) (now (a .waiting)) pool
+    (n .result) (c .fresh .result) (n .ensures) (c .before .if1 .taken) (c .fresh .ensures)
 
-clear-requires : tie.Need-clear-requires
-clear-requires c κs = let a = c .before .before .before .before .before .before .before .before .before .before .before .before .before .before .before .args in lengths-of (a .p) (a .v) (now (a .spans)) (now (a .order)) (now (a .tally)) (now (a .rows)) (now (a .marks)) (now (a .locs)) (now (a .waiting)) (now (a .pool)) (sym (c .before .before .before .before .before .if1 .left) ∙ c .before .before .before .before .before .before .check-open .ensures)
-
-cast-fresh : tie.Need-cast-fresh
-cast-fresh c = let a = c .before .before .before .before .before .before .before .before .before .before .before .before .before .before .before .before .before .before .before .before .before .before .before .before .before .before .args in omega (arith, lengths-of (a .p) (a .v) (now (a .spans)) (now (a .order)) (now (a .tally)) (now (a .rows)) (now (a .marks)) (now (a .locs)) (now (a .waiting)) (now (a .pool)) (sym (c .before .before .before .before .before .before .before .before .before .before .before .before .before .before .before .before .if1 .left) ∙ c .before .before .before .before .before .before .before .before .before .before .before .before .before .before .before .before .before .check-open .ensures) .low-p)
-
-cast-fresh-2 : tie.Need-cast-fresh-2
-cast-fresh-2 c = let a = c .before .before .before .before .before .before .before .before .before .before .before .before .before .before .before .before .before .before .before .before .before .before .before .before .before .before .args in omega (arith, lengths-of (a .p) (a .v) (now (a .spans)) (now (a .order)) (now (a .tally)) (now (a .rows)) (now (a .marks)) (now (a .locs)) (now (a .waiting)) (now (a .pool)) (sym (c .before .before .before .before .before .before .before .before .before .before .before .before .before .before .before .before .if1 .left) ∙ c .before .before .before .before .before .before .before .before .before .before .before .before .before .before .before .before .before .check-open .ensures) .low-v)
-
-fresh-requires-2 : tie.Need-fresh-requires-2
-fresh-requires-2 c κs = search needs
+begin-requires : tie.Need-begin-requires
+begin-requires c κs =
+    let else1 = c .before .before .before .before .before in
+    let after-check-open = else1 .before in
+    let start = to-start after-check-open in
+    let a = start .args in
+    let n = after-check-open .check-open in
+    lengths-of (a .p) (a .v) (now (a .spans)) (now (a .order)) (now (a .tally)) (now (a .rows)) (now (a .marks)) (now (a .locations)) (now (a .waiting)) []
+    (sym (else1 .if1 .left) ∙ n .ensures)
 
 same-length : tie.Need-same-length
-same-length c = c .before .before .before .before .before .before .before .before .before .before .before .clear .kept .0
+same-length c = begun c .begin .kept .0
 
 same-length-2 : tie.Need-same-length-2
-same-length-2 c = c .before .before .before .before .before .before .before .before .before .before .before .clear .kept .1 .0
+same-length-2 c = begun c .begin .kept .1 .0
 
 same-length-3 : tie.Need-same-length-3
-same-length-3 c = c .before .before .before .before .before .before .before .before .before .before .before .clear .kept .1 .1 .0
+same-length-3 c = begun c .begin .kept .1 .1 .0
 
 same-length-4 : tie.Need-same-length-4
-same-length-4 c = c .before .before .before .before .before .before .before .before .before .before .before .clear .kept .1 .1 .1 .0
+same-length-4 c = begun c .begin .kept .1 .1 .1 .0
 
 same-length-5 : tie.Need-same-length-5
-same-length-5 c = c .before .before .before .before .before .before .before .before .before .before .before .clear .kept .1 .1 .1 .1 .0
+same-length-5 c = begun c .begin .kept .1 .1 .1 .1 .0
 
 returns-2 : tie.Need-returns-2
-returns-2 c = let a = c .before .before .before .before .before .before .before .before .before .before .before .before .before .before .before .before .before .before .before .before .before .before .before .before .before .before .before .args in let u = c .before .before .before .before .before .before .before .before .before .before .before .clear in opens-done (a .p) (a .v) (now (a .spans)) (now (a .order)) (now (a .tally)) (now (a .rows)) (now (a .marks)) (now (a .locs)) (now (a .waiting)) (now (a .pool)) (c .fresh2 .result) (u .last .0) (u .last .1 .0) (u .last .1 .1 .0) (u .last .1 .1 .1 .0) (u .last .1 .1 .1 .1 .0) (sym (c .before .before .before .before .before .before .before .before .before .before .before .before .before .before .before .before .before .if1 .left) ∙ c .before .before .before .before .before .before .before .before .before .before .before .before .before .before .before .before .before .before .check-open .ensures) (c .fresh2 .ensures) (u .ensures)
+returns-2 c = let o = begun c in
+    let n = to-else1 o .before .check-open in
+    λ pool. o .begin .ensures .opens _ _ pool (sym (to-else1 o .if1 .left) ∙ n .ensures)
 
 pub open-spec : {M : Type 1} → statement M
 open-spec =
@@ -53,10 +73,7 @@ open-spec =
     check-open-requires
     fresh-requires
     returns
-    clear-requires
-    cast-fresh
-    cast-fresh-2
-    fresh-requires-2
+    begin-requires
     same-length
     same-length-2
     same-length-3

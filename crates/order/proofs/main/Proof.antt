@@ -29,10 +29,22 @@ returns : tie.Need-returns
 returns c = search needs
 
 array-share-prefix-job : tie.Need-array-share-prefix-job
-array-share-prefix-job c = omega (arith, within (c .before .before .before .before .read-job .result) (c .before .input .given .0 .0) _ (c .before .input .given .1) (c .before .before .before .before .read-job .ensures), length-replicate {A = ℕ} 65537 0)
+array-share-prefix-job c =
+    omega (
+      arith,
+      within (c .before .before .before .before .read-job .result) (c .before .input .given .0 .0) _ (c .before .input .given .1) (c .before .before .before .before .read-job .ensures),
+      length-replicate {A = ℕ} 65537 0,
+    )
 
 slice-aggregate-answer : tie.Need-slice-aggregate-answer
-slice-aggregate-answer c = simp length-take (omega (arith, within (c .before .before .before .before .before .read-job .result) (c .before .before .input .given .0 .0) _ (c .before .before .input .given .1) (c .before .before .before .before .before .read-job .ensures), c .before .before .before .before .before .read-job .kept .0))
+slice-aggregate-answer c =
+    simp length-take (omega (
+      arith,
+      within (c .before .before .before .before .before .read-job .result)
+          (c .before .before .input .given .0 .0) _ (c .before .before .input .given .1)
+          (c .before .before .before .before .before .read-job .ensures),
+      c .before .before .before .before .before .read-job .kept .0,
+    ))
 
 slice-aggregate-answer-2 : tie.Need-slice-aggregate-answer-2
 slice-aggregate-answer-2 c = search needs

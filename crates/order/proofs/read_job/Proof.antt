@@ -3,7 +3,6 @@ use lib.ListN.{length}
 use mathlib.Core.Path.{_≡_}
 use Prim.Native.Nat.{_≤_, _-_}
 use borrow.Author.Needs.{needs}
-use native.Mathlib.Omega.{arith}
 use Rattle.order.proofs.read_job.Statement.{statement}
 use Rattle.order.proofs.read_job.Tie as tie
 

@@ -26,9 +26,11 @@ use sound.Loop.{loop-rule}
 use sound.WpLaws.{fmOf, WpFn-mono}
 use contract.Monad.{Fun, fact}
 use contract.Running.{givenOf, tables, tablesOf}
-use types.Kit.{Given, Item, ‵, raw, _⊛_, some, later, ⋆, anyQ, atRet, _$_, _∵_, !, qed, by, move, keep, use0, use1, use2, use3, drop, split, join, pick, rewrite, fsplit, fjoin, feqL, feqI, suffices, frame, await, done}
+use types.Kit.{Given, Item, ‵, raw, _⊛_, some, later, ⋆, anyQ, atRet, _$_, _∵_, !, qed, by, move, keep, use0, use1, use2, use3, drop, split}
+use types.Kit.{join, pick, rewrite, fsplit, fjoin, feqL, suffices, frame, await, done}
 use types.Part.{agg, whole, sub, look-in}
-use types.Run.{look, init, store, forget, stop, hop, fld, from, load, lit, addr, of-opd, and-then, no-more, bin, assigns, assigns-last, land, stays, leaves-loop, returns, enter, alloc1, alloc0, params1, pass1, pass0, free1, free0, exec}
+use types.Run.{look, init, store, forget, stop, hop, fld, from, load, lit, addr, of-opd, and-then, no-more, bin, assigns, assigns-last, land}
+use types.Run.{stays, leaves-loop, returns, enter, alloc1, alloc0, params1, pass1, pass0, free1, free0, exec}
 use types.SemTy.{cells, Arr}
 use types.Tokens.{lft-new, lft-end}
 use denote.RattleType.{RattleType, owns}
@@ -53,28 +55,28 @@ use denote.Triple.Clauses.{ensured, lasts}
 use denote.Triple.Table.{entered, cited}
 use denote.Triple.Walked.{says, Stays, stay-none, stay-slice, stay-none-slice, walkOf, goes-none, goes-slice, goes-none-slice, Walks, ends-at, walked, walk-meets}
 use Rattle.rules.specs.Calls.{unless-refused}
-use Rattle.order_entries.specs.declared.OrderInfo.{OrderInfo}
-use Rattle.order_entries.specs.Flat.{entry-of, Readable}
-use Rattle.order_entries.specs.Copied.{copied, check-new}
-use Rattle.order_entries.specs.Loop.{Copying, copying, copied-none, copied-more}
-use Rattle.order_entries.proofs.OrderInfo as T
-use Rattle.order_entries.proofs.OrderInfo.Laws as T′
-use Rattle.order_entries.proofs.check_new as checks
-use Rattle.order_entries.proofs.check_new.Symbol as checks-def
-use Rattle.order_entries.proofs.check_new.Symbol.{name as #order-entries·check-new}
-use Rattle.order_entries.proofs.check_new.Met as checks-thm
-use Rattle.order_entries.proofs.stop_at as stop-at
-use Rattle.order_entries.proofs.stop_at.Symbol as stop-at-def
-use Rattle.order_entries.proofs.stop_at.Symbol.{name as #order-entries·stop-at}
-use Rattle.order_entries.proofs.stop_at.Met as stop-at-thm
-use Rattle.order_entries.proofs.entry_at as entry-at
-use Rattle.order_entries.proofs.entry_at.Symbol as entry-at-def
-use Rattle.order_entries.proofs.entry_at.Symbol.{name as #order-entries·entry-at}
-use Rattle.order_entries.proofs.entry_at.Met as entry-at-thm
-use Rattle.order_entries.proofs.append as append
-use Rattle.order_entries.proofs.append.Symbol as append-def
-use Rattle.order_entries.proofs.append.Symbol.{name as #order-entries·append}
-use Rattle.order_entries.proofs.append.Met as append-thm
+use Rattle.order_copy.specs.declared.OrderInfo.{OrderInfo}
+use Rattle.order_copy.specs.Flat.{entry-of, Readable}
+use Rattle.order_copy.specs.Copied.{copied, check-new}
+use Rattle.order_copy.specs.Loop.{Copying, copying, copied-none, copied-more}
+use Rattle.order_copy.proofs.OrderInfo as T
+use Rattle.order_copy.proofs.OrderInfo.Laws as T′
+use Rattle.order_copy.proofs.check_new as checks
+use Rattle.order_copy.proofs.check_new.Symbol as checks-def
+use Rattle.order_copy.proofs.check_new.Symbol.{name as #order-copy·check-new}
+use Rattle.order_copy.proofs.check_new.Met as checks-thm
+use Rattle.order_copy.proofs.stop_at as stop-at
+use Rattle.order_copy.proofs.stop_at.Symbol as stop-at-def
+use Rattle.order_copy.proofs.stop_at.Symbol.{name as #order-copy·stop-at}
+use Rattle.order_copy.proofs.stop_at.Met as stop-at-thm
+use Rattle.order_copy.proofs.entry_at as entry-at
+use Rattle.order_copy.proofs.entry_at.Symbol as entry-at-def
+use Rattle.order_copy.proofs.entry_at.Symbol.{name as #order-copy·entry-at}
+use Rattle.order_copy.proofs.entry_at.Met as entry-at-thm
+use Rattle.order_copy.proofs.append as append
+use Rattle.order_copy.proofs.append.Symbol as append-def
+use Rattle.order_copy.proofs.append.Symbol.{name as #order-copy·append}
+use Rattle.order_copy.proofs.append.Met as append-thm
 use Rattle.order_entries.proofs.order_append_new.Key.{name as #order-entries·order-append-new}
 use Rattle.order_entries.proofs.order_append_new as append-new
 use Rattle.order_entries.proofs.order_append_new.Statement as stated
@@ -108,10 +110,10 @@ module _ {M : Type 1} (𝓤 : URA M) (H : Heap 𝓤) (A : Atoms 𝓤) (mem : Mem
   Append = tripleOf 𝓤 H A append.signature (append.spec 𝓤 H A mem run)
 
   pub record Known (C : Calls 𝓤 H) : Type 1 where
-    pub check-new : Triple 𝓤 (C #order-entries·check-new) CheckNew
-    pub stop-at : Triple 𝓤 (C #order-entries·stop-at) StopAt
-    pub entry-at : Triple 𝓤 (C #order-entries·entry-at) EntryAt
-    pub append : Triple 𝓤 (C #order-entries·append) Append
+    pub check-new : Triple 𝓤 (C #order-copy·check-new) CheckNew
+    pub stop-at : Triple 𝓤 (C #order-copy·stop-at) StopAt
+    pub entry-at : Triple 𝓤 (C #order-copy·entry-at) EntryAt
+    pub append : Triple 𝓤 (C #order-copy·append) Append
 
 abbrev word : Ty
 word = tyInt w64
@@ -129,7 +131,9 @@ lent-ref = tyRef erased mut (pointee (T.the-row .written))
 abbrev lent-slice : Ty
 lent-slice = sliceTy lent-ref
 
-module _ {M : Type 1} (𝓤 : URA M) (H : Heap 𝓤) (A : Atoms 𝓤) (W : Given 𝓤 H A) (mem : Memory → SProp 𝓤) (run : Routine → Fun 𝓤) (κ κ′ : Lft) (q q′ : Share) (b o : ℕ) (γ : GName) (ys : List OrderInfo) (g : RefT (List ℕ)) (lo hi : ℕ) (lo-fits : lo < 2 ^ 64) (hi-fits : hi < 2 ^ 64) where
+module _ {M : Type 1} (𝓤 : URA M) (H : Heap 𝓤) (A : Atoms 𝓤) (W : Given 𝓤 H A) (mem : Memory → SProp 𝓤) (run : Routine → Fun 𝓤)
+    (κ κ′ : Lft) (q q′ : Share) (b o : ℕ) (γ : GName) (ys : List OrderInfo) (g : RefT (List ℕ)) (lo hi : ℕ) (lo-fits : lo < 2 ^ 64)
+    (hi-fits : hi < 2 ^ 64) where
   -- the order's borrow at the list l, and the machine values of the two slices
   abbrev x : List OrderInfo → RefT (List OrderInfo)
   x l = record { ptr = (b, o); name = γ; now = l }
@@ -169,7 +173,9 @@ module _ {M : Type 1} (𝓤 : URA M) (H : Heap 𝓤) (A : Atoms 𝓤) (W : Given
       move ! (1 ∷ []) $ use1 W (‵ Own ⊛ ‵ Own) (shr-slice-copy 𝓤 H A W (named 1) κ′ u32 .twice g (v ∷ [])) $ split ! $
       nothing ! $ owned ! usize (Is usize) (uint-makes 𝓤 H A W w64) hi _ (refl, hi-fits) $ fjoin ! $ owned ! usize (Is usize) (uint-makes 𝓤 H A W w64) lo _ (refl, lo-fits) $ fjoin ! $
       move ! (1 ∷ 0 ∷ []) $ fjoin ! $ owned ! usize (Is usize) (uint-makes 𝓤 H A W w64) (length ys) _ (refl, fits) $ fjoin ! $ move ! (2 ∷ 0 ∷ []) $
-      use2 W (raw (CheckNew 𝓤 H A mem run .pre to-check)) (qed W ((‵ (flft κ′ q′) ⊛ ‵ ftrue) ∷ ‵ (owns (usize ∷ ShrSlice (named 0) κ′ u32 ∷ usize ∷ usize ∷ []) (length ys, (g, (lo, (hi, tt)))) (vint w64 (length ys) ∷ [], (v ∷ [], (vint w64 lo ∷ [], (vint w64 hi ∷ [], tt))))) ∷ []) ∵ join ! $ frame ! $ done !) $
+      use2 W (raw (CheckNew 𝓤 H A mem run .pre to-check)) (qed W ((‵ (flft κ′ q′) ⊛ ‵ ftrue)
+      ∷ ‵ (owns (usize ∷ ShrSlice (named 0) κ′ u32 ∷ usize ∷ usize ∷ []) (length ys, (g, (lo, (hi, tt)))) (vint w64 (length ys) ∷ [], (v ∷ [], (vint w64 lo ∷ [], (vint w64 hi ∷ [], tt)))))
+      ∷ []) ∵ join ! $ frame ! $ done !) $
       frame ! $ done !
 
   said-check : (n : ℕ) → ent 𝓤 (ensured 𝓤 H A checks.ended (checks.clauses 𝓤 H A mem run) (κ′, tt) (length ys, (g, (lo, (hi, tt)))) tt n) (fact 𝓤 (n ≡ check-new (length ys) (g .now) lo hi))
@@ -197,7 +203,8 @@ module _ {M : Type 1} (𝓤 : URA M) (H : Heap 𝓤) (A : Atoms 𝓤) (W : Given
       qed W ((‵ (flft κ′ q′) ⊛ ‵ ftrue) ∷ ‵ Own ∷ []) ∵
       move ! (1 ∷ []) $ use1 W (‵ Own ⊛ ‵ Own) (shr-slice-copy 𝓤 H A W (named 1) κ′ u32 .twice g (v ∷ [])) $ split ! $
       nothing ! $ owned ! usize (Is usize) (uint-makes 𝓤 H A W w64) k _ (refl, fits) $ fjoin ! $ move ! (1 ∷ 0 ∷ []) $ fjoin ! $ move ! (2 ∷ 0 ∷ []) $
-      use2 W (raw (EntryAt 𝓤 H A mem run .pre (to-entry k))) (qed W ((‵ (flft κ′ q′) ⊛ ‵ ftrue) ∷ ‵ (owns (ShrSlice (named 0) κ′ u32 ∷ usize ∷ []) (g, (k, tt)) (v ∷ [], (vint w64 k ∷ [], tt))) ∷ []) ∵ says ! can $ frame ! $ done !) $
+      use2 W (raw (EntryAt 𝓤 H A mem run .pre (to-entry k)))
+      (qed W ((‵ (flft κ′ q′) ⊛ ‵ ftrue) ∷ ‵ (owns (ShrSlice (named 0) κ′ u32 ∷ usize ∷ []) (g, (k, tt)) (v ∷ [], (vint w64 k ∷ [], tt))) ∷ []) ∵ says ! can $ frame ! $ done !) $
       frame ! $ done !
 
   said-entry : (k : ℕ) (r : OrderInfo) → ent 𝓤 (ensured 𝓤 H A entry-at.ended (entry-at.clauses 𝓤 H A mem run) (κ′, tt) (g, (k, tt)) tt r) (fact 𝓤 (r ≡ entry-of (g .now) k))
@@ -226,14 +233,19 @@ module _ {M : Type 1} (𝓤 : URA M) (H : Heap 𝓤) (A : Atoms 𝓤) (W : Given
   exits n m n-fits number c room =
       let len = c .long m (c .low) (omega arith) in
       qed W (‵ (fobs γ (codedHoleys R .code (heres R (at m)))) ∷ ‵ (fbor κ (Held R (length (at m)) b o γ)) ∷ ‵ (flft κ q) ∷ (‵ (flft κ′ q′) ⊛ ‵ ftrue) ∷ ‵ Own ∷ []) ∵
-      suffices ! _ (ends-at 𝓤 H A append-new.ended stayed (append-new.clauses 𝓤 H A mem run) W (((κ, (κ′, tt)), (q, (q′, tt)), tt, a, vals), tt) (vint w64 n) n (at m, (tt, (tt, (tt, tt)))) (len, (tt, (tt, (tt, tt))))) $ says ! (number, c .last) $
+      suffices ! _
+      (ends-at 𝓤 H A append-new.ended stayed (append-new.clauses 𝓤 H A mem run) W (((κ, (κ′, tt)), (q, (q′, tt)), tt, a, vals), tt)
+      (vint w64 n) n (at m, (tt, (tt, (tt, tt)))) (len, (tt, (tt, (tt, tt))))) $
+      says ! (number, c .last) $
       move ! (2 ∷ 3 ∷ []) $ join ! $ frame ! $
       fjoin ! $ pureI ! (at-slice R (x (at m)) (s ∷ [])) (tt, (tt, tt)) (ap (λ (l : ℕ). sliceVal (b, o) l ∷ []) (sym len), subst (Room R) (sym len) room) $ fjoin ! $
       nothing ! $ owned ! usize (Is usize) (uint-makes 𝓤 H A W w64) hi _ (refl, hi-fits) $ fjoin ! $ owned ! usize (Is usize) (uint-makes 𝓤 H A W w64) lo _ (refl, lo-fits) $ fjoin ! $
       move ! (2 ∷ 0 ∷ []) $ fjoin ! $ move ! (1 ∷ 0 ∷ []) $ fjoin ! $
       owned ! u64 (Is u64) (uint-makes 𝓤 H A W w64) n _ (refl, n-fits) $ move ! (1 ∷ 0 ∷ []) $ done !
 
-  module _ (𝓣 : Tables 𝓤 H) (known : Known 𝓤 H A mem run (𝓣 .C)) (room : Room R (length ys)) (n m : ℕ) (n-fits : n < 2 ^ 64) (number : n ≡ check-new (length ys) (g .now) lo hi) (c : Copying ys (g .now) lo hi n m) (l₀ l₁ l₂ l₃ l₄ l₅ l₆ l₇ l₈ l₉ l₁₀ l₁₁ l₁₂ l₁₃ : ℕ) where
+  module _ (𝓣 : Tables 𝓤 H) (known : Known 𝓤 H A mem run (𝓣 .C)) (room : Room R (length ys)) (n m : ℕ) (n-fits : n < 2 ^ 64)
+      (number : n ≡ check-new (length ys) (g .now) lo hi) (c : Copying ys (g .now) lo hi n m)
+      (l₀ l₁ l₂ l₃ l₄ l₅ l₆ l₇ l₈ l₉ l₁₀ l₁₁ l₁₂ l₁₃ : ℕ) where
     abbrev C : Calls 𝓤 H
     C = 𝓣 .C
 
@@ -241,13 +253,17 @@ module _ {M : Type 1} (𝓤 : URA M) (H : Heap 𝓤) (A : Atoms 𝓤) (W : Given
     Λ = 𝓣 .Λ
 
     abbrev En : Env 𝓤 H
-    En = (word, l₀) ∷ (order-slice, l₁) ∷ (flat-slice, l₂) ∷ (word, l₃) ∷ (word, l₄) ∷ (word, l₅) ∷ (word, l₆) ∷ (word, l₇) ∷ (T′.mir, l₈) ∷ (word, l₉) ∷ (tyBool, l₁₀) ∷ (tyUnit, l₁₁) ∷ (lent-ref, l₁₂) ∷ (lent-slice, l₁₃) ∷ []
+    En =
+        (word, l₀) ∷ (order-slice, l₁) ∷ (flat-slice, l₂) ∷ (word, l₃) ∷ (word, l₄) ∷ (word, l₅) ∷ (word, l₆) ∷ (word, l₇) ∷ (T′.mir, l₈)
+        ∷ (word, l₉) ∷ (tyBool, l₁₀) ∷ (tyUnit, l₁₁) ∷ (lent-ref, l₁₂) ∷ (lent-slice, l₁₃) ∷ []
 
     -- what no turn touches
     abbrev Frame : List (Item 𝓤)
     Frame = ‵ (fat fullShare order-slice l₁ 0 s) ∷ ‵ (fat fullShare flat-slice l₂ 0 v) ∷ ‵ (fat fullShare word l₃ 0 (vint w64 lo)) ∷ ‵ (fat fullShare word l₄ 0 (vint w64 hi))
         ∷ ‵ (fat fullShare word l₅ 0 (vint w64 n)) ∷ ‵ (fat fullShare word l₆ 0 (vint w64 m)) ∷ ‵ (fat fullShare word l₉ 0 (vint w64 (length ys))) ∷ ‵ (froom word l₀ 0)
-        ∷ ‵ (fdies word l₀) ∷ ‵ (fdies order-slice l₁) ∷ ‵ (fdies flat-slice l₂) ∷ ‵ (fdies word l₃) ∷ ‵ (fdies word l₄) ∷ ‵ (fdies word l₅) ∷ ‵ (fdies word l₆) ∷ ‵ (fdies word l₇) ∷ ‵ (fdies T′.mir l₈) ∷ ‵ (fdies word l₉) ∷ ‵ (fdies tyBool l₁₀) ∷ ‵ (fdies tyUnit l₁₁) ∷ ‵ (fdies lent-ref l₁₂) ∷ ‵ (fdies lent-slice l₁₃) ∷ []
+        ∷ ‵ (fdies word l₀) ∷ ‵ (fdies order-slice l₁) ∷ ‵ (fdies flat-slice l₂) ∷ ‵ (fdies word l₃) ∷ ‵ (fdies word l₄)
+        ∷ ‵ (fdies word l₅) ∷ ‵ (fdies word l₆) ∷ ‵ (fdies word l₇) ∷ ‵ (fdies T′.mir l₈) ∷ ‵ (fdies word l₉) ∷ ‵ (fdies tyBool l₁₀)
+        ∷ ‵ (fdies tyUnit l₁₁) ∷ ‵ (fdies lent-ref l₁₂) ∷ ‵ (fdies lent-slice l₁₃) ∷ []
 
     -- the entries before k are copied
     abbrev At : ℕ → List (Item 𝓤)
@@ -283,25 +299,39 @@ module _ {M : Type 1} (𝓤 : URA M) (H : Heap 𝓤) (A : Atoms 𝓤) (W : Given
         stays ! (load ! (from ! (stop !)) (look ! 2 refl)) $
         -- `entry_at`: the flat slice's token and a copy of what it owns go to the callee
         move ! (9 ∷ 10 ∷ []) $ use2 W (raw (EntryAt 𝓤 H A mem run .pre (to-entry k)) ⊛ ‵ Own) (goes-entry k fits (can .1)) $ split ! $
-        calls-at ! (fmOf 𝓤 H (W .laws) 𝓣) (EntryAt 𝓤 H A mem run) (known .entry-at) (to-entry k) (and-then ! (load ! (from ! (stop !)) (look ! 12 refl)) (and-then ! (load ! (from ! (stop !)) (look ! 2 refl)) (no-more !))) (λ u.
-        use1 W (later (some (λ (r : OrderInfo). ((‵ (flft κ′ q′) ⊛ ‵ ftrue) ⊛ ‵ (R .own r (u ∷ []))) ⊛ raw (ensured 𝓤 H A entry-at.ended (entry-at.clauses 𝓤 H A mem run) (κ′, tt) (g, (k, tt)) tt r)))) (id⊢ 𝓤 _) $ await ! tt $ pick ! (λ r.
+        calls-at ! (fmOf 𝓤 H (W .laws) 𝓣) (EntryAt 𝓤 H A mem run) (known .entry-at) (to-entry k)
+        (and-then ! (load ! (from ! (stop !)) (look ! 12 refl)) (and-then ! (load ! (from ! (stop !)) (look ! 2 refl)) (no-more !)))
+        (λ u.
+        use1 W
+        (later (some (λ (r : OrderInfo). ((‵ (flft κ′ q′) ⊛ ‵ ftrue) ⊛ ‵ (R .own r (u ∷ []))) ⊛ raw (ensured 𝓤 H A entry-at.ended (entry-at.clauses 𝓤 H A mem run) (κ′, tt) (g, (k, tt)) tt r))))
+        (id⊢ 𝓤 _) $ await ! tt $ pick ! (λ r.
         split ! $ move ! (1 ∷ []) $ use1 W (raw (fact 𝓤 (r ≡ entry-of (g .now) k))) (said-entry k r) $ heard ! (r ≡ entry-of (g .now) k) (λ e. split ! $ move ! (1 ∷ []) $
         -- [the entry; the flat slice's token; what it owns; _7; _8; _10; _11; _12; _13; obs; the borrow; the order's token; _1; …]
         peeks ! R (Is R) (shows 𝓤 H A R) r (u ∷ []) (λ is.
         let one-more : set (at k) k r ≡ at (k + 1) = ap (λ d. set (at k) k d) e ∙ copied-more ys (g .now) lo k low (can .0) in
         land ! (from ! (stop !)) (init ! 4 refl (LL.lawful T.the-type T′.the-laws 𝓤 H A W .typed r _ is .0)) $
         assigns ! (addr ! (from ! (fld ! refl (hop ! (look-in ! 12 (sub ! 0 refl (whole !))) (stop !))))) (from ! (stop !)) (init ! 7 refl (tt, tt)) $
-        assigns ! (agg ! (and-then ! (load ! (from ! (stop !)) (look ! 7 refl)) (and-then ! (load ! (from ! (fld ! refl (stop !))) (look-in ! 12 (sub ! 1 refl (whole !)))) (no-more !)))) (from ! (stop !)) (init ! 8 refl (tt, (tt, (record { fits = room .0 }, tt)))) $
+        assigns ! (agg ! (and-then ! (load ! (from ! (stop !)) (look ! 7 refl)) (and-then ! (load ! (from ! (fld ! refl (stop !))) (look-in ! 12 (sub ! 1 refl (whole !)))) (no-more !))))
+        (from ! (stop !)) (init ! 8 refl (tt, (tt, (record { fits = room .0 }, tt)))) $
         rewrite ! 8 (λ (l : ℕ). ‵ (fat fullShare lent-slice l₁₃ 0 (sliceVal (b, o) l))) (sym len) refl $
         -- `append`: the order's borrow is opened, and what it holds is lent for a new lifetime
         move ! (9 ∷ 10 ∷ 11 ∷ []) $ opens-slice ! tt R (at k) b o $ use1 W (‵ (cells (in-memory R) (at k) b o)) (whole-in 𝓤 H A W R (at k) b o) $
         lft-new ! tt (λ α. move ! (1 ∷ []) $
-        use1 W (later (some (λ (δ : GName). ‵ (Lent α δ k) ⊛ ‵ (flent (α ∷ []) (Held R (length (at k)) b o δ))))) (lends-slice 𝓤 H A W R (named 0) (α ∷ []) (at k) b o (subst (Room R) (sym len) room)) $ await ! tt $ pick ! (λ δ. split ! $
+        use1 W (later (some (λ (δ : GName). ‵ (Lent α δ k) ⊛ ‵ (flent (α ∷ []) (Held R (length (at k)) b o δ)))))
+        (lends-slice 𝓤 H A W R (named 0) (α ∷ []) (at k) b o (subst (Room R) (sym len) room)) $ await ! tt $ pick ! (λ δ. split ! $
         -- [the lent order; its lender's part; the new token; the open borrow; obs; auth; the entry; the flat slice's token; what it owns; _7; …]
         move ! (2 ∷ 0 ∷ 6 ∷ []) $ use3 W (raw (Append 𝓤 H A mem run .pre (to-append α δ k r u))) (goes-append α δ k r u fits within) $
-        calls-at ! (fmOf 𝓤 H (W .laws) 𝓣) (Append 𝓤 H A mem run) (known .append) (to-append α δ k r u) (and-then ! (load ! (from ! (stop !)) (look ! 12 refl)) (and-then ! (load ! (from ! (stop !)) (look ! 7 refl)) (and-then ! (load ! (from ! (stop !)) (look ! 8 refl)) (no-more !)))) (λ y.
-        use1 W (later (some (λ (t : Unit {0}). ((‵ (flft (α ∷ []) fullShare) ⊛ ‵ ftrue) ⊛ ‵ (Nothing .own t (y ∷ []))) ⊛ raw (ensured 𝓤 H A append.ended (append.clauses 𝓤 H A mem run) (α ∷ [], tt) (lent α δ k, (k, (r, tt))) tt t)))) (id⊢ 𝓤 _) $ await ! tt $ pick ! (λ t.
-        split ! $ move ! (1 ∷ []) $ use1 W (some (λ (zs : List OrderInfo × (Unit {0} × (Unit {0} × Unit {0}))). ‵ (lasts append.ended (α ∷ [], tt) (lent α δ k, (k, (r, tt))) zs) ⊛ raw (fact 𝓤 (zs .0 ≡ set (at k) k r)))) (id⊢ 𝓤 _) $ pick ! (λ zs.
+        calls-at ! (fmOf 𝓤 H (W .laws) 𝓣) (Append 𝓤 H A mem run) (known .append) (to-append α δ k r u)
+        (and-then ! (load ! (from ! (stop !)) (look ! 12 refl)) (and-then ! (load ! (from ! (stop !)) (look ! 7 refl)) (and-then ! (load ! (from ! (stop !)) (look ! 8 refl)) (no-more !))))
+        (λ y.
+        use1 W (later (some (λ (t : Unit {0}). ((‵ (flft (α ∷ []) fullShare) ⊛ ‵ ftrue) ⊛ ‵ (Nothing .own t (y ∷ []))) ⊛ raw
+        (ensured 𝓤 H A append.ended (append.clauses 𝓤 H A mem run) (α ∷ [], tt) (lent α δ k, (k, (r, tt))) tt t)))) (id⊢ 𝓤 _) $
+        await ! tt $ pick ! (λ t.
+        split ! $ move ! (1 ∷ []) $
+        use1 W
+        (some (λ (zs : List OrderInfo × (Unit {0} × (Unit {0} × Unit {0}))). ‵ (lasts append.ended (α ∷ [], tt) (lent α δ k, (k, (r, tt))) zs) ⊛ raw (fact 𝓤 (zs .0 ≡ set (at k) k r))))
+        (id⊢ 𝓤 _) $
+        pick ! (λ zs.
         split ! $ move ! (1 ∷ []) $ heard ! (zs .0 ≡ set (at k) k r) (λ put. fsplit ! $ fsplit ! $ move ! (1 ∷ []) $ drop ! $ move ! (1 ∷ []) $ drop ! $
         rewrite ! 0 (λ (ws : List OrderInfo). ‵ (finally R δ ws)) put refl $
         move ! (1 ∷ []) $ split ! $ move ! (1 ∷ []) $ feqL ! (λ unit.
@@ -312,7 +342,8 @@ module _ {M : Type 1} (𝓤 : URA M) (H : Heap 𝓤) (A : Atoms 𝓤) (W : Given
         use3 W (later (‵ (Arr (in-memory R) (length (at k)) .lies (set (at k) k r) b o))) (slice-back 𝓤 H A W R (α ∷ []) δ (set (at k) k r) (length (at k)) b o) $ await ! tt $ fsplit ! $ drop ! $
         use1 W (‵ (row R fullShare (set (at k) k r) b o)) (whole-out 𝓤 H A W R (set (at k) k r) b o) $
         move ! (0 ∷ 2 ∷ 3 ∷ 4 ∷ []) $ closes-slice ! tt R (at k) (set (at k) k r) (length-set (at k) k r) b o $
-        rewrite ! 0 (λ (ws : List OrderInfo). ‵ (fobs γ (codedHoleys R .code (heres R ws)))) one-more refl $ rewrite ! 1 (λ (ws : List OrderInfo). ‵ (fbor κ (Held R (length ws) b o γ))) one-more refl $
+        rewrite ! 0 (λ (ws : List OrderInfo). ‵ (fobs γ (codedHoleys R .code (heres R ws)))) one-more refl $
+        rewrite ! 1 (λ (ws : List OrderInfo). ‵ (fbor κ (Held R (length ws) b o γ))) one-more refl $
         move ! (3 ∷ []) $ drop ! $
         -- [obs; the borrow; the order's token; the flat slice's; what it owns; _7; _8; _10; _11; _12; _13; …]
         assigns-last ! (bin ! (load ! (from ! (stop !)) (look ! 5 refl)) (lit ! tt) step) (from ! (stop !)) (store ! 5 refl (tt, step)) $
@@ -328,9 +359,12 @@ module _ {M : Type 1} (𝓤 : URA M) (H : Heap 𝓤) (A : Atoms 𝓤) (W : Given
         leaves-loop ! (load ! (from ! (stop !)) (look ! 2 refl)) $ exec ! C Λ En body.t-6 (atRet En Post) $
         assigns ! (of-opd ! (load ! (from ! (stop !)) (look ! 15 refl))) (from ! (stop !)) (init ! 18 refl (tt, record { fits = n-fits })) $
         -- [_7; _8; _10; _11; _12; _13; obs; the borrow; the order's token; the flat slice's; what it owns; _1; _2; _3; _4; _5; _6; _9; _0; and that each local dies]
-        returns ! (look ! 18 refl) $ forget ! 0 refl $ forget ! 2 refl $ forget ! 11 refl $ forget ! 12 refl $ forget ! 13 refl $ forget ! 14 refl $ forget ! 15 refl $ forget ! 16 refl $ forget ! 17 refl $ forget ! 18 refl $
-        move ! (18 ∷ 19 ∷ []) $ free1 ! $ move ! (11 ∷ 18 ∷ []) $ free1 ! $ move ! (11 ∷ 17 ∷ []) $ free1 ! $ move ! (11 ∷ 16 ∷ []) $ free1 ! $ move ! (11 ∷ 15 ∷ []) $ free1 ! $ move ! (11 ∷ 14 ∷ []) $ free1 ! $ move ! (11 ∷ 13 ∷ []) $ free1 ! $
-        move ! (0 ∷ 12 ∷ []) $ free1 ! $ move ! (0 ∷ 11 ∷ []) $ free1 ! $ move ! (9 ∷ 10 ∷ []) $ free1 ! $ move ! (0 ∷ 9 ∷ []) $ free1 ! $ move ! (0 ∷ 8 ∷ []) $ free1 ! $ move ! (0 ∷ 7 ∷ []) $ free1 ! $ move ! (0 ∷ 6 ∷ []) $ free1 ! $ free0 ! $
+        returns ! (look ! 18 refl) $ forget ! 0 refl $ forget ! 2 refl $ forget ! 11 refl $ forget ! 12 refl $ forget ! 13 refl $
+        forget ! 14 refl $ forget ! 15 refl $ forget ! 16 refl $ forget ! 17 refl $ forget ! 18 refl $
+        move ! (18 ∷ 19 ∷ []) $ free1 ! $ move ! (11 ∷ 18 ∷ []) $ free1 ! $ move ! (11 ∷ 17 ∷ []) $ free1 ! $ move ! (11 ∷ 16 ∷ []) $
+        free1 ! $ move ! (11 ∷ 15 ∷ []) $ free1 ! $ move ! (11 ∷ 14 ∷ []) $ free1 ! $ move ! (11 ∷ 13 ∷ []) $ free1 ! $
+        move ! (0 ∷ 12 ∷ []) $ free1 ! $ move ! (0 ∷ 11 ∷ []) $ free1 ! $ move ! (9 ∷ 10 ∷ []) $ free1 ! $ move ! (0 ∷ 9 ∷ []) $ free1 ! $
+        move ! (0 ∷ 8 ∷ []) $ free1 ! $ move ! (0 ∷ 7 ∷ []) $ free1 ! $ move ! (0 ∷ 6 ∷ []) $ free1 ! $ free0 ! $
         keep ! (0 ∷ 1 ∷ 2 ∷ 3 ∷ 4 ∷ []) $ by ! (exits n m n-fits number c room)
 
     -- a turn from the invariant at t leaves the loop, or ends in the invariant below t
@@ -361,8 +395,11 @@ module _ {M : Type 1} (𝓤 : URA M) (H : Heap 𝓤) (A : Atoms 𝓤) (W : Given
   walk : (𝓣 : Tables 𝓤 H) → Known 𝓤 H A mem run (𝓣 .C) → Room R (length ys) → Is (ShrSlice (named 1) κ′ u32) g (v ∷ [])
       → ent 𝓤 (onEntry 𝓤 H A append-new.signature (κ, (κ′, tt)) (q, (q′, tt)) a vals) (WpFn 𝓤 H (𝓣 .C) (𝓣 .Λ) code.function (s ∷ v ∷ vint w64 lo ∷ vint w64 hi ∷ []) Post)
   walk 𝓣 known room is =
-      qed W ((‵ (flft κ q) ⊛ (‵ (flft κ′ q′) ⊛ ‵ ftrue)) ∷ ‵ (owns (MutSlice (named 0) κ R ∷ ShrSlice (named 1) κ′ u32 ∷ usize ∷ usize ∷ []) a vals) ∷ []) ∵ enter ! (𝓣 .C) (𝓣 .Λ) code.function (s ∷ v ∷ vint w64 lo ∷ vint w64 hi ∷ []) _ $
-      alloc1 ! (λ l₀. alloc1 ! (λ l₁. alloc1 ! (λ l₂. alloc1 ! (λ l₃. alloc1 ! (λ l₄. alloc1 ! (λ l₅. alloc1 ! (λ l₆. alloc1 ! (λ l₇. alloc1 ! (λ l₈. alloc1 ! (λ l₉. alloc1 ! (λ l₁₀. alloc1 ! (λ l₁₁. alloc1 ! (λ l₁₂. alloc1 ! (λ l₁₃. alloc0 ! $ params1 ! $
+      qed W
+      ((‵ (flft κ q) ⊛ (‵ (flft κ′ q′) ⊛ ‵ ftrue)) ∷ ‵ (owns (MutSlice (named 0) κ R ∷ ShrSlice (named 1) κ′ u32 ∷ usize ∷ usize ∷ []) a vals) ∷ [])
+      ∵ enter ! (𝓣 .C) (𝓣 .Λ) code.function (s ∷ v ∷ vint w64 lo ∷ vint w64 hi ∷ []) _ $
+      alloc1 ! (λ l₀. alloc1 ! (λ l₁. alloc1 ! (λ l₂. alloc1 ! (λ l₃.
+      alloc1 ! (λ l₄. alloc1 ! (λ l₅. alloc1 ! (λ l₆. alloc1 ! (λ l₇. alloc1 ! (λ l₈. alloc1 ! (λ l₉. alloc1 ! (λ l₁₀. alloc1 ! (λ l₁₁. alloc1 ! (λ l₁₂. alloc1 ! (λ l₁₃. alloc0 ! $ params1 ! $
       pass1 ! (init ! 24 refl (tt, (tt, (record { fits = room .0 }, tt)))) $ pass1 ! (init ! 22 refl (shr-slice-lawful 𝓤 H A W (named 1) κ′ u32 .typed g (v ∷ []) is .0)) $
       pass1 ! (init ! 20 refl (tt, record { fits = lo-fits })) $ pass1 ! (init ! 18 refl (tt, record { fits = hi-fits })) $ pass0 ! $
       -- [_13; …; _12; …; and so on to _1; …; room for _0; …; the tokens; what the parameters own]
@@ -370,35 +407,52 @@ module _ {M : Type 1} (𝓤 : URA M) (H : Heap 𝓤) (A : Atoms 𝓤) (W : Given
       move ! (28 ∷ []) $ split ! $ move ! (30 ∷ []) $ fsplit ! $ fsplit ! $ drop ! $ fsplit ! $ move ! (2 ∷ []) $ fsplit ! $ move ! (1 ∷ []) $ drop ! $
       -- [what the flat slice owns; obs; the borrow; the order's token; the flat slice's; _13; …]
       move ! (4 ∷ 0 ∷ []) $ use2 W (raw (CheckNew 𝓤 H A mem run .pre to-check) ⊛ ‵ Own) (goes-check (room .0)) $ split ! $
-      calls-at ! (fmOf 𝓤 H (W .laws) 𝓣) (CheckNew 𝓤 H A mem run) (known .check-new) to-check (and-then ! (load ! (from ! (stop !)) (look ! 13 refl)) (and-then ! (load ! (from ! (stop !)) (look ! 27 refl)) (and-then ! (load ! (from ! (stop !)) (look ! 25 refl)) (and-then ! (load ! (from ! (stop !)) (look ! 23 refl)) (no-more !))))) (λ w.
-      use1 W (later (some (λ (n : ℕ). ((‵ (flft κ′ q′) ⊛ ‵ ftrue) ⊛ ‵ (u64 .own n (w ∷ []))) ⊛ raw (ensured 𝓤 H A checks.ended (checks.clauses 𝓤 H A mem run) (κ′, tt) (length ys, (g, (lo, (hi, tt)))) tt n)))) (id⊢ 𝓤 _) $ await ! tt $ pick ! (λ n.
-      split ! $ move ! (1 ∷ []) $ use1 W (raw (fact 𝓤 (n ≡ check-new (length ys) (g .now) lo hi))) (said-check n) $ heard ! (n ≡ check-new (length ys) (g .now) lo hi) (λ number. split ! $ move ! (1 ∷ []) $
+      calls-at ! (fmOf 𝓤 H (W .laws) 𝓣) (CheckNew 𝓤 H A mem run) (known .check-new) to-check
+      (and-then ! (load ! (from ! (stop !)) (look ! 13 refl))
+      (and-then ! (load ! (from ! (stop !)) (look ! 27 refl)) (and-then ! (load ! (from ! (stop !)) (look ! 25 refl)) (and-then ! (load ! (from ! (stop !)) (look ! 23 refl)) (no-more !)))))
+      (λ w.
+      use1 W
+      (later
+      (some (λ (n : ℕ). ((‵ (flft κ′ q′) ⊛ ‵ ftrue) ⊛ ‵ (u64 .own n (w ∷ []))) ⊛ raw (ensured 𝓤 H A checks.ended (checks.clauses 𝓤 H A mem run) (κ′, tt) (length ys, (g, (lo, (hi, tt)))) tt n))))
+      (id⊢ 𝓤 _) $ await ! tt $ pick ! (λ n.
+      split ! $ move ! (1 ∷ []) $ use1 W (raw (fact 𝓤 (n ≡ check-new (length ys) (g .now) lo hi))) (said-check n) $
+      heard ! (n ≡ check-new (length ys) (g .now) lo hi) (λ number. split ! $ move ! (1 ∷ []) $
       peeks ! u64 (Is u64) (shows 𝓤 H A u64) n (w ∷ []) (λ n-is. drop ! $
-      land ! (from ! (stop !)) (init ! 21 refl (uint-lawful 𝓤 H A W w64 .typed n (w ∷ []) n-is .0)) $ rewrite ! 21 (λ (z : Val). ‵ (fat fullShare word l₅ 0 z)) (ap only (uint-tells w64 n (w ∷ []) n-is)) refl $
+      land ! (from ! (stop !)) (init ! 21 refl (uint-lawful 𝓤 H A W w64 .typed n (w ∷ []) n-is .0)) $
+      rewrite ! 21 (λ (z : Val). ‵ (fat fullShare word l₅ 0 z)) (ap only (uint-tells w64 n (w ∷ []) n-is)) refl $
       -- [the flat slice's token; what it owns; obs; the borrow; the order's token; _13; …]
       use0 W (raw (StopAt 𝓤 H A mem run .pre (to-stop n))) (goes-stop n (n-is .1)) $
-      calls-at ! (fmOf 𝓤 H (W .laws) 𝓣) (StopAt 𝓤 H A mem run) (known .stop-at) (to-stop n) (and-then ! (load ! (from ! (stop !)) (look ! 22 refl)) (and-then ! (load ! (from ! (stop !)) (look ! 26 refl)) (and-then ! (load ! (from ! (stop !)) (look ! 24 refl)) (no-more !)))) (λ w′.
-      use1 W (later (some (λ (m : ℕ). (‵ ftrue ⊛ ‵ (usize .own m (w′ ∷ []))) ⊛ raw (ensured 𝓤 H A stop-at.ended (stop-at.clauses 𝓤 H A mem run) tt (n, (lo, (hi, tt))) tt m)))) (id⊢ 𝓤 _) $ await ! tt $ pick ! (λ m.
+      calls-at ! (fmOf 𝓤 H (W .laws) 𝓣) (StopAt 𝓤 H A mem run) (known .stop-at) (to-stop n)
+      (and-then ! (load ! (from ! (stop !)) (look ! 22 refl)) (and-then ! (load ! (from ! (stop !)) (look ! 26 refl)) (and-then ! (load ! (from ! (stop !)) (look ! 24 refl)) (no-more !))))
+      (λ w′.
+      use1 W (later (some (λ (m : ℕ). (‵ ftrue ⊛ ‵ (usize .own m (w′ ∷ []))) ⊛ raw (ensured 𝓤 H A stop-at.ended (stop-at.clauses 𝓤 H A mem run) tt (n, (lo, (hi, tt))) tt m)))) (id⊢ 𝓤 _) $
+      await ! tt $ pick ! (λ m.
       split ! $ move ! (1 ∷ []) $ use1 W (raw (fact 𝓤 (m ≡ unless-refused n lo hi))) (said-stop n m) $ heard ! (m ≡ unless-refused n lo hi) (λ end. split ! $ drop ! $
       peeks ! usize (Is usize) (shows 𝓤 H A usize) m (w′ ∷ []) (λ m-is. drop ! $
-      land ! (from ! (stop !)) (init ! 19 refl (uint-lawful 𝓤 H A W w64 .typed m (w′ ∷ []) m-is .0)) $ rewrite ! 19 (λ (z : Val). ‵ (fat fullShare word l₆ 0 z)) (ap only (uint-tells w64 m (w′ ∷ []) m-is)) refl $
+      land ! (from ! (stop !)) (init ! 19 refl (uint-lawful 𝓤 H A W w64 .typed m (w′ ∷ []) m-is .0)) $
+      rewrite ! 19 (λ (z : Val). ‵ (fat fullShare word l₆ 0 z)) (ap only (uint-tells w64 m (w′ ∷ []) m-is)) refl $
       assigns ! (of-opd ! (load ! (from ! (stop !)) (look ! 25 refl))) (from ! (stop !)) (init ! 17 refl (tt, record { fits = lo-fits })) $
-      rewrite ! 2 (λ (ws : List OrderInfo). ‵ (fobs γ (codedHoleys R .code (heres R ws)))) (sym (copied-none ys (g .now) lo)) refl $ rewrite ! 3 (λ (ws : List OrderInfo). ‵ (fbor κ (Held R (length ws) b o γ))) (sym (copied-none ys (g .now) lo)) refl $
+      rewrite ! 2 (λ (ws : List OrderInfo). ‵ (fobs γ (codedHoleys R .code (heres R ws)))) (sym (copied-none ys (g .now) lo)) refl $
+      rewrite ! 3 (λ (ws : List OrderInfo). ‵ (fbor κ (Held R (length ws) b o γ))) (sym (copied-none ys (g .now) lo)) refl $
       keep ! (17 ∷ 15 ∷ 11 ∷ 9 ∷ 7 ∷ 5 ∷ 2 ∷ 3 ∷ 4 ∷ 0 ∷ 1 ∷ 29 ∷ 27 ∷ 25 ∷ 23 ∷ 21 ∷ 19 ∷ 13 ∷ 31 ∷ 32 ∷ 30 ∷ 28 ∷ 26 ∷ 24 ∷ 22 ∷ 20 ∷ 18 ∷ 16 ∷ 14 ∷ 12 ∷ 10 ∷ 8 ∷ 6 ∷ []) $
       by ! (loops 𝓣 known room n m (n-is .1) number (copying ys (g .now) lo hi n m number end) l₀ l₁ l₂ l₃ l₄ l₅ l₆ l₇ l₈ l₉ l₁₀ l₁₁ l₁₂ l₁₃)))))))))))))))))))))))
 
 module _ {M : Type 1} (𝓤 : URA M) (H : Heap 𝓤) (A : Atoms 𝓤) (W : Given 𝓤 H A) (mem : Memory → SProp 𝓤) (run : Routine → Fun 𝓤) where
   append-new-walks : (𝓣 : Tables 𝓤 H) → Known 𝓤 H A mem run (𝓣 .C) → Walks 𝓤 H A append-new.ended stayed (WpFn 𝓤 H (𝓣 .C) (𝓣 .Λ) code.function) (append-new.clauses 𝓤 H A mem run)
   append-new-walks 𝓣 known = walked 𝓤 H A append-new.ended stayed (append-new.clauses 𝓤 H A mem run) (WpFn 𝓤 H (𝓣 .C) (𝓣 .Λ) code.function)
-      (λ κs. (slice-vals, (slice-vals, (uint-vals w64, (uint-vals w64, tt))))) (λ κs. (mut-slice-tells (named 0) (κs .0) R, (shr-slice-tells (named 1) (κs .1 .0) u32, (uint-tells w64, (uint-tells w64, tt)))))
+      (λ κs. (slice-vals, (slice-vals, (uint-vals w64, (uint-vals w64, tt)))))
+      (λ κs. (mut-slice-tells (named 0) (κs .0) R, (shr-slice-tells (named 1) (κs .1 .0) u32, (uint-tells w64, (uint-tells w64, tt)))))
       (λ κs qs bounds a g are. via 𝓤 _ (fst∗ 𝓤 _ (emp 𝓤))
-      (walk 𝓤 H A W mem run (κs .0) (κs .1 .0) (qs .0) (qs .1 .0) (a .0 .ptr .0) (a .0 .ptr .1) (a .0 .name) (a .0 .now) (a .1 .0) (a .1 .1 .0) (a .1 .1 .1 .0) (are .1 .1 .0 .1) (are .1 .1 .1 .0 .1) 𝓣 known (are .0 .0 .1) (are .1 .0)))
+      (walk 𝓤 H A W mem run (κs .0) (κs .1 .0) (qs .0) (qs .1 .0) (a .0 .ptr .0) (a .0 .ptr .1) (a .0 .name) (a .0 .now) (a .1 .0)
+      (a .1 .1 .0) (a .1 .1 .1 .0) (are .1 .1 .0 .1) (are .1 .1 .1 .0 .1) 𝓣 known (are .0 .0 .1) (are .1 .0)))
 
 append-new-meets : {M : Type 1} (𝓤 : URA M) (H : Heap 𝓤) (A : Atoms 𝓤) → Given 𝓤 H A → (mem : Memory → SProp 𝓤) (run : Routine → Fun 𝓤) (𝓣 : Tables 𝓤 H) → Known 𝓤 H A mem run (𝓣 .C)
     → Meets 𝓤 H A append-new.signature (WpFn 𝓤 H (𝓣 .C) (𝓣 .Λ) code.function) (append-new.spec 𝓤 H A mem run)
 append-new-meets 𝓤 H A W mem run 𝓣 known =
-    walk-meets 𝓤 H A append-new.ended stayed W
-    (goes-slice 𝓤 H A W 2 0 tt InfoS, (goes-none-slice 𝓤 H A W 2 (1 ∷ []) tt NumberS kept, (goes-none 𝓤 H A W 2 (λ _. usize) kept (λ κs x f. refl), (goes-none 𝓤 H A W 2 (λ _. usize) kept (λ κs x f. refl), tt))))
+    walk-meets 𝓤 H A append-new.ended stayed W (
+      goes-slice 𝓤 H A W 2 0 tt InfoS,
+      (goes-none-slice 𝓤 H A W 2 (1 ∷ []) tt NumberS kept, (goes-none 𝓤 H A W 2 (λ _. usize) kept (λ κs x f. refl), (goes-none 𝓤 H A W 2 (λ _. usize) kept (λ κs x f. refl), tt))),
+    )
     (append-new.clauses 𝓤 H A mem run) (WpFn 𝓤 H (𝓣 .C) (𝓣 .Λ) code.function) (WpFn-mono 𝓤 H (W .laws) 𝓣 code.function) (append-new-walks 𝓤 H A W mem run 𝓣 known)
 
 pub order-append-new-spec : {M : Type 1} → stated.statement M
@@ -408,8 +462,8 @@ order-append-new-spec 𝓤 H 𝓜 𝓖 𝓡 =
     (tables 𝓤 H 𝓜 𝓡 code.env .C) (tables 𝓤 H 𝓜 𝓡 code.env .Λ) #order-entries·order-append-new code.function (code.unfolded 𝓤 H 𝓜 𝓡)
     (append-new-meets 𝓤 H (𝓖 .A) (givenOf 𝓤 H 𝓜 𝓖) (𝓜 .mem) (𝓡 .run) (tablesOf 𝓤 H 𝓜 (tables 𝓤 H 𝓜 𝓡 code.env))
     (record {
-      check-new = cited 𝓤 H (CheckNew 𝓤 H (𝓖 .A) (𝓜 .mem) (𝓡 .run)) 𝓜 𝓡 code.env #order-entries·check-new checks-def.routine code.calls-order-entries·check-new (checks-thm.met 𝓤 H 𝓜 𝓖 𝓡);
-      stop-at = cited 𝓤 H (StopAt 𝓤 H (𝓖 .A) (𝓜 .mem) (𝓡 .run)) 𝓜 𝓡 code.env #order-entries·stop-at stop-at-def.routine code.calls-order-entries·stop-at (stop-at-thm.met 𝓤 H 𝓜 𝓖 𝓡);
-      entry-at = cited 𝓤 H (EntryAt 𝓤 H (𝓖 .A) (𝓜 .mem) (𝓡 .run)) 𝓜 𝓡 code.env #order-entries·entry-at entry-at-def.routine code.calls-order-entries·entry-at (entry-at-thm.met 𝓤 H 𝓜 𝓖 𝓡);
-      append = cited 𝓤 H (Append 𝓤 H (𝓖 .A) (𝓜 .mem) (𝓡 .run)) 𝓜 𝓡 code.env #order-entries·append append-def.routine code.calls-order-entries·append (append-thm.met 𝓤 H 𝓜 𝓖 𝓡);
+      check-new = cited 𝓤 H (CheckNew 𝓤 H (𝓖 .A) (𝓜 .mem) (𝓡 .run)) 𝓜 𝓡 code.env #order-copy·check-new checks-def.routine code.calls-order-copy·check-new (checks-thm.met 𝓤 H 𝓜 𝓖 𝓡);
+      stop-at = cited 𝓤 H (StopAt 𝓤 H (𝓖 .A) (𝓜 .mem) (𝓡 .run)) 𝓜 𝓡 code.env #order-copy·stop-at stop-at-def.routine code.calls-order-copy·stop-at (stop-at-thm.met 𝓤 H 𝓜 𝓖 𝓡);
+      entry-at = cited 𝓤 H (EntryAt 𝓤 H (𝓖 .A) (𝓜 .mem) (𝓡 .run)) 𝓜 𝓡 code.env #order-copy·entry-at entry-at-def.routine code.calls-order-copy·entry-at (entry-at-thm.met 𝓤 H 𝓜 𝓖 𝓡);
+      append = cited 𝓤 H (Append 𝓤 H (𝓖 .A) (𝓜 .mem) (𝓡 .run)) 𝓜 𝓡 code.env #order-copy·append append-def.routine code.calls-order-copy·append (append-thm.met 𝓤 H 𝓜 𝓖 𝓡);
     }))

@@ -1,13 +1,14 @@
 -- `records::fill_one` meets its contract: four stores. Assumes nothing.
 use native.Mathlib.Omega.{arith}
+use mathlib.Core.Path.{refl}
 use Rattle.records.specs.Filling.{fill-one}
 use lib.ListN.{length-set}
 use borrow.Author.Needs.{needs}
 use Rattle.records.proofs.fill_one.Statement.{statement}
 use Rattle.records.proofs.fill_one.Tie as tie
 
-wide-requires : tie.Need-wide-requires
-wide-requires c κs = search needs
+cast-i : tie.Need-cast-i
+cast-i c = search needs
 
 mul-i : tie.Need-mul-i
 mul-i c = search needs
@@ -50,13 +51,13 @@ same-length c = search needs
 
 returns : tie.Need-returns
 unfolding fill-one
-returns c = rw (c .wide .ensures)
+returns c = refl
 
 pub fill-one-spec : {M : Type 1} → statement M
 fill-one-spec =
     tie.close
     (tie.spec
-    wide-requires
+    cast-i
     mul-i
     mul-rows
     slice-write-rows

@@ -1,9 +1,9 @@
 -- `records::fill_rows` meets its contract. The invariant says what is still to be filled. Assumes nothing.
-use Rattle.records.specs.Filling.{filled, fill-one, to-fill, fill-begins, fill-turn, fill-ends, fill-one-length}
-use Rattle.entries.specs.Entries.{row, entry-at}
+use Rattle.records.specs.Filling.{filled, to-fill, fill-begins, fill-turn, fill-ends, fill-one-length}
+use Rattle.entries.specs.Entries.{row}
 use denote.Ref.{now}
 use lib.ListN.{length}
-use Prim.Native.Nat.{_+_, _-_, _≤_}
+use Prim.Native.Nat.{_-_, _≤_}
 use mathlib.Core.Path.{_≡_, refl, sym, ap, _∙_}
 use borrow.Author.Needs.{needs}
 use native.Mathlib.Omega.{arith}
@@ -16,14 +16,18 @@ Inv-loop order n a rows₀ q₀ rows q = (q ≤ a) × ((length rows ≡ length r
 abbrev μ-loop : tie.MeasureT-loop
 μ-loop order n a rows₀ q₀ rows q = a - q
 
+-- the start, seen from a turn
+abbrev start : tie.In-loop Inv-loop μ-loop → tie.Start Inv-loop μ-loop
+start c = c .before .before .before .before
+
 loop-holds : tie.Need-loop-holds Inv-loop μ-loop
-loop-holds c = let g = c .before .before .args in (omega arith, (refl, fill-begins (now (g .order)) (g .n) (g .a) (now (g .rows))))
+loop-holds c = let a = c .before .before .args in (omega arith, (refl, fill-begins (now (a .order)) (a .n) (a .a) (now (a .rows))))
 
-add-wide : tie.Need-add-wide Inv-loop μ-loop
-add-wide c = search needs
+add-load : tie.Need-add-load Inv-loop μ-loop
+add-load c = search needs
 
-wide-requires : tie.Need-wide-requires Inv-loop μ-loop
-wide-requires c κs = search needs
+cast-load : tie.Need-cast-load Inv-loop μ-loop
+cast-load c = search needs
 
 load-requires : tie.Need-load-requires Inv-loop μ-loop
 load-requires c κs = search needs
@@ -32,13 +36,11 @@ add-fill-one : tie.Need-add-fill-one Inv-loop μ-loop
 add-fill-one c = search needs
 
 fill-one-requires : tie.Need-fill-one-requires Inv-loop μ-loop
-fill-one-requires c κs = let s = c .before .before .before .before .before .before .before in
-    let q = c .before .before .before .before .loop .q in
-    let inv = c .before .before .before .before .loop .inv in
-    let e : c .before .load .result ≡ entry-at (now (s .args .order)) (s .args .n + q) = c .before .load .ensures ∙ rw (c .before .before .wide .ensures) in
-    let f = ap (λ z. z .added) e in
-    let k = s .pre .1 .known q (c .before .before .before .loop-test .taken) in
-    omega (arith, f, k, inv .1 .0)
+fill-one-requires c κs =
+    let e = c .before .load .ensures in
+    let turn = c .before .before in
+    let l = turn .before .loop in
+    omega (arith, ap (λ z. z .added) e, start turn .pre .1 .known (l .q) (turn .loop-test .taken), l .inv .1 .0)
 
 add-q : tie.Need-add-q Inv-loop μ-loop
 add-q c = search needs
@@ -47,24 +49,28 @@ loop-less : tie.Need-loop-less Inv-loop μ-loop
 loop-less c = search needs
 
 loop-again : tie.Need-loop-again Inv-loop μ-loop
-loop-again c = let s = c .before .before .before .before .before .before .before .before .before .before in
-    let q = c .before .before .before .before .before .before .before .loop .q in
-    let t = c .before .before .before .before .before .before .before .loop .rows in
-    let inv = c .before .before .before .before .before .before .before .loop .inv in
-    let o = now (s .args .order) in
-    let e = c .before .before .before .before .load .result in
-    let f : e ≡ entry-at o (s .args .n + q) = c .before .before .before .before .load .ensures ∙ rw (c .before .before .before .before .before .wide .ensures) in
-    let h = c .before .before .before .before .before .before .loop-test .taken in
+loop-again c =
     let w = c .before .before .fill-one .ensures in
-    (omega arith, (ap length w ∙ fill-one-length t _ e ∙ inv .1 .0, inv .1 .1 ∙ fill-turn o (s .args .n) (s .args .a) t _ q e h f w))
+    let loaded = c .before .before .before .before in
+    let e = loaded .load in
+    let turn = loaded .before in
+    let l = turn .before .loop in
+    let a = start turn .args in (
+      omega arith,
+      (
+        ap length w ∙ fill-one-length (l .rows) _ (e .result) ∙ l .inv .1 .0,
+        l .inv .1 .1 ∙ fill-turn (now (a .order)) (a .n) (a .a) (l .rows) _ (l .q) (e .result) (turn .loop-test .taken) (e .ensures) w,
+      ),
+    )
 
 same-length : tie.Need-same-length Inv-loop μ-loop
 same-length c = search needs
 
 returns : tie.Need-returns Inv-loop μ-loop
-returns c = let g = c .before .before .before .before .args in
-    let inv = c .before .loop .inv in
-    sym (inv .1 .1 ∙ fill-ends (now (g .order)) (g .n) (g .a) (c .before .loop .rows) (c .before .loop .q) (c .loop-test .left))
+returns c =
+    let l = c .before .loop in
+    let a = c .before .before .before .before .args in
+    sym (l .inv .1 .1 ∙ fill-ends (now (a .order)) (a .n) (a .a) (l .rows) (l .q) (c .loop-test .left))
 
 pub fill-rows-spec : {M : Type 1} → statement M
 fill-rows-spec =
@@ -73,8 +79,8 @@ fill-rows-spec =
     Inv-loop
     μ-loop
     loop-holds
-    add-wide
-    wide-requires
+    add-load
+    cast-load
     load-requires
     add-fill-one
     fill-one-requires

@@ -14,32 +14,55 @@ Inv-loop w₀ v lo hi top p₀ t₀ w p t = (lo ≤ p) × (p ≤ hi) × (length 
 abbrev μ-loop : tie.MeasureT-loop
 μ-loop w₀ v lo hi top p₀ t₀ w p t = hi - p
 
+-- places of the code: the start, seen from the loop; the turn that takes a chain off, seen from its end
+abbrev start : tie.At-loop Inv-loop μ-loop → tie.Start Inv-loop μ-loop
+start c = c .before .before
+
+abbrev turn : tie.After-splice Inv-loop μ-loop → tie.In-loop Inv-loop μ-loop
+turn c = c .before .before .before
+
 loop-holds : tie.Need-loop-holds Inv-loop μ-loop
 loop-holds c = let a = c .before .args in (omega arith, c .before .pre .order, refl, placing-start (now (a .w)) (a .v) (a .lo) (a .top))
 
 mul-head : tie.Need-mul-head Inv-loop μ-loop
-mul-head c = omega (arith, c .before .before .before .pre .high, c .before .before .before .pre .delayed .long, c .before .loop .inv .2)
+mul-head c = let s = start (c .before) in omega (arith, s .pre .high, s .pre .delayed .long, c .before .loop .inv .2)
 
 slice-read-head : tie.Need-slice-read-head Inv-loop μ-loop
-slice-read-head c = omega (arith, c .before .before .before .before .pre .high, c .before .before .before .before .pre .delayed .long, c .before .before .loop .inv .2)
+slice-read-head c =
+    let l = c .before .before in
+    omega (arith, start l .pre .high, start l .pre .delayed .long, l .loop .inv .2)
 
 splice-requires : tie.Need-splice-requires Inv-loop μ-loop
-splice-requires c κs = let a = c .before .before .before .before .before .args in let l = c .before .before .before .loop in placing-chained (now (a .w)) (a .v) (a .lo) (a .hi) (a .top) (c .before .before .before .before .before .pre) (l .w) (l .p) (l .t) (l .inv .3) (c .before .before .loop-test .taken)
+splice-requires c κs =
+    let t = c .before .before in
+    placing-chained (start (t .before) .pre) (t .before .loop .inv .3) (t .loop-test .taken)
 
 add-p : tie.Need-add-p Inv-loop μ-loop
-add-p c = omega (arith, c .before .before .before .before .before .before .before .before .pre .high, c .before .before .before .before .before .loop-test .taken)
+add-p c =
+    let t = turn (c .before .before) in
+    omega (arith, start (t .before) .pre .high, t .loop-test .taken)
 
 loop-less : tie.Need-loop-less Inv-loop μ-loop
-loop-less c = omega (arith, c .before .before .before .before .before .loop-test .taken)
+loop-less c = omega (arith, turn (c .before .before) .loop-test .taken)
 
 loop-again : tie.Need-loop-again Inv-loop μ-loop
-loop-again c = let a = c .before .before .before .before .before .before .before .before .args in let l = c .before .before .before .before .before .before .loop in (omega arith, omega (arith, c .before .before .before .before .before .loop-test .taken), c .before .before .splice .kept .0 ∙ l .inv .2, placing-next (now (a .w)) (a .v) (a .lo) (a .hi) (a .top) (c .before .before .before .before .before .before .before .before .pre) (l .w) (l .p) (l .t) (l .inv .3) (c .before .before .before .before .before .loop-test .taken) _ _ (c .before .before .splice .ensures))
+loop-again c =
+    let s = c .before .before in
+    let t = turn s in
+    let l = t .before .loop in (
+      omega arith,
+      omega (arith, t .loop-test .taken),
+      s .splice .kept .0 ∙ l .inv .2,
+      placing-next (start (t .before) .pre) (l .inv .3) (t .loop-test .taken) (s .splice .ensures),
+    )
 
 same-length : tie.Need-same-length Inv-loop μ-loop
 same-length c = c .before .loop .inv .2
 
 returns : tie.Need-returns Inv-loop μ-loop
-returns c = let a = c .before .before .before .args in let l = c .before .loop in let e : l .p ≡ a .hi = omega (arith, l .inv .1, c .loop-test .left) in placing-end (now (a .w)) (a .v) (a .lo) (a .hi) (a .top) (l .w) (l .p) (l .t) (l .inv .3) e
+returns c =
+    let l = c .before .loop in
+    placing-end (l .inv .3) (omega (arith, l .inv .1, c .loop-test .left))
 
 pub advance-placed-spec : {M : Type 1} → statement M
 advance-placed-spec =

@@ -1,9 +1,10 @@
 -- What is left to be turned round, from the places below p, gives the same as the chains of all places from lo to hi. Assumes nothing.
-use Prim.Native.Nat.{ℕ, _*_, _≤_}
+use Prim.Native.Nat.{ℕ, _≤_}
 use denote.Ref.{now}
 use mathlib.Core.Path.{_≡_, refl, _∙_}
 use mathlib.Core.List.{List}
 use lib.ListN.{length}
+use Rattle.rules.specs.Checks.{waiting-needed}
 use borrow.Author.Needs.{needs}
 use native.Mathlib.Omega.{arith}
 use Rattle.registrar.specs.Delayed.{newest}
@@ -18,16 +19,28 @@ Inv-loop w₀ v lo hi p₀ top₀ w p top = (lo ≤ p) × (length w ≡ length w
 abbrev μ-loop : tie.MeasureT-loop
 μ-loop w₀ v lo hi p₀ top₀ w p top = p
 
+-- places of the code: the start, seen from the loop; the turn that takes a chain off, seen from its end
+abbrev start : tie.At-loop Inv-loop μ-loop → tie.Start Inv-loop μ-loop
+start c = c .before .before
+
+abbrev turn : tie.After-turn-onto Inv-loop μ-loop → tie.In-loop Inv-loop μ-loop
+turn c = c .before .before .before
+
 -- in a turn: what is going on, at the chains of the caller's delayed registrations
 chains : (c : tie.In-loop Inv-loop μ-loop) → ℕ → List ℕ
-chains c = λ q. newest q (c .before .before .before .pre .ps)
+chains c = λ q. newest q (start (c .before) .pre .ps)
 
 going : (c : tie.In-loop Inv-loop μ-loop)
-    → Going (now (c .before .before .before .args .w)) (c .before .before .before .args .v) (c .before .before .before .args .lo) (c .before .before .before .args .hi) 0 (chains c) (c .before .loop .w) (c .before .loop .p) (c .before .loop .top)
+    → let a = start (c .before) .args in
+    let l = c .before .loop in
+    Going (now (a .w)) (a .v) (a .lo) (a .hi) 0 (chains c) (l .w) (l .p) (l .top)
 unfolding chains
-going c = let s = c .before .before .before in let a = s .args in c .before .loop .inv .2 (chains c) (advancing-places (now (a .w)) (a .v) (a .lo) (a .hi) 0 (s .pre))
+going c =
+    let s = start (c .before) in
+    let a = s .args in
+    c .before .loop .inv .2 (chains c) (advancing-places (now (a .w)) (a .v) (a .lo) (a .hi) 0 (s .pre))
 
-inside : (c : tie.In-loop Inv-loop μ-loop) → (c .before .loop .p ≤ c .before .before .before .args .v) × (4 * c .before .before .before .args .v ≤ length (c .before .loop .w))
+inside : (c : tie.In-loop Inv-loop μ-loop) → (c .before .loop .p ≤ start (c .before) .args .v) × (waiting-needed (start (c .before) .args .v) ≤ length (c .before .loop .w))
 inside c = (going-in _ _ _ _ _ _ _ _ _ (going c) (c .loop-test .taken), going-long _ _ _ _ _ _ _ _ _ (going c) (c .loop-test .taken))
 
 loop-holds : tie.Need-loop-holds Inv-loop μ-loop
@@ -49,21 +62,25 @@ loop-less : tie.Need-loop-less Inv-loop μ-loop
 loop-less c = search needs
 
 loop-again : tie.Need-loop-again Inv-loop μ-loop
-loop-again c = (
-  omega (arith, c .before .before .before .before .before .loop-test .taken),
-  c .before .before .turn-onto .kept .0 ∙ c .before .before .before .before .before .before .loop .inv .1,
-  λ ch s.
-      let g = c .before .before .before .before .before .before .loop .inv .2 ch s in
-      let e = c .before .before .turn-onto .ensures .turned (ch _) (going-chain _ _ _ _ _ ch _ _ _ g (c .before .before .before .before .before .loop-test .taken)) in
-      going-next _ _ _ _ _ ch _ _ _ g (c .before .before .before .before .before .loop-test .taken) _ _ (e .1) (e .0),
-)
+loop-again c =
+    let o = c .before .before in
+    let t = turn o in
+    let l = t .before .loop in
+    let h = t .loop-test .taken in (
+      omega (arith, h),
+      o .turn-onto .kept .0 ∙ l .inv .1,
+      λ ch s.
+          let g = l .inv .2 ch s in
+          let e = o .turn-onto .ensures .turned (ch _) (going-chain _ _ _ _ _ ch _ _ _ g h) in
+          going-next _ _ _ _ _ ch _ _ _ g h _ _ (e .1) (e .0),
+    )
 
 same-length : tie.Need-same-length Inv-loop μ-loop
 same-length c = c .before .loop .inv .1
 
 returns : tie.Need-returns Inv-loop μ-loop
 returns c =
-    let s = c .before .before .before in
+    let s = start (c .before) in
     let a = s .args in
     set-advances (now (a .w)) (a .v) (a .lo) (a .hi) (s .pre) _ _ (λ ch p. going-end _ _ _ _ _ ch _ _ _ (c .before .loop .inv .2 ch p) (c .loop-test .left))
 

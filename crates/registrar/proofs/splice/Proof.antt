@@ -1,10 +1,22 @@
 -- An empty chain leaves all as it is; else one store at the link of the oldest. Assumes nothing.
 use native.Mathlib.Omega.{arith}
+use Prim.Native.Nat.{_≤_, _<_}
+use lib.ListN.{length}
 use denote.Ref.{now}
+use Rattle.rules.specs.Checks.{waiting-needed}
 use borrow.Author.Needs.{needs}
 use Rattle.registrar.specs.Keeps.{splices-none, splices-some, oldest-below}
 use Rattle.registrar.proofs.splice.Statement.{statement}
 use Rattle.registrar.proofs.splice.Tie as tie
+
+-- places of the code: the start; and where the oldest lies
+abbrev start : tie.After-oldest → tie.Start
+start c = c .before .before .before .before
+
+below : (c : tie.After-oldest) → (c .oldest .result < start c .args .v) × (waiting-needed (start c .args .v) ≤ length (now (start c .args .w)))
+below c =
+    let s = start c in
+    (oldest-below (now (s .args .w)) (s .args .v) (s .args .from) (c .oldest .result) (s .pre) (c .before .before .if1 .left) (c .oldest .ensures), s .pre .long)
 
 returns : tie.Need-returns
 returns c = let a = c .before .before .args in splices-none (now (a .w)) (a .v) (a .from) (a .onto) (c .if1 .taken)
@@ -13,19 +25,21 @@ oldest-requires : tie.Need-oldest-requires
 oldest-requires c κs = search needs
 
 add-w : tie.Need-add-w
-add-w c = omega (arith, oldest-below (now (c .before .before .before .before .args .w)) (c .before .before .before .before .args .v) (c .before .before .before .before .args .from) (c .oldest .result) (c .before .before .before .before .pre) (c .before .before .if1 .left) (c .oldest .ensures), c .before .before .before .before .pre .long)
+add-w c = omega (arith, below c)
 
 mul-w : tie.Need-mul-w
-mul-w c = omega (arith, oldest-below (now (c .before .before .before .before .args .w)) (c .before .before .before .before .args .v) (c .before .before .before .before .args .from) (c .oldest .result) (c .before .before .before .before .pre) (c .before .before .if1 .left) (c .oldest .ensures), c .before .before .before .before .pre .long)
+mul-w c = omega (arith, below c)
 
 slice-write-w : tie.Need-slice-write-w
-slice-write-w c = omega (arith, oldest-below (now (c .before .before .before .before .args .w)) (c .before .before .before .before .args .v) (c .before .before .before .before .args .from) (c .oldest .result) (c .before .before .before .before .pre) (c .before .before .if1 .left) (c .oldest .ensures), c .before .before .before .before .pre .long)
+slice-write-w c = omega (arith, below c)
 
 same-length : tie.Need-same-length
 same-length c = search needs
 
 returns-2 : tie.Need-returns-2
-returns-2 c = let a = c .before .before .before .before .args in splices-some (now (a .w)) (a .v) (a .from) (a .onto) (c .oldest .result) (c .before .before .if1 .left) (c .oldest .ensures)
+returns-2 c =
+    let a = start c .args in
+    splices-some (now (a .w)) (a .v) (a .from) (a .onto) (c .oldest .result) (c .before .before .if1 .left) (c .oldest .ensures)
 
 pub splice-spec : {M : Type 1} → statement M
 splice-spec =

@@ -1,25 +1,22 @@
 -- The listing is that of the storage, which is the model's. Assumes nothing.
 use native.Mathlib.Omega.{arith}
-use Rattle.report.specs.Laws.{tallied, ready, within, reported, median-is}
+use Rattle.report.specs.Laws.{within, ready, reported}
 use borrow.Author.Needs.{needs}
 use Rattle.report.proofs.report.Statement.{statement}
 use Rattle.report.proofs.report.Tie as tie
 
-finalize-requires : tie.Need-finalize-requires
-finalize-requires c κs = tallied (c .before .before .before .before .pre .shown)
-
-wide-requires : tie.Need-wide-requires
-wide-requires c κs = search needs
+-- the start, from the listing's call
+abbrev start : tie.After-put-listing-arg → tie.Start
+start c = c .before .before .before .before
 
 put-listing-requires : tie.Need-put-listing-requires
-put-listing-requires c κs = (ready (c .before .before .before .before .before .before .before .pre .shown) _ (c .before .wide .ensures), omega (arith, within (c .before .before .before .before .before .before .before .pre .shown), c .before .before .before .before .before .before .before .pre .enough, c .before .wide .ensures))
+put-listing-requires c κs = let start = start c in (ready (start .pre .shown), omega (arith, within (start .pre .shown), start .pre .enough))
 
 same-length : tie.Need-same-length
 same-length c = search needs
 
 returns : tie.Need-returns
-returns c = λ P N W k x. reported x _ _ _ _ _ (c .before .before .before .before .wide .ensures) (median-is _ _ (c .before .before .before .before .before .finalize .ensures)) (c .before .before .put-listing .ensures)
+returns c = λ P N W k x. reported x (c .before .before .put-listing .ensures)
 
 pub report-spec : {M : Type 1} → statement M
-report-spec =
-    tie.close (tie.spec finalize-requires wide-requires put-listing-requires same-length returns)
+report-spec = tie.close (tie.spec put-listing-requires same-length returns)

@@ -6,6 +6,22 @@ use borrow.Author.Needs.{needs}
 use Rattle.session.proofs.find_after.Statement.{statement}
 use Rattle.session.proofs.find_after.Tie as tie
 
+-- places of the code, seen from where they are cited
+abbrev at-list-inputs : tie.After-top-loc → tie.After-list-inputs
+at-list-inputs c = c .before .before .before
+
+abbrev at-list-start : tie.After-top-loc → tie.After-list-start
+at-list-start c = at-list-inputs c .before
+
+abbrev at-wide2 : tie.After-top-loc → tie.After-wide2
+at-wide2 c = at-list-start c .before
+
+abbrev at-wide : tie.After-top-loc → tie.After-wide
+at-wide c = at-wide2 c .before
+
+abbrev at-start : tie.After-top-loc → tie.Start
+at-start c = at-wide c .before .before .before .before
+
 wide-requires : tie.Need-wide-requires
 wide-requires c κs = search needs
 
@@ -25,10 +41,25 @@ list-end-requires : tie.Need-list-end-requires
 list-end-requires c κs = search needs
 
 top-loc-requires : tie.Need-top-loc-requires
-top-loc-requires c κs = let a = c .before .before .before .before .before .before .before .before .before .args in asks-parts (now (a .locs)) (now (a .waiting)) (now (a .pool)) (a .v) (a .added) (a .used) (a .r) (c .before .before .before .before .before .wide .result) (c .before .before .before .before .wide2 .result) (c .before .wide3 .result) (c .before .before .before .list-start .result) (c .before .before .list-inputs .result) (c .list-end .result) (c .before .before .before .before .before .wide .ensures) (c .before .before .before .before .wide2 .ensures) (c .before .wide3 .ensures) (c .before .before .before .list-start .ensures) (c .before .before .list-inputs .ensures) (c .list-end .ensures) (c .before .before .before .before .before .before .before .before .before .pre) .1 .1
+top-loc-requires c κs =
+    let at-list-start = c .before .before .before in
+    let at-wide2 = at-list-start .before in
+    let at-wide = at-wide2 .before in
+    let at-start = at-wide .before .before .before .before in
+    let a = at-start .args in
+    asks-parts (now (a .locations)) (now (a .waiting)) (now (a .pool)) (a .v) (a .added) (a .used) (a .r) (at-wide .wide .result) (at-wide2 .wide2 .result)
+    (c .before .wide3 .result) (at-list-start .list-start .result) (c .before .before .list-inputs .result) (c .list-end .result) (at-wide .wide .ensures)
+    (at-wide2 .wide2 .ensures) (c .before .wide3 .ensures) (at-list-start .list-start .ensures) (c .before .before .list-inputs .ensures) (c .list-end .ensures)
+    (at-start .pre) .1 .1
 
 add-at : tie.Need-add-at
-add-at c = let a = c .before .before .before .before .before .before .before .before .before .before .args in let p = asks-parts (now (a .locs)) (now (a .waiting)) (now (a .pool)) (a .v) (a .added) (a .used) (a .r) (c .before .before .before .before .before .before .wide .result) (c .before .before .before .before .before .wide2 .result) (c .before .before .wide3 .result) (c .before .before .before .before .list-start .result) (c .before .before .before .list-inputs .result) (c .before .list-end .result) (c .before .before .before .before .before .before .wide .ensures) (c .before .before .before .before .before .wide2 .ensures) (c .before .before .wide3 .ensures) (c .before .before .before .before .list-start .ensures) (c .before .before .before .list-inputs .ensures) (c .before .list-end .ensures) (c .before .before .before .before .before .before .before .before .before .before .pre) in omega (arith, p .0, p .1 .0)
+add-at c =
+    let a = at-start c .args in
+    let p = asks-parts (now (a .locations)) (now (a .waiting)) (now (a .pool)) (a .v) (a .added) (a .used) (a .r) (at-wide c .wide .result) (at-wide2 c .wide2 .result)
+    (c .before .before .wide3 .result) (at-list-start c .list-start .result) (at-list-inputs c .list-inputs .result) (c .before .list-end .result)
+    (at-wide c .wide .ensures) (at-wide2 c .wide2 .ensures) (c .before .before .wide3 .ensures) (at-list-start c .list-start .ensures) (at-list-inputs c .list-inputs .ensures)
+    (c .before .list-end .ensures) (at-start c .pre) in
+    omega (arith, p .0, p .1 .0)
 
 cast-t18 : tie.Need-cast-t18
 cast-t18 c = search needs
@@ -37,10 +68,20 @@ cast-t20 : tie.Need-cast-t20
 cast-t20 c = search needs
 
 sub-t15 : tie.Need-sub-t15
-sub-t15 c = let a = c .before .before .before .before .before .before .before .before .before .before .args in asks-parts (now (a .locs)) (now (a .waiting)) (now (a .pool)) (a .v) (a .added) (a .used) (a .r) (c .before .before .before .before .before .before .wide .result) (c .before .before .before .before .before .wide2 .result) (c .before .before .wide3 .result) (c .before .before .before .before .list-start .result) (c .before .before .before .list-inputs .result) (c .before .list-end .result) (c .before .before .before .before .before .before .wide .ensures) (c .before .before .before .before .before .wide2 .ensures) (c .before .before .wide3 .ensures) (c .before .before .before .before .list-start .ensures) (c .before .before .before .list-inputs .ensures) (c .before .list-end .ensures) (c .before .before .before .before .before .before .before .before .before .before .pre) .0
+sub-t15 c =
+    let a = at-start c .args in
+    asks-parts (now (a .locations)) (now (a .waiting)) (now (a .pool)) (a .v) (a .added) (a .used) (a .r) (at-wide c .wide .result) (at-wide2 c .wide2 .result)
+    (c .before .before .wide3 .result) (at-list-start c .list-start .result) (at-list-inputs c .list-inputs .result) (c .before .list-end .result)
+    (at-wide c .wide .ensures) (at-wide2 c .wide2 .ensures) (c .before .before .wide3 .ensures) (at-list-start c .list-start .ensures) (at-list-inputs c .list-inputs .ensures)
+    (c .before .list-end .ensures) (at-start c .pre) .0
 
 returns : tie.Need-returns
-returns c = let a = c .before .before .before .before .before .before .before .before .before .before .args in finds (now (a .locs)) (now (a .waiting)) (now (a .pool)) (a .v) (a .added) (a .used) (a .r) (c .before .before .before .before .before .before .wide .result) (c .before .before .before .before .before .wide2 .result) (c .before .before .wide3 .result) (c .before .before .before .before .list-start .result) (c .before .before .before .list-inputs .result) (c .before .list-end .result) (c .before .before .before .before .before .before .wide .ensures) (c .before .before .before .before .before .wide2 .ensures) (c .before .before .wide3 .ensures) (c .before .before .before .before .list-start .ensures) (c .before .before .before .list-inputs .ensures) (c .before .list-end .ensures) (c .top-loc .result) (c .top-loc .ensures)
+returns c =
+    let a = at-start c .args in
+    finds (now (a .locations)) (now (a .waiting)) (now (a .pool)) (a .v) (a .added) (a .used) (a .r) (at-wide c .wide .result) (at-wide2 c .wide2 .result)
+    (c .before .before .wide3 .result) (at-list-start c .list-start .result) (at-list-inputs c .list-inputs .result) (c .before .list-end .result)
+    (at-wide c .wide .ensures) (at-wide2 c .wide2 .ensures) (c .before .before .wide3 .ensures) (at-list-start c .list-start .ensures) (at-list-inputs c .list-inputs .ensures)
+    (c .before .list-end .ensures) (c .top-loc .result) (c .top-loc .ensures)
 
 pub find-after-spec : {M : Type 1} → statement M
 find-after-spec =

@@ -5,9 +5,6 @@ use borrow.Author.Needs.{needs}
 use Rattle.session.proofs.settle_outputs.Statement.{statement}
 use Rattle.session.proofs.settle_outputs.Tie as tie
 
-packed-requires : tie.Need-packed-requires
-packed-requires c κs = search needs
-
 stamp-requires : tie.Need-stamp-requires
 stamp-requires c κs = search needs
 
@@ -15,7 +12,14 @@ wide-requires : tie.Need-wide-requires
 wide-requires c κs = search needs
 
 advance-requires : tie.Need-advance-requires
-advance-requires c κs = let a = c .before .before .before .before .before .before .before .before .before .before .before .before .before .args in asked-advance (now (a .marks)) (c .before .before .before .before .before .before .stamp .last .0) (now (a .locs)) (c .before .before .before .before .before .before .stamp .last .1 .0) (now (a .pool)) (a .at) (a .n) (a .v) (c .wide .result) (a .lead) _ (c .wide .ensures) (c .before .before .before .before .before .before .before .before .before .before .before .before .before .pre) (c .before .before .before .before .before .before .stamp .ensures)
+advance-requires c κs =
+    let at-stamp-1 = c .before .before .before .before .before in
+    let at-stamp = at-stamp-1 .before in
+    let at-start-1 = at-stamp .before .before .before .before .before in
+    let at-start = at-start-1 .before in
+    let a = at-start .args in
+    asked-advance (now (a .marks)) (at-stamp .stamp .last .0) (now (a .locations)) (at-stamp .stamp .last .1 .0) (now (a .pool)) (a .at) (a .n) (a .v) (c .wide .result)
+    (a .watermark) _ (c .wide .ensures) (at-start .pre) (at-stamp .stamp .ensures)
 
 same-length : tie.Need-same-length
 same-length c = search needs
@@ -24,13 +28,19 @@ same-length-2 : tie.Need-same-length-2
 same-length-2 c = search needs
 
 returns : tie.Need-returns
-returns c = let a = c .before .before .before .before .before .before .before .before .before .before .before .before .before .before .args in settled-by (now (a .marks)) (c .before .before .before .before .before .before .before .stamp .last .0) (now (a .locs)) (c .before .before .before .before .before .before .before .stamp .last .1 .0) _ _ _ (a .v) (c .before .wide .result) (c .advance .result) (c .before .before .before .before .before .before .before .before .before .before .packed .ensures) (c .before .wide .ensures) (c .before .before .before .before .before .before .before .stamp .ensures) (c .advance .ensures)
+returns c =
+    let at-stamp-1 = c .before .before .before .before .before in
+    let at-stamp = at-stamp-1 .before .before in
+    let at-start-1 = at-stamp .before .before .before .before .before in
+    let at-start = at-start-1 .before in
+    let a = at-start .args in
+    settled-by (now (a .marks)) (at-stamp .stamp .last .0) (now (a .locations)) (at-stamp .stamp .last .1 .0) _ _ (a .v) (c .before .wide .result) (c .advance .result)
+    (c .before .wide .ensures) (at-stamp .stamp .ensures) (c .advance .ensures)
 
 pub settle-outputs-spec : {M : Type 1} → statement M
 settle-outputs-spec =
     tie.close
     (tie.spec
-    packed-requires
     stamp-requires
     wide-requires
     advance-requires

@@ -1,68 +1,97 @@
 -- `sorter::add` meets its contract: refused, nothing has changed; admitted, the placing makes the call.
-use mathlib.Core.Path.{refl, _∙_}
-use Rattle.admitting.specs.Admitted.{admitted-refused, admitted-placed}
+use mathlib.Core.Path.{_∙_}
+use Rattle.admitting.specs.Admitted.{admitted-refused, admitted-placed, add-asked, add-admitted}
 use Rattle.sorter.proofs.add.Statement.{statement}
 use Rattle.sorter.proofs.add.Tie as tie
 
+-- places of the code, seen from where they are cited
+abbrev at-place-admitted : tie.After-slice-known17 → tie.After-place-admitted
+at-place-admitted c =
+    let p1 = c .before .before .before .before .before in
+    let p2 = p1 .before .before .before .before .before in
+    p2 .before .before .before .before
+
+abbrev at-else-1 : tie.After-slice-known17 → tie.Else1
+at-else-1 c =
+    let p1 = at-place-admitted c .before .before .before .before .before in
+    p1 .before .before .before .before
+
+abbrev at-admit-add : tie.After-slice-known17 → tie.After-admit-add
+at-admit-add c =
+    let p1 = at-else-1 c .before .before .before .before .before in
+    p1 .before
+
+abbrev at-start : tie.After-slice-known17 → tie.Start
+at-start c =
+    let p1 = at-admit-add c .before .before .before .before .before in
+    let p2 = p1 .before .before .before .before .before in
+    p2 .before .before .before
+
+abbrev at-admit-add′ : tie.Then1 → tie.After-admit-add
+at-admit-add′ c =
+    let p1 = c .before .before .before .before .before in
+    p1 .before
+
+abbrev at-start′ : tie.Then1 → tie.Start
+at-start′ c =
+    let p1 = at-admit-add′ c .before .before .before .before .before in
+    let p2 = p1 .before .before .before .before .before in
+    p2 .before .before .before
+
 admit-add-requires : tie.Need-admit-add-requires
-admit-add-requires c κs = c .before .before .before .before .before .before .before .before .before .before .before .before .before .before .before .before .before .before .pre
+admit-add-requires c κs =
+    let at-start-1 = c .before .before .before .before .before in
+    let at-start-2 = at-start-1 .before .before .before .before .before in
+    let at-start = at-start-2 .before .before in
+    add-asked (at-start .pre)
 
 same-length : tie.Need-same-length
-same-length c = refl
+same-length c = at-admit-add′ c .admit-add .kept .1 .0
 
 same-length-2 : tie.Need-same-length-2
-same-length-2 c = refl
-
-same-length-3 : tie.Need-same-length-3
-same-length-3 c = refl
-
-same-length-4 : tie.Need-same-length-4
-same-length-4 c = refl
-
-same-length-5 : tie.Need-same-length-5
-same-length-5 c = refl
-
-same-length-6 : tie.Need-same-length-6
-same-length-6 c = refl
-
-same-length-7 : tie.Need-same-length-7
-same-length-7 c = c .before .before .before .before .before .before .admit-add .kept .1 .1 .1 .1 .1 .1 .1 .0
-
-same-length-8 : tie.Need-same-length-8
-same-length-8 c = c .before .before .before .before .before .before .admit-add .kept .1 .1 .1 .1 .1 .1 .1 .1 .0
+same-length-2 c = at-admit-add′ c .admit-add .kept .1 .1 .0
 
 returns : tie.Need-returns
-returns c = admitted-refused _ _ _ _ _ (c .before .before .before .before .before .before .admit-add .ensures) (c .if1 .taken)
+returns c = admitted-refused _ _ _ _ _ (add-admitted (at-start′ c .pre) (at-admit-add′ c .admit-add .ensures)) (c .if1 .taken)
 
 place-admitted-requires : tie.Need-place-admitted-requires
-place-admitted-requires c κs = c .before .before .before .before .before .before .before .before .before .before .before .before .before .before .admit-add .ensures .may (c .before .before .before .before .before .before .before .before .if1 .left)
+place-admitted-requires c κs =
+    let at-else-1-1 = c .before .before .before .before .before in
+    let at-else-1 = at-else-1-1 .before .before .before in
+    let at-admit-add-1 = at-else-1 .before .before .before .before .before in
+    let at-admit-add = at-admit-add-1 .before in
+    let at-start-1 = at-admit-add .before .before .before .before .before in
+    let at-start-2 = at-start-1 .before .before .before .before .before in
+    let at-start = at-start-2 .before .before .before in
+    add-admitted (at-start .pre) (at-admit-add .admit-add .ensures) .may (at-else-1 .if1 .left)
+
+same-length-3 : tie.Need-same-length-3
+same-length-3 c = at-place-admitted c .place-admitted .kept .1 .0
+
+same-length-4 : tie.Need-same-length-4
+same-length-4 c = at-place-admitted c .place-admitted .kept .1 .1 .0
+
+same-length-5 : tie.Need-same-length-5
+same-length-5 c = at-place-admitted c .place-admitted .kept .1 .1 .1 .0
+
+same-length-6 : tie.Need-same-length-6
+same-length-6 c = at-place-admitted c .place-admitted .kept .1 .1 .1 .1 .0
+
+same-length-7 : tie.Need-same-length-7
+same-length-7 c = at-place-admitted c .place-admitted .kept .1 .1 .1 .1 .1 .0
+
+same-length-8 : tie.Need-same-length-8
+same-length-8 c = at-place-admitted c .place-admitted .kept .1 .1 .1 .1 .1 .1 .0
 
 same-length-9 : tie.Need-same-length-9
-same-length-9 c = c .before .before .before .before .before .before .before .before .before .before .before .before .before .before .place-admitted .kept .1 .0
+same-length-9 c = at-place-admitted c .place-admitted .kept .1 .1 .1 .1 .1 .1 .1 .0 ∙ at-admit-add c .admit-add .kept .1 .0
 
 same-length-10 : tie.Need-same-length-10
-same-length-10 c = c .before .before .before .before .before .before .before .before .before .before .before .before .before .before .place-admitted .kept .1 .1 .0
-
-same-length-11 : tie.Need-same-length-11
-same-length-11 c = c .before .before .before .before .before .before .before .before .before .before .before .before .before .before .place-admitted .kept .1 .1 .1 .0
-
-same-length-12 : tie.Need-same-length-12
-same-length-12 c = c .before .before .before .before .before .before .before .before .before .before .before .before .before .before .place-admitted .kept .1 .1 .1 .1 .0
-
-same-length-13 : tie.Need-same-length-13
-same-length-13 c = c .before .before .before .before .before .before .before .before .before .before .before .before .before .before .place-admitted .kept .1 .1 .1 .1 .1 .0
-
-same-length-14 : tie.Need-same-length-14
-same-length-14 c = c .before .before .before .before .before .before .before .before .before .before .before .before .before .before .place-admitted .kept .1 .1 .1 .1 .1 .1 .0
-
-same-length-15 : tie.Need-same-length-15
-same-length-15 c = c .before .before .before .before .before .before .before .before .before .before .before .before .before .before .place-admitted .kept .1 .1 .1 .1 .1 .1 .1 .0 ∙ c .before .before .before .before .before .before .before .before .before .before .before .before .before .before .before .before .before .before .before .before .before .before .before .before .before .before .before .before .before .admit-add .kept .1 .1 .1 .1 .1 .1 .1 .0
-
-same-length-16 : tie.Need-same-length-16
-same-length-16 c = c .before .before .before .before .before .before .before .before .before .before .before .before .before .before .before .before .before .before .before .before .before .before .before .before .before .before .before .before .before .admit-add .kept .1 .1 .1 .1 .1 .1 .1 .1 .0
+same-length-10 c = at-admit-add c .admit-add .kept .1 .1 .0
 
 returns-2 : tie.Need-returns-2
-returns-2 c = admitted-placed _ _ _ _ _ (c .before .before .before .before .before .before .before .before .before .before .before .before .before .before .before .before .before .before .before .before .before .before .before .before .before .before .before .before .before .admit-add .ensures) _ _ (c .before .before .before .before .before .before .before .before .before .before .before .before .before .before .before .before .before .before .before .before .before .before .before .if1 .left) (c .before .before .before .before .before .before .before .before .before .before .before .before .before .before .place-admitted .ensures)
+returns-2 c =
+    admitted-placed _ _ _ _ _ (add-admitted (at-start c .pre) (at-admit-add c .admit-add .ensures)) _ _ (at-else-1 c .if1 .left) (at-place-admitted c .place-admitted .ensures)
 
 pub add-spec : {M : Type 1} → statement M
 add-spec =
@@ -71,20 +100,14 @@ add-spec =
     admit-add-requires
     same-length
     same-length-2
+    returns
+    place-admitted-requires
     same-length-3
     same-length-4
     same-length-5
     same-length-6
     same-length-7
     same-length-8
-    returns
-    place-admitted-requires
     same-length-9
     same-length-10
-    same-length-11
-    same-length-12
-    same-length-13
-    same-length-14
-    same-length-15
-    same-length-16
     returns-2)

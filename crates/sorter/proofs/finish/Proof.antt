@@ -3,9 +3,22 @@ use mathlib.Core.Path.{refl}
 use Rattle.sorter.specs.FinalWork.{not-concluded, final-tallied, concluded}
 use Rattle.admitting.specs.Numbers.{final-number}
 use Rattle.admitting.specs.Promise.{called-refused, called-does, may-do}
+use Rattle.sorter.specs.FlushWork.{may-flush, flushes}
 use borrow.Author.Needs.{needs}
 use Rattle.sorter.proofs.finish.Statement.{statement}
 use Rattle.sorter.proofs.finish.Tie as tie
+
+-- places of the code, seen from where they are cited
+abbrev at-do-final : tie.After-finalize → tie.After-do-final
+at-do-final c =
+    let p1 = c .before .before .before .before .before in
+    p1 .before .before .before .before
+
+abbrev at-else-1 : tie.After-finalize → tie.Else1
+at-else-1 c = at-do-final c .before .before .before .before .before
+
+abbrev at-check-final : tie.After-finalize → tie.After-check-final
+at-check-final c = at-else-1 c .before
 
 check-final-requires : tie.Need-check-final-requires
 check-final-requires c κs = search needs
@@ -14,40 +27,46 @@ no-summary-requires : tie.Need-no-summary-requires
 no-summary-requires c κs = search needs
 
 returns : tie.Need-returns
-returns c = not-concluded _ _ _ _ (c .before .if1 .taken) (called-refused _ _ _ _ (c .before .if1 .taken) (final-number _ _ _ (c .before .before .check-final .ensures))) (c .no-summary .ensures)
+returns c =
+    not-concluded _ _ _ _ (c .before .if1 .taken) (called-refused _ _ _ _ (c .before .if1 .taken) (final-number _ _ _ (c .before .before .check-final .ensures)))
+    (c .no-summary .ensures)
 
 do-final-requires : tie.Need-do-final-requires
-do-final-requires c κs = may-do _ _ _ _ (final-number _ _ _ (c .before .before .before .before .before .before .before .before .before .check-final .ensures)) (c .before .before .before .before .before .before .before .before .if1 .left) (c .before .before .before .before .before .before .before .before .before .before .before .before .before .before .before .before .before .before .pre)
+do-final-requires c κs =
+    let at-start-1 = c .before .before .before .before .before in
+    let at-start-2 = at-start-1 .before .before .before .before .before in
+    let at-start = at-start-2 .before .before .before .before in
+    may-flush (may-do _ _ _ _ (final-number _ _ _ (c .before .before .before .before .before .check-final .ensures)) (c .before .before .before .before .if1 .left)
+    (at-start .pre))
 
 finalize-requires : tie.Need-finalize-requires
-finalize-requires c κs = final-tallied _ _ _ _ (c .before .before .before .before .before .before .before .before .do-final .ensures) (may-do _ _ _ _ (final-number _ _ _ (c .before .before .before .before .before .before .before .before .before .before .before .before .before .before .before .before .before .before .check-final .ensures)) (c .before .before .before .before .before .before .before .before .before .before .before .before .before .before .before .before .before .if1 .left) (c .before .before .before .before .before .before .before .before .before .before .before .before .before .before .before .before .before .before .before .before .before .before .before .before .before .before .before .pre))
+finalize-requires c κs =
+    let at-do-final-1 = c .before .before .before .before .before in
+    let at-do-final = at-do-final-1 .before .before .before in
+    let at-else-1 = at-do-final .before .before .before .before .before in
+    let at-check-final = at-else-1 .before in
+    let at-start-1 = at-check-final .before .before .before .before .before in
+    let at-start = at-start-1 .before .before .before .before in
+    final-tallied _ _ _ _ (flushes (at-do-final .do-final .ensures)) (may-do _ _ _ _ (final-number _ _ _ (at-check-final .check-final .ensures))
+    (at-else-1 .if1 .left) (at-start .pre))
 
 same-length : tie.Need-same-length
 same-length c = refl
 
 same-length-2 : tie.Need-same-length-2
-same-length-2 c = c .before .before .before .before .before .before .before .before .before .do-final .kept .1 .1 .0
+same-length-2 c = at-do-final c .do-final .kept .1 .1 .0
 
 same-length-3 : tie.Need-same-length-3
-same-length-3 c = c .before .before .before .before .before .before .before .before .before .do-final .kept .1 .1 .1 .0
+same-length-3 c = at-do-final c .do-final .kept .1 .1 .1 .0
 
 same-length-4 : tie.Need-same-length-4
-same-length-4 c = c .before .before .before .before .before .before .before .before .before .do-final .kept .1 .1 .1 .1 .0
-
-same-length-5 : tie.Need-same-length-5
-same-length-5 c = refl
-
-same-length-6 : tie.Need-same-length-6
-same-length-6 c = refl
-
-same-length-7 : tie.Need-same-length-7
-same-length-7 c = refl
-
-same-length-8 : tie.Need-same-length-8
-same-length-8 c = refl
+same-length-4 c = at-do-final c .do-final .kept .1 .1 .1 .1 .0
 
 returns-2 : tie.Need-returns-2
-returns-2 c = concluded _ _ _ _ (c .before .before .before .before .before .before .before .before .before .do-final .ensures) _ (final-number _ _ _ (c .before .before .before .before .before .before .before .before .before .before .before .before .before .before .before .before .before .before .before .check-final .ensures)) (c .before .before .before .before .before .before .before .before .before .before .before .before .before .before .before .before .before .before .if1 .left) (called-does _ _ _ _ _ _ (final-number _ _ _ (c .before .before .before .before .before .before .before .before .before .before .before .before .before .before .before .before .before .before .before .check-final .ensures)) (c .before .before .before .before .before .before .before .before .before .before .before .before .before .before .before .before .before .before .if1 .left) (c .before .before .before .before .before .before .before .before .before .do-final .ensures)) _ (c .finalize .ensures)
+returns-2 c =
+    concluded _ _ _ _ (flushes (at-do-final c .do-final .ensures)) _ (final-number _ _ _ (at-check-final c .check-final .ensures)) (at-else-1 c .if1 .left)
+    (called-does _ _ _ _ _ _ (final-number _ _ _ (at-check-final c .check-final .ensures)) (at-else-1 c .if1 .left) (flushes (at-do-final c .do-final .ensures)))
+    _ (c .finalize .ensures)
 
 pub finish-spec : {M : Type 1} → statement M
 finish-spec =
@@ -62,8 +81,4 @@ finish-spec =
     same-length-2
     same-length-3
     same-length-4
-    same-length-5
-    same-length-6
-    same-length-7
-    same-length-8
     returns-2)

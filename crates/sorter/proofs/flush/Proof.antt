@@ -2,9 +2,22 @@
 use mathlib.Core.Path.{refl}
 use Rattle.admitting.specs.Numbers.{flush-number}
 use Rattle.admitting.specs.Promise.{called-refused, called-does, may-do}
+use Rattle.sorter.specs.FlushWork.{may-flush, flushes}
 use borrow.Author.Needs.{needs}
 use Rattle.sorter.proofs.flush.Statement.{statement}
 use Rattle.sorter.proofs.flush.Tie as tie
+
+-- places of the code, seen from where they are cited
+abbrev at-do-flush : tie.After-slice-known11 → tie.After-do-flush
+at-do-flush c =
+    let p1 = c .before .before .before .before .before in
+    p1 .before
+
+abbrev at-else-1 : tie.After-slice-known11 → tie.Else1
+at-else-1 c = at-do-flush c .before .before .before .before .before
+
+abbrev at-check-flush : tie.After-slice-known11 → tie.After-check-flush
+at-check-flush c = at-else-1 c .before
 
 check-flush-requires : tie.Need-check-flush-requires
 check-flush-requires c κs = search needs
@@ -13,34 +26,27 @@ returns : tie.Need-returns
 returns c = called-refused _ _ _ _ (c .if1 .taken) (flush-number _ _ _ (c .before .check-flush .ensures))
 
 do-flush-requires : tie.Need-do-flush-requires
-do-flush-requires c κs = may-do _ _ _ _ (flush-number _ _ _ (c .before .before .before .before .before .before .before .before .before .check-flush .ensures)) (c .before .before .before .before .before .before .before .before .if1 .left) (c .before .before .before .before .before .before .before .before .before .before .before .before .before .before .before .before .before .before .pre)
+do-flush-requires c κs =
+    let at-start-1 = c .before .before .before .before .before in
+    let at-start-2 = at-start-1 .before .before .before .before .before in
+    let at-start = at-start-2 .before .before .before .before in
+    may-flush (may-do _ _ _ _ (flush-number _ _ _ (c .before .before .before .before .before .check-flush .ensures)) (c .before .before .before .before .if1 .left)
+    (at-start .pre))
 
 same-length : tie.Need-same-length
 same-length c = refl
 
 same-length-2 : tie.Need-same-length-2
-same-length-2 c = c .before .before .before .before .before .before .do-flush .kept .1 .1 .0
+same-length-2 c = at-do-flush c .do-flush .kept .1 .1 .0
 
 same-length-3 : tie.Need-same-length-3
-same-length-3 c = c .before .before .before .before .before .before .do-flush .kept .1 .1 .1 .0
+same-length-3 c = at-do-flush c .do-flush .kept .1 .1 .1 .0
 
 same-length-4 : tie.Need-same-length-4
-same-length-4 c = c .before .before .before .before .before .before .do-flush .kept .1 .1 .1 .1 .0
-
-same-length-5 : tie.Need-same-length-5
-same-length-5 c = refl
-
-same-length-6 : tie.Need-same-length-6
-same-length-6 c = refl
-
-same-length-7 : tie.Need-same-length-7
-same-length-7 c = refl
-
-same-length-8 : tie.Need-same-length-8
-same-length-8 c = refl
+same-length-4 c = at-do-flush c .do-flush .kept .1 .1 .1 .1 .0
 
 returns-2 : tie.Need-returns-2
-returns-2 c = called-does _ _ _ _ _ _ (flush-number _ _ _ (c .before .before .before .before .before .before .before .before .before .before .before .before .before .before .before .before .check-flush .ensures)) (c .before .before .before .before .before .before .before .before .before .before .before .before .before .before .before .if1 .left) (c .before .before .before .before .before .before .do-flush .ensures)
+returns-2 c = called-does _ _ _ _ _ _ (flush-number _ _ _ (at-check-flush c .check-flush .ensures)) (at-else-1 c .if1 .left) (flushes (at-do-flush c .do-flush .ensures))
 
 pub flush-spec : {M : Type 1} → statement M
 flush-spec =
@@ -53,8 +59,4 @@ flush-spec =
     same-length-2
     same-length-3
     same-length-4
-    same-length-5
-    same-length-6
-    same-length-7
-    same-length-8
     returns-2)

@@ -1,6 +1,6 @@
 -- So many numbers are copied as the loop has turned. Assumes nothing.
 use mathlib.Core.Path.{_≡_, refl, ap, _∙_}
-use Prim.Native.Nat.{ℕ, _+_, _-_, _≤_, _<_}
+use Prim.Native.Nat.{ℕ, _-_, _≤_}
 use native.Mathlib.Numerals.{add-one}
 use native.Mathlib.Omega.{arith}
 use lib.Seq.{paste, paste-zero, paste-suc}
@@ -41,8 +41,11 @@ loop-less : tie.Need-loop-less Inv-loop μ-loop
 loop-less c = search needs
 
 loop-again : tie.Need-loop-again Inv-loop μ-loop
-loop-again c = let a = c .before .before .before .args in
-    let l = c .before .before .loop in
+loop-again c =
+    let at-loop = c .before .before in
+    let start = at-loop .before in
+    let a = start .args in
+    let l = at-loop .loop in
     let more = paste-suc (now (a .to)) (a .at) (now (a .from)) (l .i) 0 (omega arith) (omega arith) in
     (l .inv .0, (omega arith, (simp length-set (l .inv .1 .1 .0), rw (l .inv .1 .1 .1, add-one) more)))
 

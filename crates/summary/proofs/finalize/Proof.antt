@@ -4,7 +4,7 @@ use Prim.Native.Nat.{_+_}
 use lib.Seq.{length-take-le}
 use denote.Ref.{now}
 use borrow.Author.Needs.{needs}
-use Rattle.summary.specs.Loops.{small}
+use Rattle.summary.specs.Writing.{small}
 use Rattle.summary.proofs.finalize.Statement.{statement}
 use Rattle.summary.proofs.finalize.Tie as tie
 

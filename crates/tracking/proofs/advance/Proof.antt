@@ -17,8 +17,18 @@ Inv-loop marks v from i₀ i = (i ≤ v) × (run-from (tracked-in marks) v 0 ≡
 abbrev μ-loop : tie.MeasureT-loop
 μ-loop marks v from i₀ i = v - i
 
+-- places of the code: the start, seen from the loop; the turn that reads a mark
+abbrev start : tie.At-loop Inv-loop μ-loop → tie.Start Inv-loop μ-loop
+start c = c .before
+
+abbrev turn : tie.After-shared-slice-known Inv-loop μ-loop → tie.In-loop Inv-loop μ-loop
+turn c = c .before
+
 loop-holds : tie.Need-loop-holds Inv-loop μ-loop
-loop-holds c = let a = c .args in (omega (arith, run-most (tracked-in (now (a .marks))) (a .v), c .pre .1), run-begins (tracked-in (now (a .marks))) (a .v) (a .from) (c .pre .1))
+loop-holds c =
+    let a = c .args in
+    let t = tracked-in (now (a .marks)) in
+    (omega (arith, run-most t (a .v), c .pre .1), run-begins t (a .v) (a .from) (c .pre .1))
 
 mul-if1 : tie.Need-mul-if1 Inv-loop μ-loop
 mul-if1 c = search needs
@@ -28,7 +38,11 @@ shared-slice-read-if1 c = search needs
 
 returns : tie.Need-returns Inv-loop μ-loop
 unfolding tracked-in
-returns c = let s = c .before .before .before .before in let a = s .args in let i = c .before .before .before .loop .i in sym (c .before .before .before .loop .inv .1 ∙ run-stops (tracked-in (now (a .marks))) (a .v) i (c .before .before .loop-test .taken) (nz-no (getD (now (a .marks)) i 0) (c .if1 .taken)))
+returns c =
+    let t = turn (c .before) in
+    let a = start (t .before) .args in
+    let l = t .before .loop in
+    sym (l .inv .1 ∙ run-stops (tracked-in (now (a .marks))) (a .v) (l .i) (t .loop-test .taken) (nz-no (getD (now (a .marks)) (l .i) 0) (c .if1 .taken)))
 
 add-i : tie.Need-add-i Inv-loop μ-loop
 add-i c = search needs
@@ -38,10 +52,16 @@ loop-less c = search needs
 
 loop-again : tie.Need-loop-again Inv-loop μ-loop
 unfolding tracked-in
-loop-again c = let s = c .before .before .before .before in let a = s .args in let i = c .before .before .before .loop .i in (omega arith, c .before .before .before .loop .inv .1 ∙ run-more (tracked-in (now (a .marks))) (a .v) i (c .before .before .loop-test .taken) (nz-yes (getD (now (a .marks)) i 0) (c .if1 .left)))
+loop-again c =
+    let t = turn (c .before) in
+    let a = start (t .before) .args in
+    let l = t .before .loop in
+    (omega arith, l .inv .1 ∙ run-more (tracked-in (now (a .marks))) (a .v) (l .i) (t .loop-test .taken) (nz-yes (getD (now (a .marks)) (l .i) 0) (c .if1 .left)))
 
 returns-2 : tie.Need-returns-2 Inv-loop μ-loop
-returns-2 c = let s = c .before .before in let a = s .args in sym (c .before .loop .inv .1 ∙ run-ends (tracked-in (now (a .marks))) (a .v) (c .before .loop .i) (c .loop-test .left))
+returns-2 c =
+    let a = start (c .before) .args in
+    sym (c .before .loop .inv .1 ∙ run-ends (tracked-in (now (a .marks))) (a .v) (c .before .loop .i) (c .loop-test .left))
 
 pub advance-spec : {M : Type 1} → statement M
 advance-spec =

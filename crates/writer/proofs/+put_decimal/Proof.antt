@@ -63,12 +63,24 @@ put-decimal-put-decimal-requires : (t : ℕ) → put-decimal-lts.Need-put-decima
   put-decimal-below t,
   put-decimal.Post,
 ) (put-decimal-at t) put-decimal.Post
-put-decimal-put-decimal-requires t c κs = (omega (arith, c .before .before .before .pre .0, c .before .if1 .left), omega (arith, room-large (c .before .before .before .args .n) (c .before .before .before .args .at) (length (c .before .before .before .args .out .now)) (c .before .if1 .left) (c .before .before .before .fits .n .fits) (c .before .before .before .pre .1)))
+put-decimal-put-decimal-requires t c κs =
+    let start = c .before .before .before in (
+      omega (arith, start .pre .0, c .before .if1 .left),
+      omega (arith, room-large (start .args .n) (start .args .at) (length (start .args .out .now)) (c .before .if1 .left) (start .fits .n .fits) (start .pre .1)),
+    )
 
 inside : (t : ℕ) (c : put-decimal-lts.After-slice-known2 (put-decimal-below t, put-decimal.Post) (put-decimal-at t) put-decimal.Post)
     → c .before .before .put-decimal .result < length (c .before .before .put-decimal .last .0)
 inside t c =
-    omega (arith, c .before .before .put-decimal .ensures .next, c .before .before .put-decimal .kept .0, room-large (c .before .before .before .before .before .before .args .n) (c .before .before .before .before .before .before .args .at) (length (c .before .before .before .before .before .before .args .out .now)) (c .before .before .before .before .if1 .left) (c .before .before .before .before .before .before .fits .n .fits) (c .before .before .before .before .before .before .pre .1))
+    let after-put-decimal = c .before .before in
+    let else1 = after-put-decimal .before .before in
+    let start = else1 .before .before in
+    omega (
+      arith,
+      after-put-decimal .put-decimal .ensures .next,
+      after-put-decimal .put-decimal .kept .0,
+      room-large (start .args .n) (start .args .at) (length (start .args .out .now)) (else1 .if1 .left) (start .fits .n .fits) (start .pre .1),
+    )
 
 put-decimal-cast-out-2 : (t : ℕ) → put-decimal-lts.Need-cast-out-2 (
   put-decimal-below t,
@@ -92,7 +104,10 @@ put-decimal-add-result-2 : (t : ℕ) → put-decimal-lts.Need-add-result-2 (
   put-decimal-below t,
   put-decimal.Post,
 ) (put-decimal-at t) put-decimal.Post
-put-decimal-add-result-2 t c = omega (arith, inside t c, c .before .before .put-decimal .kept .0, c .before .before .before .before .before .before .good .0 .0)
+put-decimal-add-result-2 t c =
+    let after-put-decimal = c .before .before in
+    let start = after-put-decimal .before .before .before .before in
+    omega (arith, inside t c, after-put-decimal .put-decimal .kept .0, start .good .0 .0)
 
 put-decimal-same-length-2 : (t : ℕ) → put-decimal-lts.Need-same-length-2 (
   put-decimal-below t,
@@ -104,7 +119,12 @@ put-decimal-returns-2 : (t : ℕ) → put-decimal-lts.Need-returns-2 (
   put-decimal-below t,
   put-decimal.Post,
 ) (put-decimal-at t) put-decimal.Post
-put-decimal-returns-2 t c = put-large (c .before .before .before .before .before .before .args .out .now) (c .before .before .put-decimal .last .0) (c .before .before .before .before .before .before .args .at) (c .before .before .put-decimal .result) (c .before .before .before .before .before .before .args .n) (c .before .before .before .before .if1 .left) (c .before .before .before .before .before .before .fits .n .fits) (c .before .before .put-decimal .ensures) (inside t c)
+put-decimal-returns-2 t c =
+    let after-put-decimal = c .before .before in
+    let else1 = after-put-decimal .before .before in
+    let start = else1 .before .before in
+    put-large (start .args .out .now) (after-put-decimal .put-decimal .last .0) (start .args .at) (after-put-decimal .put-decimal .result)
+    (start .args .n) (else1 .if1 .left) (start .fits .n .fits) (after-put-decimal .put-decimal .ensures) (inside t c)
 
 pub +put-decimal-spec : {M : Type 1} → statement M
 +put-decimal-spec = close μ-put-decimal λ t. put-decimal-lts.spec (

@@ -1,6 +1,6 @@
 -- So many bytes of the text are copied as the loop has turned. Assumes nothing.
-use mathlib.Core.Path.{_≡_, refl, sym, ap, _∙_}
-use Prim.Native.Nat.{ℕ, _+_, _-_, _≤_, _<_}
+use mathlib.Core.Path.{_≡_, refl, ap, _∙_}
+use Prim.Native.Nat.{ℕ, _-_, _≤_}
 use native.Mathlib.Numerals.{add-one}
 use lib.Seq.{paste, paste-zero, paste-suc}
 use lib.ListN.{length, length-set}
@@ -34,13 +34,23 @@ loop-less : tie.Need-loop-less Inv-loop μ-loop
 loop-less c = search needs
 
 loop-again : tie.Need-loop-again Inv-loop μ-loop
-loop-again c = (omega arith, (simp length-set (c .before .before .loop .inv .1 .0), rw (c .before .before .loop .inv .1 .1, add-one) (paste-suc (c .before .before .before .args .out .now) (c .before .before .before .args .at) (c .before .before .before .args .s .now) (c .before .before .loop .j) 0 (omega arith) (omega arith))))
+loop-again c =
+    let at-loop = c .before .before in
+    let start = at-loop .before in (
+      omega arith,
+      (
+        simp length-set (at-loop .loop .inv .1 .0),
+        rw (at-loop .loop .inv .1 .1, add-one) (paste-suc (start .args .out .now) (start .args .at) (start .args .s .now) (at-loop .loop .j) 0 (omega arith) (omega arith)),
+      ),
+    )
 
 same-length : tie.Need-same-length Inv-loop μ-loop
 same-length c = search needs
 
 returns : tie.Need-returns Inv-loop μ-loop
-returns c = let e : c .before .loop .j ≡ c .before .before .args .n = omega arith in c .before .loop .inv .1 .1 ∙ ap (λ (k : ℕ). paste (c .before .before .args .out .now) (c .before .before .args .at) (c .before .before .args .s .now) k) e
+returns c =
+    let e : c .before .loop .j ≡ c .before .before .args .n = omega arith in
+    c .before .loop .inv .1 .1 ∙ ap (λ (k : ℕ). paste (c .before .before .args .out .now) (c .before .before .args .at) (c .before .before .args .s .now) k) e
 
 pub copy-spec : {M : Type 1} → statement M
 copy-spec =

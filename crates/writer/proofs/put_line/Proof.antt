@@ -5,20 +5,55 @@ use borrow.Author.Needs.{needs}
 use Rattle.writer.proofs.put_line.Statement.{statement}
 use Rattle.writer.proofs.put_line.Tie as tie
 
+-- the places of the code, each named once
+abbrev to-start : tie.After-slice-known2 → tie.Start
+to-start c =
+    let after-put-field-arg = c .before .before .before in
+    after-put-field-arg .before .before .before
+
 put-field-requires : tie.Need-put-field-requires
-put-field-requires c κs = omega (arith, length-field (c .before .before .before .args .word .now) (c .before .before .before .args .n), length-line (c .before .before .before .args .word .now) (c .before .before .before .args .n), c .before .before .before .pre)
+put-field-requires c κs =
+    let start = c .before .before .before in
+    omega (arith, length-field (start .args .word .now) (start .args .n), length-line (start .args .word .now) (start .args .n), start .pre)
 
 slice-write-out : tie.Need-slice-write-out
-slice-write-out c = omega (arith, length-field (c .before .before .before .before .before .before .args .word .now) (c .before .before .before .before .before .before .args .n), length-line (c .before .before .before .before .before .before .args .word .now) (c .before .before .before .before .before .before .args .n), c .before .before .before .before .before .before .pre, c .before .before .put-field .ensures .next, c .before .before .put-field .kept .0)
+slice-write-out c =
+    omega (
+      arith,
+      length-field (to-start c .args .word .now) (to-start c .args .n),
+      length-line (to-start c .args .word .now) (to-start c .args .n),
+      to-start c .pre,
+      c .before .before .put-field .ensures .next,
+      c .before .before .put-field .kept .0,
+    )
 
 add-result : tie.Need-add-result
-add-result c = omega (arith, length-field (c .before .before .before .before .before .before .args .word .now) (c .before .before .before .before .before .before .args .n), length-line (c .before .before .before .before .before .before .args .word .now) (c .before .before .before .before .before .before .args .n), c .before .before .before .before .before .before .pre, c .before .before .put-field .ensures .next, c .before .before .before .before .before .before .good .0 .0)
+add-result c =
+    omega (
+      arith,
+      length-field (to-start c .args .word .now) (to-start c .args .n),
+      length-line (to-start c .args .word .now) (to-start c .args .n),
+      to-start c .pre,
+      c .before .before .put-field .ensures .next,
+      to-start c .good .0 .0,
+    )
 
 same-length : tie.Need-same-length
 same-length c = search needs
 
 returns : tie.Need-returns
-returns c = wrote-line (c .before .before .before .before .before .before .args .out .now) (c .before .before .put-field .last .0) (c .before .before .before .before .before .before .args .at) (c .before .before .put-field .result) (c .before .before .before .before .before .before .args .n) (c .before .before .before .before .before .before .args .word .now) (c .before .before .put-field .ensures) (omega (arith, length-field (c .before .before .before .before .before .before .args .word .now) (c .before .before .before .before .before .before .args .n), length-line (c .before .before .before .before .before .before .args .word .now) (c .before .before .before .before .before .before .args .n), c .before .before .before .before .before .before .pre, c .before .before .put-field .ensures .next, c .before .before .put-field .kept .0))
+returns c =
+    wrote-line (to-start c .args .out .now) (c .before .before .put-field .last .0) (to-start c .args .at)
+    (c .before .before .put-field .result) (to-start c .args .n) (to-start c .args .word .now) (c .before .before .put-field .ensures)
+    (omega (
+      arith,
+      length-field (to-start c .args .word .now) (to-start c .args .n),
+      length-line (to-start c .args .word .now)
+          (to-start c .args .n),
+      to-start c .pre,
+      c .before .before .put-field .ensures .next,
+      c .before .before .put-field .kept .0,
+    ))
 
 pub put-line-spec : {M : Type 1} → statement M
 put-line-spec =

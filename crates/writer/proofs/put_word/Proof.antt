@@ -1,5 +1,4 @@
 -- What was copied is the word. Assumes nothing.
-use native.Mathlib.Omega.{arith}
 use Rattle.writer.specs.Wrote.{wrote-copy}
 use borrow.Author.Needs.{needs}
 use Rattle.writer.proofs.put_word.Statement.{statement}
@@ -15,7 +14,10 @@ same-length : tie.Need-same-length
 same-length c = search needs
 
 returns : tie.Need-returns
-returns c = wrote-copy (c .before .before .before .before .before .before .args .out .now) (c .before .before .before .before .before .before .args .word .now) _ (c .before .before .before .before .before .before .args .at) (c .before .before .before .before .before .before .pre) (c .before .before .copy .ensures)
+returns c =
+    let after-copy = c .before .before in
+    let start = after-copy .before .before .before .before in
+    wrote-copy (start .args .out .now) (start .args .word .now) _ (start .args .at) (start .pre) (after-copy .copy .ensures)
 
 pub put-word-spec : {M : Type 1} → statement M
 put-word-spec = tie.close (tie.spec copy-requires add-result same-length returns)

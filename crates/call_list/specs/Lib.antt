@@ -1,0 +1,3 @@
+-- A list of calls replayed on a fresh session.
+pub mod Replay
+pub mod Running

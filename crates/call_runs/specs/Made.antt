@@ -1,0 +1,36 @@
+-- What making one call of an encoded list promises: the call is the one that the numbers say, and the numbers that follow it are found.
+-- Definitions only. Assumes nothing.
+use mathlib.Core.Path.{_≡_}
+use mathlib.Core.List.{List}
+use mathlib.Core.Option.{some}
+use Prim.Native.Nat.{ℕ, _≤_, _<_}
+use lib.ListN.{length, drop}
+use Rattle.rules.specs.Calls.{Call}
+use Rattle.rules.specs.Encoding.{front, Front}
+use Rattle.session.specs.declared.Session.{Session}
+use Rattle.session.specs.Storage.{Storage}
+use Rattle.admitting.specs.declared.Admitted.{Admitted}
+use Rattle.admitting.specs.Promise.{Called}
+use Rattle.admitting.specs.Admitted.{Admits}
+
+-- a call starts at `at`
+pub record Readable (l : List ℕ) (at : ℕ) : Type 0 where
+  pub inside : at < length l
+  pub read : Front
+  pub is : front (drop at l) ≡ some read
+
+-- one call read at `at` was made: the numbers that follow it start at `next`
+pub record Made (l : List ℕ) (at n next : ℕ) (s s′ : Session) (σ σ′ : Storage) : Type 0 where
+  pub call : Call
+  pub is : front (drop at l) ≡ some (record { call = call; rest = drop next l })
+  pub past : at < next
+  pub within : next ≤ length l
+  pub called : Called call n s s′ σ σ′
+
+-- the set or add read at `at` was admitted or refused: the numbers that follow it start at `next`
+pub record AdmitsAt (l : List ℕ) (at : ℕ) (a : Admitted) (next : ℕ) (s : Session) (σ τ : Storage) : Type 0 where
+  pub call : Call
+  pub is : front (drop at l) ≡ some (record { call = call; rest = drop next l })
+  pub past : at < next
+  pub within : next ≤ length l
+  pub admits : Admits call s a σ τ

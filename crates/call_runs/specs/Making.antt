@@ -1,0 +1,131 @@
+-- Making one call of an encoded list: what its numbers say, by its tag, and that a set or an add was admitted and then made, a flush or
+-- a final made. Assumes nothing.
+use mathlib.Core.Path.{_≡_, ap, _∙_}
+use mathlib.Core.List.{List}
+use mathlib.Core.Logic.{inl, inr}
+use mathlib.Core.Option.{Option, some, none}
+use Prim.Native.Nat.{ℕ, _+_, _-_, _≤_, _<_}
+use native.Mathlib.Omega.{arith}
+use native.Mathlib.Decide.{ℕ-discrete}
+use lib.ListN.{length, getD, take, drop}
+use Rattle.rules.specs.Calls.{set, add, flush, final}
+use Rattle.rules.specs.Encoding.{Front, Counted, counted, add-front, add-outs, front}
+use Rattle.encoding.specs.Ends.{ListEnds, front-set, front-set-short, front-add, front-flush, front-final, front-other, add-whole}
+use Rattle.session.specs.declared.Session.{Session}
+use Rattle.session.specs.Storage.{Storage}
+use Rattle.admitting.specs.declared.Admitted.{Admitted}
+use Rattle.admitting.specs.Promise.{Called}
+use Rattle.admitting.specs.Admitted.{Admits, Places, admitted-refused, admitted-placed}
+use Rattle.call_runs.specs.Made.{Made, AdmitsAt, Readable}
+
+never : (f : Front) (o : Option Front) → o ≡ some f → o ≡ none → ⊥
+never f o e d = let z : _≡_ {A = ℕ} 0 1 = cc in omega arith
+
+-- above 2, the tag is neither a set's nor an add's
+pub end-tag : {n : ℕ} → 2 < n → (n ≡ 1 → ⊥) × (n ≡ 2 → ⊥)
+end-tag h = (λ e. omega arith, λ e. omega arith)
+
+module _ {l : List ℕ} {at : ℕ} (R : Readable l at) where
+  -- a set has its place
+  pub set-inside : getD l at 0 ≡ 1 → at + 1 < length l
+  set-inside e = go (ℕ-discrete (length l) (at + 1))
+    where
+      go : Dec (length l ≡ at + 1) → at + 1 < length l
+      go (yes y) = absurd (never (R .read) (front (drop at l)) (R .is) (front-set-short l at (R .inside) e (omega arith)))
+      go (no n) = omega (arith, R .inside, n)
+
+  pub admits-set : {a : Admitted} {s : Session} {σ τ : Storage} → getD l at 0 ≡ 1 → Admits (set (getD l (at + 1) 0)) s a σ τ → AdmitsAt l at a (at + 2) s σ τ
+  admits-set e A =
+      record {
+        call = set (getD l (at + 1) 0);
+        is = front-set l at (R .inside) e (set-inside e);
+        past = omega arith;
+        within = omega (arith, set-inside e);
+        admits = A;
+      }
+
+  module _ {n : ℕ} {s s′ : Session} {σ σ′ : Storage} where
+    pub made-flush : getD l at 0 ≡ 3 → Called flush n s s′ σ σ′ → Made l at n (at + 1) s s′ σ σ′
+    made-flush e c = record { call = flush; is = front-flush l at (R .inside) e; past = omega arith; within = omega (arith, R .inside); called = c }
+
+    -- no other tag is left
+    pub made-final : (getD l at 0 ≡ 1 → ⊥) → (getD l at 0 ≡ 2 → ⊥) → (getD l at 0 ≡ 3 → ⊥) → Called final n s s′ σ σ′ → Made l at n (at + 1) s s′ σ σ′
+    made-final x y z c =
+        record {
+          call = final;
+          is = front-final l at (R .inside) tag;
+          past = omega arith;
+          within = omega (arith, R .inside);
+          called = c;
+        }
+      where
+        tag : getD l at 0 ≡ 4
+        tag = elim (ℕ-discrete (getD l at 0) 4) [ yes e ↦ e | no w ↦ absurd (never (R .read) (front (drop at l)) (R .is) (front-other l at (R .inside) x y z w)) ]
+
+  -- a call whose tag is at most 2 and not 1 is an add, and has both lists
+  module _ (h : getD l at 0 ≤ 2) (x : getD l at 0 ≡ 1 → ⊥) where
+    tag : getD l at 0 ≡ 2
+    tag =
+        elim (ℕ-discrete (getD l at 0) 2) [
+          | yes e ↦ e
+          | no y ↦ absurd (never (R .read) (front (drop at l)) (R .is) (front-other l at (R .inside) x y (λ e. omega arith) (λ e. omega arith)))
+        ]
+
+    pub ins-there : counted (drop (at + 1) l) ≡ none → ⊥
+    unfolding add-front
+    ins-there e = never (R .read) (front (drop at l)) (R .is) (front-add l at (R .inside) tag ∙ ap add-front e)
+
+    module _ (middle : ℕ) (X : ListEnds l (at + 1) middle) where
+      pub outs-there : counted (drop middle l) ≡ none → ⊥
+      unfolding add-front add-outs
+      outs-there e = go X
+        where
+          go : ListEnds l (at + 1) middle → ⊥
+          go (inl x) = ins-there (x .1)
+          go (inr x) =
+              never (R .read) (front (drop at l)) (R .is)
+              (front-add l at (R .inside) tag ∙ ap add-front (x .2) ∙ ap (λ (o : Option Counted). add-outs (take (middle - (at + 1 + 1)) (drop (at + 1 + 1) l)) o) e)
+
+      module _ (next : ℕ) (Y : ListEnds l middle next) where
+        record Whole : Type 0 where
+          ordered : at + 1 < middle
+          first : counted (drop (at + 1) l) ≡ some (record { items = take (middle - (at + 1 + 1)) (drop (at + 1 + 1) l); rest = drop middle l })
+          between : middle < next
+          inside : next ≤ length l
+          second : counted (drop middle l) ≡ some (record { items = take (next - (middle + 1)) (drop (middle + 1) l); rest = drop next l })
+
+        whole : Whole
+        whole = go X Y
+          where
+            go : ListEnds l (at + 1) middle → ListEnds l middle next → Whole
+            go (inl x) y = absurd (ins-there (x .1))
+            go (inr x) (inl y) = absurd (outs-there (y .1))
+            go (inr x) (inr y) = record { ordered = x .0; first = x .2; between = y .0; inside = y .1; second = y .2 }
+
+        pub add-inside : (at + 2 ≤ middle) × ((middle + 1 ≤ next) × (next ≤ length l))
+        add-inside = let w = whole in (omega (arith, w .ordered), (omega (arith, w .between), w .inside))
+
+        pub admits-add : {a : Admitted} {s : Session} {σ τ : Storage} →
+            Admits (add (take (middle - (at + 2)) (drop (at + 2) l)) (take (next - (middle + 1)) (drop (middle + 1) l))) s a σ τ →
+            AdmitsAt l at a next s σ τ
+        admits-add A =
+            let w = whole in
+            let e : at + 1 + 1 ≡ at + 2 = omega arith in
+            record {
+              call = add (take (middle - (at + 1 + 1)) (drop (at + 1 + 1) l)) (take (next - (middle + 1)) (drop (middle + 1) l));
+              is = front-add l at (R .inside) tag ∙ add-whole l (at + 1) middle next (w .first) (w .second);
+              past = omega (arith, w .ordered, w .between);
+              within = w .inside;
+              admits = rw e A;
+            }
+
+-- refused or placed, what was admitted is made
+module _ {l : List ℕ} {at next : ℕ} {a : Admitted} {s : Session} {σ τ : Storage} (E : AdmitsAt l at a next s σ τ) where
+  made : {s′ : Session} {υ : Storage} → Called (E .call) (a .number) s s′ σ υ → Made l at (a .number) next s s′ σ υ
+  made c = record { call = E .call; is = E .is; past = E .past; within = E .within; called = c }
+
+  pub made-refused : (a .number ≡ 0 → ⊥) → Made l at (a .number) next s s σ τ
+  made-refused h = made (admitted-refused (E .call) s a σ τ (E .admits) h)
+
+  pub made-placed : {s′ : Session} {υ : Storage} → a .number ≡ 0 → Places s a s′ τ υ → Made l at (a .number) next s s′ σ υ
+  made-placed {s′} {υ} e Q = made (admitted-placed (E .call) s a σ τ (E .admits) s′ υ e Q)

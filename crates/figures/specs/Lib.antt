@@ -1,0 +1,3 @@
+-- What is asked of a tally, and the laws of the loops over it.
+pub mod Small
+pub mod Loops

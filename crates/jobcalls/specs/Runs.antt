@@ -1,0 +1,243 @@
+-- What the rules' run of a job (rules, Job) makes of what is read of it: the run of some lines is told by their first call, the run of a job
+-- by its head, and a job that is finished has reached the model of its outcome. Assumes nothing.
+use mathlib.Core.Bool.{Bool, true, false}
+use mathlib.Core.List.{List, [], _∷_}
+use mathlib.Core.Option.{Option, some, none}
+use mathlib.Core.Path.{_≡_, refl, sym, ap, _∙_, subst}
+use Prim.Native.Nat.{ℕ, suc}
+use native.Mathlib.Omega.{arith}
+use lib.ListN.{length, drop}
+use lib.Dec.{eqb, ltb}
+use Rattle.rules.specs.Model.{Model, initial}
+use Rattle.rules.specs.Checks.{verdict, check-open}
+use Rattle.rules.specs.Calls as calls
+use Rattle.rules.specs.Calls.{Call, answer, step}
+use Rattle.rules.specs.Job as rule
+use Rattle.rules.specs.Job.{Outcome, lines, ragged, run-lines, run-places, run-job, on-line, closing, job-sizes, Reached, reached-lines, reached-places, reached-job}
+use Rattle.rules.specs.Limits.{most-job-bytes, job-pool}
+use Rattle.rules.specs.Refusals as refusal
+use Rattle.jobcalls.specs.Told.{first-line, other-lines, FirstCall, found, malformed, added, started, first-call, first-as, NextCall}
+use Rattle.jobcalls.specs.Told.{Heading, sized, unsized, heading-2, heading-1, heading, heading-as, HeadRead}
+use Rattle.jobcalls.specs.declared.Next.{Next}
+use Rattle.jobcalls.specs.declared.Head.{Head}
+
+-- what the rules make of lines: how they end, and the model that their accepted calls reach
+abbrev pub Run : Type 0
+Run = Outcome × Model
+
+abbrev pub reads : ℕ → ℕ → ℕ → ℕ → Option (List ℕ) → List (List ℕ) → Bool → Model → Run
+reads P N W n begun ls rag k = (run-lines P N W n begun ls rag k, reached-lines P N W begun ls k)
+
+-- the run from a call on line n on, where `rest` follows it: one that others may follow, and final
+abbrev pub makes : ℕ → ℕ → ℕ → ℕ → Call → List (List ℕ) → Bool → Model → Run
+makes P N W n c rest rag k = (
+  on-line n (answer N W c k) (run-lines P N W (suc n) none rest rag (step P N W c k)),
+  elim (eqb (answer N W c k) 0) [ true ↦ reached-lines P N W none rest (step P N W c k) | false ↦ k ],
+)
+
+abbrev pub closes : ℕ → ℕ → ℕ → ℕ → List (List ℕ) → Bool → Model → Run
+closes P N W n rest rag k =
+    (on-line n (answer N W calls.final k) (closing P (suc n) rest rag (step P N W calls.final k)), step P N W calls.final k)
+
+-- the run that the first call tells
+unfoldable pub goes : ℕ → ℕ → ℕ → FirstCall → Bool → Model → Run
+goes P N W (malformed n) rag k = (rule.rejected n refusal.malformed, k)
+goes P N W (found (calls.set x) n rest) rag k = makes P N W n (calls.set x) rest rag k
+goes P N W (found (calls.add ins outs) n rest) rag k = makes P N W n (calls.add ins outs) rest rag k
+goes P N W (found calls.flush n rest) rag k = makes P N W n calls.flush rest rag k
+goes P N W (found calls.final n rest) rag k = closes P N W n rest rag k
+
+-- what the run does with the first line, where no `in=` line stands before it, and where one does
+module _ (P N W : ℕ) (rag : Bool) (k : Model) (n : ℕ) where
+  acts : Option rule.Start → List (List ℕ) → Run
+  acts x rest = (
+    elim x [
+      | some (rule.single c) ↦ on-line n (answer N W c k) (run-lines P N W (suc n) none rest rag (step P N W c k))
+      | some (rule.inputs ins) ↦ run-lines P N W (suc n) (some ins) rest rag k
+      | some rule.last ↦ on-line n (answer N W calls.final k) (closing P (suc n) rest rag (step P N W calls.final k))
+      | none ↦ rule.rejected n refusal.malformed
+    ],
+    elim x [
+      | some (rule.single c) ↦ elim (eqb (answer N W c k) 0) [ true ↦ reached-lines P N W none rest (step P N W c k) | false ↦ k ]
+      | some (rule.inputs ins) ↦ reached-lines P N W (some ins) rest k
+      | some rule.last ↦ step P N W calls.final k
+      | none ↦ k
+    ],
+  )
+
+  run-none : (ls : List (List ℕ)) → reads P N W n none ls rag k ≡ acts (rule.start-of (first-line ls)) (other-lines ls)
+  unfolding run-lines reached-lines first-line other-lines acts
+  run-none [] = refl
+  run-none (l ∷ ls) = refl
+
+  acts-after : List ℕ → Option (List ℕ) → List (List ℕ) → Run
+  acts-after ins x rest = elim x [ some outs ↦ makes P N W n (calls.add ins outs) rest rag k | none ↦ (rule.rejected n refusal.malformed, k) ]
+
+  run-some : (ins : List ℕ) (ls : List (List ℕ)) → reads P N W n (some ins) ls rag k ≡ acts-after ins (rule.outputs-of (first-line ls)) (other-lines ls)
+  unfolding run-lines reached-lines first-line other-lines acts-after
+  run-some ins [] = refl
+  run-some ins (l ∷ ls) = go (rule.outputs-of (rule.line-of l)) refl
+    where
+      go : (x : Option (List ℕ)) → rule.outputs-of (rule.line-of l) ≡ x → reads P N W n (some ins) (l ∷ ls) rag k ≡ acts-after ins x ls
+      go none e = rw (run-lines, reached-lines, e)
+      go (some outs) e = rw (run-lines, reached-lines, e)
+
+  run-added : (ins : List ℕ) (ls : List (List ℕ)) → reads P N W n (some ins) ls rag k ≡ goes P N W (added n ins (first-line ls) (other-lines ls)) rag k
+  unfolding added goes acts-after
+  run-added ins ls = run-some ins ls ∙ go (rule.outputs-of (first-line ls))
+    where
+      go : (x : Option (List ℕ))
+          → acts-after ins x (other-lines ls)
+          ≡ goes P N W (elim x [ some outs ↦ found (calls.add ins outs) n (other-lines ls) | none ↦ malformed n ]) rag k
+      go none = refl
+      go (some outs) = refl
+
+-- the run of some lines is told by their first call
+pub run-first : (P N W : ℕ) (rag : Bool) (k : Model) (n : ℕ) (ls : List (List ℕ)) → reads P N W n none ls rag k ≡ goes P N W (first-call n ls) rag k
+unfolding first-call acts started goes
+run-first P N W rag k n ls = run-none P N W rag k n ls ∙ go (first-line ls)
+  where
+    go : (l : rule.Line) → acts P N W rag k n (rule.start-of l) (other-lines ls) ≡ goes P N W (started n l (other-lines ls)) rag k
+    go (rule.set-line x) = refl
+    go (rule.in-line ins) = run-added P N W rag k (suc n) ins (other-lines ls)
+    go rule.flush-line = refl
+    go rule.final-line = refl
+    go (rule.parallelism-line x) = refl
+    go (rule.places-line x) = refl
+    go (rule.out-line outs) = refl
+    go rule.malformed = refl
+
+pub call-runs : {s : List ℕ} {at n : ℕ} {entry read : List ℕ} {r : Next} → NextCall s at n entry read r → (P N W : ℕ) (rag : Bool) (k : Model)
+    → reads P N W n none (lines (drop at s)) rag k ≡ goes P N W (first-as s read r) rag k
+call-runs {s} {at} {n} c P N W rag k = run-first P N W rag k n (lines (drop at s)) ∙ ap (λ (f : FirstCall). goes P N W f rag k) (c .is)
+
+-- what the rules make of the lines of a job: its outcome, and where its session ends; and the same with its head read
+abbrev pub whole-run : List (List ℕ) → Bool → Outcome × Option Reached
+whole-run ls rag = (run-job ls rag, reached-job ls)
+
+unfoldable pub opens : Heading → Bool → Outcome × Option Reached
+opens (unsized n) rag = (rule.rejected n refusal.malformed, none)
+opens (sized P N rest) rag = (
+  on-line 2 (verdict (check-open P N job-sizes)) (run-lines P N job-pool 3 none rest rag initial),
+  elim (eqb (verdict (check-open P N job-sizes)) 0) [
+    | true ↦ some (record { parallelism = P; places = N; model = reached-lines P N job-pool none rest initial })
+    | false ↦ none
+  ],
+)
+
+run-line-2 : (P : ℕ) (ls : List (List ℕ)) (rag : Bool) → (run-places P ls rag, reached-places P ls) ≡ opens (heading-2 P (first-line ls) (other-lines ls)) rag
+unfolding run-places reached-places first-line other-lines heading-2 opens
+run-line-2 P [] rag = refl
+run-line-2 P (l ∷ ls) rag = go (rule.places-of (rule.line-of l)) refl
+  where
+    go : (x : Option ℕ) → rule.places-of (rule.line-of l) ≡ x
+        → (run-places P (l ∷ ls) rag, reached-places P (l ∷ ls)) ≡ opens (elim x [ some N ↦ sized P N ls | none ↦ unsized 2 ]) rag
+    go none e = rw (run-places, reached-places, e)
+    go (some N) e = rw (run-places, reached-places, e)
+
+run-heading : (ls : List (List ℕ)) (rag : Bool) → whole-run ls rag ≡ opens (heading ls) rag
+unfolding run-job reached-job first-line other-lines heading heading-1 opens
+run-heading [] rag = refl
+run-heading (l ∷ ls) rag = go (rule.parallelism-of (rule.line-of l)) refl
+  where
+    go : (x : Option ℕ) → rule.parallelism-of (rule.line-of l) ≡ x
+        → whole-run (l ∷ ls) rag ≡ opens (elim x [ some P ↦ heading-2 P (first-line ls) (other-lines ls) | none ↦ unsized 1 ]) rag
+    go none e = rw (run-job, reached-job, e)
+    go (some P) e = rw (run-job, reached-job, e) (run-line-2 P ls rag)
+
+pub head-runs : {s : List ℕ} {h : Head} {a b : List ℕ} → HeadRead s h a b → (rag : Bool) → whole-run (lines s) rag ≡ opens (heading-as s h) rag
+head-runs {s} r rag = run-heading (lines s) rag ∙ ap (λ (x : Heading). opens x rag) (r .is)
+
+-- a job that is finished has reached the model of its outcome: so for lines, and for a head with the lines after it
+abbrev Agrees : ℕ → Run → Type 0
+Agrees P o = (Q : ℕ) (m : Model) → o .0 ≡ rule.finished Q m → (Q ≡ P) × (o .1 ≡ m)
+
+refused-agrees : (P n code : ℕ) (k : Model) → Agrees P (rule.rejected n code, k)
+refused-agrees P n code k Q m e = let z : _≡_ {A = ℕ} 0 1 = cc in absurd (omega arith)
+
+closing-agrees : (P n : ℕ) (ls : List (List ℕ)) (rag : Bool) (k : Model) → Agrees P (closing P n ls rag k, k)
+unfolding closing
+closing-agrees P n [] false k Q m e = ((cc), (cc))
+closing-agrees P n [] true k Q m e = refused-agrees P n refusal.malformed k Q m e
+closing-agrees P n (l ∷ ls) rag k Q m e = refused-agrees P n refusal.malformed k Q m e
+
+-- a call with number `code` on line n, o being what follows it, and a the model where it is refused
+met-agrees : (P n code : ℕ) (o : Run) (a : Model) → Agrees P o → Agrees P (on-line n code (o .0), elim (eqb code 0) [ true ↦ o .1 | false ↦ a ])
+unfolding on-line
+met-agrees P n code o a h = go (eqb code 0)
+  where
+    go : (b : Bool) → Agrees P (elim b [ true ↦ o .0 | false ↦ rule.rejected n code ], elim b [ true ↦ o .1 | false ↦ a ])
+    go true = h
+    go false = refused-agrees P n code a
+
+last-agrees : (P n code : ℕ) (o : Run) → Agrees P o → Agrees P (on-line n code (o .0), o .1)
+unfolding on-line
+last-agrees P n code o h = go (eqb code 0)
+  where
+    go : (b : Bool) → Agrees P (elim b [ true ↦ o .0 | false ↦ rule.rejected n code ], o .1)
+    go true = h
+    go false = refused-agrees P n code (o .1)
+
+module _ (P N W : ℕ) (rag : Bool) where
+  acts-agree : (n : ℕ) (k : Model) (x : Option rule.Start) (ls : List (List ℕ))
+      → ((i : ℕ) (begun : Option (List ℕ)) (q : Model) → Agrees P (reads P N W i begun ls rag q)) → Agrees P (acts P N W rag k n x ls)
+  unfolding acts
+  acts-agree n k none ls h = refused-agrees P n refusal.malformed k
+  acts-agree n k (some (rule.single c)) ls h = met-agrees P n (answer N W c k) (reads P N W (suc n) none ls rag (step P N W c k)) k (h (suc n) none (step P N W c k))
+  acts-agree n k (some (rule.inputs ins)) ls h = h (suc n) (some ins) k
+  acts-agree n k (some rule.last) ls h =
+      let q = step P N W calls.final k in
+      last-agrees P n (answer N W calls.final k) (closing P (suc n) ls rag q, q) (closing-agrees P (suc n) ls rag q)
+
+  after-agrees : (n : ℕ) (k : Model) (ins : List ℕ) (x : Option (List ℕ)) (ls : List (List ℕ))
+      → ((i : ℕ) (begun : Option (List ℕ)) (q : Model) → Agrees P (reads P N W i begun ls rag q)) → Agrees P (acts-after P N W rag k n ins x ls)
+  unfolding acts-after
+  after-agrees n k ins none ls h = refused-agrees P n refusal.malformed k
+  after-agrees n k ins (some outs) ls h =
+      let q = step P N W (calls.add ins outs) k in
+      met-agrees P n (answer N W (calls.add ins outs) k) (reads P N W (suc n) none ls rag q) k (h (suc n) none q)
+
+  lines-agree : (ls : List (List ℕ)) (n : ℕ) (begun : Option (List ℕ)) (k : Model) → Agrees P (reads P N W n begun ls rag k)
+  unfolding run-lines reached-lines first-line other-lines
+  lines-agree [] n begun k = refused-agrees P n refusal.malformed k
+  lines-agree (l ∷ ls) n none k =
+      subst (λ (o : Run). Agrees P o) (sym (run-none P N W rag k n (l ∷ ls))) (acts-agree n k (rule.start-of (rule.line-of l)) ls (lines-agree ls))
+  lines-agree (l ∷ ls) n (some ins) k =
+      subst (λ (o : Run). Agrees P o) (sym (run-some P N W rag k n ins (l ∷ ls))) (after-agrees n k ins (rule.outputs-of (rule.line-of l)) ls (lines-agree ls))
+
+abbrev Reaches : Outcome × Option Reached → Type 0
+Reaches o = (P : ℕ) (m : Model) → o .0 ≡ rule.finished P m → (N : ℕ) × (o .1 ≡ some (record { parallelism = P; places = N; model = m }))
+
+refused-reaches : (n code : ℕ) → Reaches (rule.rejected n code, none)
+refused-reaches n code P m e = let z : _≡_ {A = ℕ} 0 1 = cc in absurd (omega arith)
+
+opens-reach : (h : Heading) (rag : Bool) → Reaches (opens h rag)
+unfolding opens on-line
+opens-reach (unsized n) rag = refused-reaches n refusal.malformed
+opens-reach (sized P N rest) rag = go (eqb (verdict (check-open P N job-sizes)) 0)
+  where
+    go : (b : Bool)
+        → Reaches (
+          elim b [ true ↦ run-lines P N job-pool 3 none rest rag initial | false ↦ rule.rejected 2 (verdict (check-open P N job-sizes)) ],
+          elim b [ true ↦ some (record { parallelism = P; places = N; model = reached-lines P N job-pool none rest initial }) | false ↦ none ],
+        )
+    go true Q m e =
+        let a = lines-agree P N job-pool rag rest 3 none initial Q m e in (
+          N,
+          ap (λ (i : ℕ). some (record { parallelism = i; places = N; model = reached-lines P N job-pool none rest initial })) (sym (a .0))
+              ∙ ap (λ (y : Model). some (record { parallelism = Q; places = N; model = y })) (a .1),
+        )
+    go false Q m e = refused-reaches 2 (verdict (check-open P N job-sizes)) Q m e
+
+pub finished-reached : (job : List ℕ) (P : ℕ) (m : Model) → rule.outcome job ≡ rule.finished P m
+    → (N : ℕ) × (rule.reached job ≡ some (record { parallelism = P; places = N; model = m }))
+unfolding rule.outcome rule.reached
+finished-reached job = go (ltb most-job-bytes (length job))
+  where
+    lines-reach : Reaches (whole-run (lines job) (ragged job))
+    lines-reach = subst (λ (o : Outcome × Option Reached). Reaches o) (sym (run-heading (lines job) (ragged job))) (opens-reach (heading (lines job)) (ragged job))
+
+    go : (b : Bool)
+        → Reaches (elim b [ true ↦ rule.rejected 1 refusal.long-job | false ↦ run-job (lines job) (ragged job) ], elim b [ true ↦ none | false ↦ reached-job (lines job) ])
+    go true = refused-reaches 1 refusal.long-job
+    go false = lines-reach

@@ -1,0 +1,3 @@
+-- The lists of accepted registrations in the pool, and the cells that say where each lies.
+pub mod Lists
+pub mod ListLaws

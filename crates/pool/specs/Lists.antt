@@ -1,0 +1,72 @@
+-- The pool of lists: the inputs and then the outputs of each accepted registration, one after the other, and for each registration a
+-- number that says where its lists start and how many inputs it has. Definitions; the laws are in ListLaws. Assumes nothing.
+use mathlib.Core.Path.{_≡_}
+use mathlib.Core.List.{List, [], _∷_, _++_}
+use mathlib.Core.Bool.{cond}
+use Prim.Native.Nat.{ℕ, _+_, _*_, _/_, _%_, _≤_, _<_}
+use lib.ListN.{length, getD, set, take, drop}
+use lib.Dec.{ltb}
+use Rattle.rules.specs.Model.{Reg}
+use Rattle.rules.specs.Limits.{most-in-a-list}
+use Rattle.rules.specs.Checks.{pooled, waiting-needed}
+
+-- where the cells lie in the waiting storage of v places; a cell is the start times the radix, which is above every count of inputs, plus
+-- that count
+abbrev pub cells-at : ℕ → ℕ
+cells-at v = 2 * v
+
+abbrev pub radix : ℕ
+radix = 65536
+
+-- the most list numbers of a session: 16,777,216 registrations of 65,535 inputs and as many outputs
+abbrev pub most-pooled : ℕ
+most-pooled = 2198989701120
+
+unfoldable pub cell : ℕ → ℕ → ℕ
+cell start inputs = start * radix + inputs
+
+-- registration r's cell, and the storage with another one
+unfoldable pub cell-at : List ℕ → ℕ → ℕ → ℕ
+cell-at w v r = getD w (cells-at v + r) 0
+
+unfoldable pub with-cell : List ℕ → ℕ → ℕ → ℕ → ℕ → List ℕ
+with-cell w v r start inputs = set w (cells-at v + r) (cell start inputs)
+
+-- where registration r's lists start, and how many inputs it has
+unfoldable pub start-of : List ℕ → ℕ → ℕ → ℕ
+start-of w v r = cell-at w v r / radix
+
+unfoldable pub inputs-of : List ℕ → ℕ → ℕ → ℕ
+inputs-of w v r = cell-at w v r % radix
+
+-- where they end: at the next one's start, or at the count of used numbers for the last of n registrations
+unfoldable pub end-of : List ℕ → ℕ → ℕ → ℕ → ℕ → ℕ
+end-of w v r n used = cond {A = ℕ} (ltb (r + 1) n) (start-of w v (r + 1)) used
+
+-- the pool with xs from `at` on
+unfoldable pub stored : List ℕ → ℕ → List ℕ → List ℕ
+stored pool at xs = take at pool ++ (xs ++ drop (at + length xs) pool)
+
+-- there is room for xs, and each fits the pool's 32 bits
+pub record Storable (pool : List ℕ) (at : ℕ) (xs : List ℕ) : Type 0 where
+  pub room : at + length xs ≤ length pool
+  pub fits : (j : ℕ) → j < length xs → getD xs j 0 < 4294967296
+
+-- the lists of registrations, one after the other
+unfoldable pub contents : List Reg → List ℕ
+contents [] = []
+contents (a ∷ as′) = a .ins ++ (a .outs ++ contents as′)
+
+-- the r-th of some registrations
+unfoldable pub nth : List Reg → ℕ → Reg
+nth as′ r = getD as′ r (record { ins = []; outs = [] })
+
+-- storage holds the lists of the accepted registrations
+pub record Lists (N : ℕ) (adds : List Reg) (used : ℕ) (w pool : List ℕ) : Type 0 where
+  pub long : waiting-needed N ≤ length w
+  pub many : length adds ≤ N
+  pub used-is : used ≡ pooled adds
+  pub fits : used ≤ length pool
+  pub content : take used pool ≡ contents adds
+  pub cells : (r : ℕ) → r < length adds → cell-at w N r ≡ cell (pooled (take r adds)) (length ((nth adds r) .ins))
+  pub few : (r : ℕ) → r < length adds → (length ((nth adds r) .ins) ≤ most-in-a-list) × (length ((nth adds r) .outs) ≤ most-in-a-list)

@@ -1,0 +1,48 @@
+-- Document 01's limits, by name; src/lib.rt has the same for code. Assumes nothing.
+use Prim.Native.Nat.{ℕ, _^_}
+
+-- "P is the desired parallelism, 1 to 64,999. V is the count of places and the greatest count of registrations, 1 to 16,777,216."
+abbrev pub most-parallelism : ℕ
+most-parallelism = 64999
+
+abbrev pub most-places : ℕ
+most-places = 16777216
+
+-- "65,535 inputs or outputs", and "65,535 plain flushes"
+abbrev pub most-in-a-list : ℕ
+most-in-a-list = 65535
+
+abbrev pub most-flushes : ℕ
+most-flushes = 65535
+
+-- "a place with bit 62 (witness) or 63 (placeholder)": the least number with one of them
+abbrev pub least-flagged : ℕ
+least-flagged = 2 ^ 62
+
+-- "the last span number is 4,294,967,264 or more"
+abbrev pub last-span-limit : ℕ
+last-span-limit = 4294967264
+
+-- "a 16-bit mark: 0 untracked, 32,768 written by a registration (with its location), 49,152 set"
+abbrev pub mark-written : ℕ
+mark-written = 32768
+
+abbrev pub mark-set : ℕ
+mark-set = 49152
+
+-- "a job over 65,536 bytes"; the program "lends 65,536 listing bytes"
+abbrev pub most-job-bytes : ℕ
+most-job-bytes = 65536
+
+abbrev pub program-listing-bytes : ℕ
+program-listing-bytes = 65536
+
+-- "Both lend storage for P ≤ 64, V ≤ 512, W = 4,096."
+abbrev pub job-parallelism : ℕ
+job-parallelism = 64
+
+abbrev pub job-places : ℕ
+job-places = 512
+
+abbrev pub job-pool : ℕ
+job-pool = 4096

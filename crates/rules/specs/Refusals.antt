@@ -1,0 +1,57 @@
+-- Document 01, "Refused by the input, refused by the state": the numbers of the refusals, by name. src/lib.rt has the same for code, and
+-- hosts/refusals.txt for hosts. Assumes nothing.
+use Prim.Native.Nat.{ℕ}
+
+-- "Refused by the input"
+abbrev pub out-of-range : ℕ
+out-of-range = 1
+
+abbrev pub too-short : ℕ
+too-short = 2
+
+abbrev pub too-many-numbers : ℕ
+too-many-numbers = 3
+
+abbrev pub flagged-place : ℕ
+flagged-place = 4
+
+abbrev pub unknown-place : ℕ
+unknown-place = 5
+
+abbrev pub repeated-output : ℕ
+repeated-output = 6
+
+abbrev pub malformed : ℕ
+malformed = 15
+
+abbrev pub long-job : ℕ
+long-job = 16
+
+abbrev pub long-listing : ℕ
+long-listing = 17
+
+-- "Refused by the state"
+abbrev pub closed : ℕ
+closed = 7
+
+abbrev pub taken-place : ℕ
+taken-place = 8
+
+abbrev pub too-many-registrations : ℕ
+too-many-registrations = 9
+
+abbrev pub full-pool : ℕ
+full-pool = 10
+
+abbrev pub too-many-flushes : ℕ
+too-many-flushes = 11
+
+abbrev pub still-waiting : ℕ
+still-waiting = 12
+
+-- the guide alone
+abbrev pub not-held : ℕ
+not-held = 13
+
+abbrev pub guide-exhausted : ℕ
+guide-exhausted = 14
