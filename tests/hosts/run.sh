@@ -32,7 +32,7 @@ echo "hosts: installed twice, $((SECONDS - slow)) s: $(head -n 1 "$work/install.
 refuses 1 "no crate nosuch" tools/archives nosuch
 refuses 2 "unknown option --force" tools/archives --force
 refuses 2 "unknown option -x" tools/archives host -x
-tools/archives --help | grep -q 'NAME..' || fail "tools/archives --help"
+tests/prints.sh NAME.. tools/archives --help || fail "tools/archives --help"
 # A source edited while the archive is made is newer than it: by a toolchain that edits one, in a copy.
 toy=$work/toy
 mkdir -p "$toy"/{tools,bin,crates/toy/src} && cp tools/archives "$toy/tools/" && touch "$toy/crates.txt"
@@ -131,7 +131,7 @@ elsewhere=$(mktemp -d)
 trap 'rm -rf "$elsewhere"' EXIT
 outside() (
   set -e
-  listing=$PWD/crates/order/stdout job=$PWD/crates/order/stdin
+  listing=$PWD/crates/order/stdout job=$PWD/crates/order/stdin prints=$PWD/tests/prints.sh
   export PKG_CONFIG_PATH=$prefix/lib/pkgconfig LD_LIBRARY_PATH=$prefix/lib
   cp "$prefix"/share/order/examples/*.c "$elsewhere"
   cd "$elsewhere"
@@ -147,7 +147,7 @@ outside() (
   for program in replay-* storage-*; do
     $(realpath $program) | grep ^order= | diff - <(grep ^order= "$listing")
   done
-  ldd order-shared | grep -qF "$prefix/lib/liborder.so"
+  "$prints" "$prefix/lib/liborder.so" ldd order-shared
   # the prefix may be moved
   mv "$prefix" "$prefix-moved"
   export PKG_CONFIG_PATH=$prefix-moved/lib/pkgconfig LD_LIBRARY_PATH=$prefix-moved/lib
@@ -171,7 +171,7 @@ wanted=$(sed -n 's/^pub extern "C" fn \([a-z_]*\).*/\1/p' crates/*/src/lib.rt | 
 for call in $exported; do
   grep -qw "$call" hosts/*.h || fail "$call is exported and no header has it"
 done
-! readelf -d "$prefix/lib/liborder.so" | grep -q TEXTREL || fail "liborder.so has text relocations"
+! grep -q TEXTREL <<<"$(readelf -d "$prefix/lib/liborder.so")" || fail "liborder.so has text relocations"
 echo "hosts: liborder exports $exported"
 
 # PREFIX that will not do: a sentence, a status, and nothing written.
@@ -200,7 +200,7 @@ fi
 # a file system that takes no more: files end at 8 KB
 refuses 1 "nothing is installed" bash -c "trap '' XFSZ; ulimit -f 8; tools/install '$work/bad/full/deep'"
 [ "$before" = "$(listed)" ] || fail "a refused installation has changed something"
-tools/install --help | grep -q PREFIX || fail "tools/install --help"
+tests/prints.sh PREFIX tools/install --help || fail "tools/install --help"
 echo "hosts: eleven installations refused in words, nothing written"
 
 # The command around the program, as installed.
@@ -221,10 +221,10 @@ refuses 2 "one file at most" "$command" a b
 refuses 2 "cannot be printed" bash -c "'$command' crates/order/stdin >/dev/full"
 refuses 2 "cannot be printed" bash -c "'$command' crates/order/stdin >&-"
 refuses 2 "cannot be read" bash -c "'$command' <&-"
-refuses 2 "Broken pipe" bash -c "set -o pipefail; '$command' crates/order/stdin | exec sleep 0"
+refuses 2 "Broken pipe" bash -c "set -o pipefail; (sleep 0.5; '$command' crates/order/stdin) | exec sleep 0"
 refuses 2 "the stack has 300 KB" bash -c "ulimit -s 300; '$command' crates/order/stdin"
 diff crates/order/stdout <(ulimit -Ss 300; "$command" crates/order/stdin) || fail "order-job does not raise the limit of the stack"
-"$command" --help | grep -q "^usage" || fail "order-job --help"
+tests/prints.sh usage "$command" --help || fail "order-job --help"
 [ "$("$command" --version)" = "order-job $(cat VERSION)" ] || fail "order-job --version"
 [ "$(hosts/order-job --version)" = "order-job $(cat VERSION)" ] || fail "hosts/order-job --version"
 "$command" crates/order/stdin | "$prefix/bin/order-picture" >/dev/null || fail "order-picture"

@@ -2,7 +2,8 @@
 # tools/moved.py on a small repository with two commits: what stays, moves, comes and goes is told apart,
 # and a commit or a log that is not there is said.
 set -euo pipefail
-tool=$(cd "$(dirname "$0")/../.." && pwd)/tools/moved.py
+root=$(cd "$(dirname "$0")/../.." && pwd)
+tool=$root/tools/moved.py
 folder=$(mktemp -d)
 trap 'rm -rf "$folder"' EXIT
 cd "$folder"
@@ -84,7 +85,7 @@ for words in 'no-such-commit' '--times before.log no-such.log' '--times expected
   case "$words" in '' | --what | HEAD* | '--times before.log -v' | --help*) expected_status=2 ;; *) expected_status=1 ;; esac
   [ $status -eq $expected_status ] && [ -s err ] && [ ! -s out ] || { echo "tests/moved: '$words' is not refused" >&2; exit 1; }
 done
-"$tool" --help | grep -q 'BEFORE' || { echo "tests/moved: no help" >&2; exit 1; }
+"$root/tests/prints.sh" BEFORE "$tool" --help || { echo "tests/moved: no help" >&2; exit 1; }
 
 # What cannot be printed is said, and a reader that goes is not.
 lost() { # STATUS SENTENCE REDIRECTION
@@ -95,5 +96,5 @@ lost() { # STATUS SENTENCE REDIRECTION
 lost 1 'moved: standard output is closed' '>&-'
 lost 1 'moved: [Errno 28] No space left on device' '>/dev/full'
 lost 0 '' '| exec sleep 0'
-sed -n 2p "$tool" | grep -q 'Host code, not proved' || { echo "tests/moved: the tool does not say that it is host code" >&2; exit 1; }
+"$root/tests/prints.sh" 'Host code, not proved' sed -n 2p "$tool" || { echo "tests/moved: the tool does not say that it is host code" >&2; exit 1; }
 echo "tests/moved: a table, times, 9 refusals and 3 lost tables as expected"

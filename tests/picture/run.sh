@@ -30,8 +30,8 @@ for words in --svg '--svg --histogram' '--svg --entries 10-20' '--svg examples/p
   # shellcheck disable=SC2086
   tools/picture.py $words <$listing | well_formed || fail "'$words' draws no SVG"
 done
-tools/picture.py --histogram <$listing | grep -q 'floor$' || fail "no floor in the histogram"
-tools/picture.py --histogram <$listing | grep -q 'median$' || fail "no median in the histogram"
+tests/prints.sh '<- floor' tools/picture.py --histogram <$listing || fail "no floor in the histogram"
+tests/prints.sh '<- median' tools/picture.py --histogram <$listing || fail "no median in the histogram"
 [ "$(tools/picture.py --entries 10-12 <$listing | awk 'NR > 1 { print $1 }' | paste -sd,)" = 10,11,12 ] || fail "other entries than asked for"
 
 # An order of thousands, with an unknown line and field as a later listing may have: a curve.
@@ -59,7 +59,7 @@ for words in '' --svg --histogram '--svg --histogram'; do
   tools/picture.py $words <"$long/zeros" >"$long/drawn" || fail "'$words' can't draw widths of 0"
   ! grep -q 'floor' "$long/drawn" || fail "'$words' marks a floor outside of the drawing"
 done
-tools/picture.py --svg <"$long/zeros" | grep -q 'median 0' || fail "no median within the drawing"
+tests/prints.sh 'median 0' tools/picture.py --svg <"$long/zeros" || fail "no median within the drawing"
 
 # What can't be drawn: status 1 for a refused job, 2 for anything else, a sentence, and no picture.
 refused() { # STATUS WORDS.. <LISTING
@@ -98,5 +98,5 @@ lost() { # SENTENCE REDIRECTION
 }
 lost 'standard output is closed' '>&-'
 lost '[Errno 28] No space left on device' '>/dev/full'
-tools/picture.py --help | grep -q histogram || fail "no help"
+tests/prints.sh histogram tools/picture.py --help || fail "no help"
 echo "picture: those of docs/GUARANTEE.md are what their commands draw; 18 drawings and 20 refusals as expected"

@@ -23,14 +23,28 @@ use Rattle.alone.specs.declared.Alone.{Alone}
 use Rattle.alone.specs.Held.{model, Held}
 use Rattle.alone.specs.Pushing.{carried}
 
+-- the number of opening a guide over spans s, order o and tally t, the first two measured in entries
+abbrev pub opening-number : ℕ → ℕ → List ℕ → List ℕ → List ℕ → ℕ
+opening-number p v s o t = verdict (check-alone p v (capacity s) (capacity o) (length t))
+
 -- a guide just opened
 abbrev pub first-alone : ℕ → ℕ → Alone
 first-alone p v = record { guide = first-guide p v; pushes = 0 }
 
--- n is the number, x the state, t and t′ the tally before and after; spans and order are only measured, in entries. Refused, the state is
--- that of P 0 and V 0, and the tally is left alone
+-- P, V and the tally's length are within their limits
+pub record Fits (p v t : ℕ) : Type 0 where
+  pub few : p ≤ most-parallelism
+  pub small : v ≤ most-places
+  pub tally : p < t
+
+-- x is just opened, t and t′ the tally before and after: its first P + 1 counts are 0
+pub record Begins (p v : ℕ) (x : Alone) (t t′ : List ℕ) : Type 0 where
+  pub is : x ≡ first-alone p v
+  pub cleared : Cleared 0 (p + 1) t t′
+
+-- n is the number, x the state, t and t′ the tally before and after. Refused, the state is that of P 0 and V 0, and the tally is left alone
 pub record Opens (p v n : ℕ) (x : Alone) (s o t t′ : List ℕ) : Type 0 where
-  pub number-is : n ≡ verdict (check-alone p v (capacity s) (capacity o) (length t))
+  pub number-is : n ≡ opening-number p v s o t
   pub held : n ≡ 0 → Held x s o t′
   pub is : n ≡ 0 → model x s o ≡ alone
   pub p-is : n ≡ 0 → x .guide .p ≡ p
@@ -46,7 +60,7 @@ abbrev pub OpensOver : ℕ → ℕ → ℕ → Alone → Borrowed → Borrowed �
 OpensOver p v n x spans order tally = Opens p v n x (spans .entry .now) (order .entry .now) (tally .entry .now) (tally .exit .now)
 
 -- what an accepted opening has passed
-pub record Passed (p v s o t : ℕ) : Type 0 where
+record Passed (p v s o t : ℕ) : Type 0 where
   pub one : 1 ≤ p
   pub few : p ≤ most-parallelism
   pub small : v ≤ most-places
@@ -54,7 +68,7 @@ pub record Passed (p v s o t : ℕ) : Type 0 where
   pub order : v ≤ o
   pub tally : p < t
 
-pub passed : (p v s o t : ℕ) → verdict (check-alone p v s o t) ≡ 0 → Passed p v s o t
+passed : (p v s o t : ℕ) → verdict (check-alone p v s o t) ≡ 0 → Passed p v s o t
 unfolding check-alone check-range any
 passed p v s o t z =
     let a = verdict-head _ _ z (omega arith) in
@@ -73,6 +87,9 @@ passed p v s o t z =
       order = omega (arith, ltb-false o v (pd .0));
       tally = omega (arith, ltb-false t (tally-needed p) (pe .0));
     }
+
+pub fits : (p v : ℕ) (s o t : List ℕ) → opening-number p v s o t ≡ 0 → Fits p v (length t)
+fits p v s o t z = let q = passed p v (capacity s) (capacity o) (length t) z in record { few = q .few; small = q .small; tally = q .tally }
 
 cleared-front : (p : ℕ) (t t′ : List ℕ) → p < length t → Cleared 0 (p + 1) t t′ → take (p + 1) t′ ≡ replicate (p + 1) 0
 cleared-front p t t′ h c =
@@ -102,7 +119,7 @@ model-fresh : (p v : ℕ) (s o : List ℕ) → model (first-alone p v) s o ≡ a
 unfolding model alone
 model-fresh p v s o = let g = fresh-view p v s o in cc
 
-module _ (p v n : ℕ) (x : Alone) (s o t : List ℕ) (en : n ≡ verdict (check-alone p v (capacity s) (capacity o) (length t))) where
+module _ (p v n : ℕ) (x : Alone) (s o t : List ℕ) (en : n ≡ opening-number p v s o t) where
   pub open-refused : n ≢ 0 → x ≡ first-alone 0 0 → Opens p v n x s o t t
   open-refused z e =
       record {
@@ -118,9 +135,11 @@ module _ (p v n : ℕ) (x : Alone) (s o t : List ℕ) (en : n ≡ verdict (check
         tally-beyond = λ j k. refl;
       }
 
-  pub open-served : (t′ : List ℕ) → n ≡ 0 → x ≡ first-alone p v → Cleared 0 (p + 1) t t′ → Opens p v 0 x s o t t′
+  pub open-served : (t′ : List ℕ) → n ≡ 0 → Begins p v x t t′ → Opens p v 0 x s o t t′
   unfolding first-guide
-  open-served t′ z e c =
+  open-served t′ z b =
+      let e = b .is in
+      let c = b .cleared in
       let q = passed p v (capacity s) (capacity o) (length t) (sym en ∙ z) in
       let st = fresh-stands p v s o t′ (q .one) (q .few) (q .small)
       (capacity-fits s (spans-needed p) (q .spans)) (capacity-fits o v (q .order))

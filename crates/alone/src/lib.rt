@@ -1,11 +1,12 @@
 // The guide alone: opened over spans, order and tally; push with value, added and accepted from the caller; flush. Every call checks its
 // own refusals and leaves state and storage as they were where it refuses.
 ghost use mathlib.Core.Path.{_≡_};
+ghost use lib.ListN.{length};
 ghost use Rattle.rules.specs.Alone.{Request};
 ghost use Rattle.alone.specs.Held.{HeldOver};
 ghost use Rattle.alone.specs.Served.{ServedOver};
 ghost use Rattle.alone.specs.Pushing.{pushing};
-ghost use Rattle.alone.specs.Opening.{first-alone, OpensOver};
+ghost use Rattle.alone.specs.Opening.{opening-number, first-alone, Fits, Begins, OpensOver};
 use buffer::Guide;
 use entries::Entry;
 
@@ -45,17 +46,33 @@ fn fresh(p: u32, v: u32) -> Alone
     }
 }
 
-// Opens a guide over its storage; its counts are set to 0. Refused, it is a guide of P 0 and V 0.
-pub fn open(p: u64, v: u64, spans: &[u32], order: &[u32], tally: &mut [u32]) -> Opened
-    ensures { λ r. ⌜ OpensOver p v (r .number) (r .alone) spans order tally ⌝ }
+// The number of opening a guide over this storage: 0, or that of the refusal.
+pub fn check_open(p: u64, v: u64, spans: &[u32], order: &[u32], tally: &[u32]) -> u32
+    ensures { λ r. ⌜ r ≡ opening-number p v (now (spans .entry)) (now (order .entry)) (now (tally .entry)) ⌝ }
 {
-    let n = alone_checks::check_open(
+    alone_checks::check_open(
         p,
         v,
         entries::capacity(spans),
         entries::capacity(order),
         tally.len(),
-    );
+    )
+}
+
+// A guide just opened, its counts set to 0, where opening it is accepted.
+pub fn begin(p: u64, v: u64, tally: &mut [u32]) -> Alone
+    requires { ⌜ Fits p v (length (now tally)) ⌝ }
+    ensures { λ x. ⌜ Begins p v x (now (tally .entry)) (now (tally .exit)) ⌝ }
+{
+    zeros::clear32(tally, 0, p as usize + 1);
+    fresh(p as u32, v as u32)
+}
+
+// Opens a guide over its storage; its counts are set to 0. Refused, it is a guide of P 0 and V 0.
+pub fn open(p: u64, v: u64, spans: &[u32], order: &[u32], tally: &mut [u32]) -> Opened
+    ensures { λ r. ⌜ OpensOver p v (r .number) (r .alone) spans order tally ⌝ }
+{
+    let n = check_open(p, v, spans, order, tally);
     if n != 0 {
         let x = fresh(0, 0);
         return Opened {
@@ -63,8 +80,7 @@ pub fn open(p: u64, v: u64, spans: &[u32], order: &[u32], tally: &mut [u32]) -> 
             alone: x,
         };
     }
-    zeros::clear32(tally, 0, p as usize + 1);
-    let x = fresh(p as u32, v as u32);
+    let x = begin(p, v, tally);
     Opened {
         number: 0,
         alone: x,

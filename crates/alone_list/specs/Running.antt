@@ -23,7 +23,7 @@ use Rattle.alone.specs.Held.{model, Held, written-is, order-is, tally-is}
 use Rattle.alone.specs.Served.{Served, given-by}
 use Rattle.placing.specs.GuideFrame.{GuideFrame, frame-refl, frame-trans}
 use Rattle.placing.specs.Slices.{Borrowed}
-use Rattle.alone.specs.Opening.{Opens, open-frame}
+use Rattle.alone.specs.Opening.{opening-number, Begins, Opens, open-frame, open-served}
 use Rattle.alone.specs.Chain.{reframe}
 use Rattle.alone_list.specs.Put.{Put}
 use Rattle.alone_list.specs.Requests.{request-size, answer-size, request-at, requests-from, well-formed, answer-to, answers-to}
@@ -148,10 +148,7 @@ ran {P} {N} {n} {x} {rs} {s = s} {o = o} {t = t} {t₀ = t₀} {w = w} {s′ = s
 
 -- the number of a replay
 module _ (P N : ℕ) (q s o t w : List ℕ) where
-  abbrev pub opening-number : ℕ
-  opening-number = verdict (check-alone P N (capacity s) (capacity o) (length t))
-
-  passed-checks : opening-number ≡ 0
+  passed-checks : opening-number P N s o t ≡ 0
       → ((ltb P 1 || ltb most-parallelism P) ≡ false) × ((ltb N 1 || ltb most-places N) ≡ false)
       × (any short ((capacity s, spans-needed P) ∷ (capacity o, N) ∷ (length t, tally-needed P) ∷ []) ≡ false)
   unfolding check-alone check-range
@@ -161,7 +158,7 @@ module _ (P N : ℕ) (q s o t w : List ℕ) where
       let v = verdict-head _ _ (y .1) (omega arith) in
       (x .0, y .0, v .0)
 
-  opening-passed : (c : Check) → opening-number ≡ 0 → verdict (check-alone P N (capacity s) (capacity o) (length t) ++ (c ∷ [])) ≡ verdict (c ∷ [])
+  opening-passed : (c : Check) → opening-number P N s o t ≡ 0 → verdict (check-alone P N (capacity s) (capacity o) (length t) ++ (c ∷ [])) ≡ verdict (c ∷ [])
   unfolding check-alone check-range verdict
   opening-passed c z = let x = passed-checks z in rw (x .0, x .1, x .2)
 
@@ -170,7 +167,7 @@ module _ (P N : ℕ) (q s o t w : List ℕ) where
   replay-malformed e = record { number-is = rw (decode-none q e); refused = λ z. (refl, refl, refl, refl); ran = λ z. absurd (omega arith) }
 
   module _ (e : true ≡ well-formed q) where
-    pub replay-refused : (n : ℕ) → n ≡ opening-number → n ≢ 0 → Replays P N q n s o t w s o t w
+    pub replay-refused : (n : ℕ) → n ≡ opening-number P N s o t → n ≢ 0 → Replays P N q n s o t w s o t w
     unfolding replay-number
     replay-refused n d h =
         record {
@@ -179,7 +176,7 @@ module _ (P N : ℕ) (q s o t w : List ℕ) where
           ran = λ z. absurd (h z);
         }
 
-    module _ (z : opening-number ≡ 0) where
+    module _ (z : opening-number P N s o t ≡ 0) where
       abbrev rs : List Request
       rs = requests-from q 0 (length q / request-size)
 
@@ -196,14 +193,16 @@ module _ (P N : ℕ) (q s o t w : List ℕ) where
       pub may-run : length q / request-size ≤ length w / answer-size → (request-size * (length q / request-size) ≤ length q) × (answer-size * (length q / request-size) ≤ length w)
       may-run h = (omega (arith, div-mul-le-self (length q) request-size), omega (arith, div-mul-le-self (length w) answer-size))
 
-      pub replay-ran : {m : ℕ} {x : Alone} {t₁ s′ o′ t′ w′ : List ℕ} → length q / request-size ≤ length w / answer-size → Opens P N m x s o t t₁
+      pub begun : {x : Alone} {t₁ : List ℕ} → Begins P N x t t₁ → Opens P N 0 x s o t t₁
+      begun {x} {t₁} a = open-served P N 0 x s o t (sym z) t₁ refl a
+
+      pub replay-ran : {x : Alone} {t₁ s′ o′ t′ w′ : List ℕ} → length q / request-size ≤ length w / answer-size → Begins P N x t t₁
           → Runs (x .guide .p) (x .guide .v) (x .guide .written) (model x s o) s o t₁ q w (length q / request-size) s′ o′ t′ w′ → Replays P N q 0 s o t w s′ o′ t′ w′
       unfolding replay-number verdict
-      replay-ran {m} {x} {t₁} h a r =
-          let n : m ≡ 0 = a .number-is ∙ z in
+      replay-ran h a r =
           let many = requests-many q 0 (length q / request-size) in
           let k : ltb (length w) (answer-size * length rs) ≡ false = le-ltb (length w) (answer-size * length rs) (omega (arith, many, may-run h .1)) in
-          let b : Opens P N 0 x s o t t₁ = rw n at a in
+          let b = begun a in
           record {
             number-is = rw (decode-some q e) (sym (opening-passed _ z ∙ rw k));
             refused = λ y. absurd (y refl);

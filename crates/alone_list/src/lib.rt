@@ -205,13 +205,7 @@ pub fn replay(
     if !well_formed(requests) {
         return rules::MALFORMED as u32;
     }
-    let number = alone_checks::check_open(
-        p,
-        v,
-        spans.len() / entries::SIZE,
-        order.len() / entries::SIZE,
-        tally.len(),
-    );
+    let number = alone::check_open(p, v, spans, order, tally);
     if number != 0 {
         return number;
     }
@@ -219,8 +213,7 @@ pub fn replay(
     if answers.len() / ANSWER_SIZE < n {
         return rules::TOO_SHORT as u32;
     }
-    let a = alone::open(p, v, spans, order, tally);
-    let x = a.alone;
+    let x = alone::begin(p, v, tally);
     run(x, spans, order, tally, answers, requests, n);
     0
 }

@@ -36,13 +36,13 @@ module _ (l : List ℕ) (at : ℕ) where
   unfolding counted
   list-past h = inl (refl, ap counted (drop-of-length-le l h))
 
-  pub list-short : (n : ℕ) → n ≡ getD l at 0 → at < length l → length l - 1 - at < n → ListEnds l at 0
+  pub list-short : (n : ℕ) → n ≡ getD l at 0 → at < length l → length l - at ≤ n → ListEnds l at 0
   unfolding counted
   list-short n d h k =
       let e : leb (getD l at 0) (length (drop (suc at) l)) ≡ false = lt-leb (getD l at 0) (length (drop (suc at) l)) (omega (arith, length-drop (suc at) l)) in
       inl (refl, ap counted (drop-cons l at 0 h) ∙ rw (e, counted))
 
-  pub list-whole : (n : ℕ) → n ≡ getD l at 0 → at < length l → n ≤ length l - 1 - at → ListEnds l at (at + 1 + n)
+  pub list-whole : (n : ℕ) → n ≡ getD l at 0 → at < length l → n < length l - at → ListEnds l at (at + 1 + n)
   unfolding counted
   list-whole n d h k =
       let e : leb (getD l at 0) (length (drop (suc at) l)) ≡ true = le-leb (getD l at 0) (length (drop (suc at) l)) (omega (arith, length-drop (suc at) l)) in
@@ -52,16 +52,16 @@ module _ (l : List ℕ) (at : ℕ) where
       inr (omega arith, omega arith, ap counted (drop-cons l at 0 h) ∙ rw (e, counted) (rw (m, t, s, drop-drop)))
 
   -- a list that is there lies inside
-  pub list-there : (counted (drop at l) ≡ none → ⊥) → (at < length l) × (getD l at 0 ≤ length l - 1 - at)
+  pub list-there : (counted (drop at l) ≡ none → ⊥) → (at < length l) × (getD l at 0 < length l - at)
   list-there h = go (lt-or-le at (length l))
     where
       none-of : ListEnds l at 0 → counted (drop at l) ≡ none
       none-of (inl x) = x .1
       none-of (inr x) = absurd (omega (arith, x .0))
 
-      go : (at < length l) ⊎ (length l ≤ at) → (at < length l) × (getD l at 0 ≤ length l - 1 - at)
+      go : (at < length l) ⊎ (length l ≤ at) → (at < length l) × (getD l at 0 < length l - at)
       go (inr x) = absurd (h (none-of (list-past x)))
-      go (inl x) = elim (lt-or-le (length l - 1 - at) (getD l at 0)) [ inl y ↦ absurd (h (none-of (list-short (getD l at 0) refl x y))) | inr y ↦ (x, y) ]
+      go (inl x) = elim (lt-or-le (getD l at 0) (length l - at)) [ inl y ↦ (x, y) | inr y ↦ absurd (h (none-of (list-short (getD l at 0) refl x y))) ]
 
   pub add-none : (middle : ℕ) → ListEnds l at middle → middle ≡ 0 → Ends (add-front (counted (drop at l))) l at 0
   unfolding add-front

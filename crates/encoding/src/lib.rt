@@ -29,8 +29,8 @@ pub fn list_end(calls: &[u64], at: usize) -> usize
         return 0;
     }
     let n = short(calls[at]);
-    let left = calls.len() - 1 - at;
-    if left < n {
+    let left = calls.len() - at;
+    if left <= n {
         return 0;
     }
     at + 1 + n

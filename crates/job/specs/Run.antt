@@ -6,7 +6,10 @@ use mathlib.Core.Path.{_≡_}
 use Prim.Native.Nat.{ℕ, _+_, _*_, _/_, _≤_}
 use lib.ListN.{length}
 use Rattle.rules.specs.Model.{Model, initial}
-use Rattle.rules.specs.Limits.{most-job-bytes, job-pool}
+use Rattle.rules.specs.Limits.{most-job-bytes, job-parallelism, job-places, job-pool}
+use Rattle.rules.specs.Checks.{spans-needed, waiting-needed, tally-needed}
+use Rattle.entries.specs.Entries.{extent}
+use Rattle.records.specs.Filling.{row-extent}
 use Rattle.rules.specs.Job.{Outcome, finished, rejected, outcome, Reached, reached}
 use Rattle.session.specs.declared.Session.{Session}
 use Rattle.session.specs.Storage.{Storage, Beyond, Frame}
@@ -89,15 +92,15 @@ pub record Runs (s : Session) (σ : Storage) (job : List ℕ) (start : ℕ) (e :
 
 -- storage for P ≤ 64, V ≤ 512 and W = 4,096, and room for the numbers of a job's lists
 pub record Room (σ : Storage) (numbers : ℕ) : Type 0 where
-  pub spans : length (σ .spans) ≡ 8320
-  pub order : length (σ .order) ≡ 2048
-  pub tally : length (σ .tally) ≡ 65
-  pub rows : length (σ .rows) ≡ 2560
-  pub marks : length (σ .marks) ≡ 512
-  pub locations : length (σ .locations) ≡ 512
-  pub waiting : length (σ .waiting) ≡ 2048
+  pub spans : length (σ .spans) ≡ extent (spans-needed job-parallelism)
+  pub order : length (σ .order) ≡ extent job-places
+  pub tally : length (σ .tally) ≡ tally-needed job-parallelism
+  pub rows : length (σ .rows) ≡ row-extent job-places
+  pub marks : length (σ .marks) ≡ job-places
+  pub locations : length (σ .locations) ≡ job-places
+  pub waiting : length (σ .waiting) ≡ waiting-needed job-places
   pub pool : length (σ .pool) ≡ job-pool
-  pub into : numbers ≡ 32768
+  pub into : numbers ≡ most-job-bytes / 2
 
 -- the whole job was run on storage σ, which is then σ′, its lists read into a, which is then b
 pub record Ran (job : List ℕ) (e : End) (σ σ′ : Storage) (a b : List ℕ) : Type 0 where

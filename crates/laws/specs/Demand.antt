@@ -1,6 +1,6 @@
 -- Demand 3 of the model (document 01's clerk), as one record with a field for each sentence: what holds after a list of calls on a
 -- fresh session. That it holds of every list is `demand-3` in DemandProof; that the code's answers, order, tally, mark, window lengths
--- and waiting registrations are the model's is promised by the calls themselves (crates sorter and replay).
+-- and waiting registrations are the model's is promised by the calls themselves (crates sorter and call_list).
 use mathlib.Core.Path.{_≡_}
 use mathlib.Core.List.{List, [], _∷_, _++_, map, List·Memᴰ}
 use mathlib.Core.Logic.{_⊎_, _≢_, _↔_}

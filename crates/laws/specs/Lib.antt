@@ -1,6 +1,5 @@
 -- Theorems about the definitions of `rules`. The main ones: `demand-3` (DemandProof), `numbers-fit` (Widths), `sound` and `between`
--- (Sound), `placeable` (Placeable), `alone-sound` (Alone),
--- `alone-numbers-fit` (AloneWidths).
+-- (Sound), `placeable` (Placeable), `alone-sound` (Alone), `alone-numbers-fit` (AloneWidths).
 pub mod Width
 pub mod History
 pub mod Together
@@ -19,6 +18,7 @@ pub mod Once
 pub mod Closed
 pub mod Ceiling
 pub mod Limits
+pub mod LongLists
 pub mod Order
 pub mod Entries
 pub mod Sound

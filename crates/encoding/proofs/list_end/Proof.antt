@@ -19,9 +19,6 @@ short-requires c κs = search needs
 sub-left : tie.Need-sub-left
 sub-left c = search needs
 
-sub-left-2 : tie.Need-sub-left-2
-sub-left-2 c = search needs
-
 returns-2 : tie.Need-returns-2
 returns-2 c =
     let else1 = c .before .before .before in
@@ -47,7 +44,6 @@ list-end-spec =
     shared-slice-read-short
     short-requires
     sub-left
-    sub-left-2
     returns-2
     add-result
     add-result-2
