@@ -43,7 +43,7 @@ fn make_end(
             pool,
         );
     }
-    let a = sorter::finish(
+    sorter::close(
         s,
         spans,
         order,
@@ -53,12 +53,7 @@ fn make_end(
         locations,
         waiting,
         pool,
-    );
-    let z = a.session;
-    Answer {
-        number: a.number,
-        session: z,
-    }
+    )
 }
 
 // Makes the flush or final at `at` and the sets and adds after it, up to the next, and stores each one's number; `done` calls were made

@@ -1,11 +1,11 @@
 -- What final gives beside a call's promise: the summary of the tally, and that it can be summed up. Assumes nothing.
-use mathlib.Core.Path.{_≡_, refl, sym, ap, _∙_}
+use mathlib.Core.Path.{_≡_, ap, _∙_}
 use mathlib.Core.List.{[]}
 use Prim.Native.Nat.{ℕ, _+_, _≤_}
 use native.Mathlib.Omega.{arith}
 use lib.ListN.{length, take}
 use Rattle.rules.specs.Model.{Model}
-use Rattle.rules.specs.Calls.{final as final-call, answer, step}
+use Rattle.rules.specs.Calls.{final as final-call, step}
 use Rattle.rules.specs.Summary.{sum, Figures, figures}
 use Rattle.rules.specs.Record.{summary as summary-of}
 use Rattle.laws.specs.Placeable.{fits-of}
@@ -16,7 +16,7 @@ use Rattle.session.specs.declared.Session.{Session}
 use Rattle.session.specs.Storage.{Storage}
 use Rattle.session.specs.Parts.{tally-is}
 use Rattle.session.specs.Rep.{Rep}
-use Rattle.admitting.specs.Promise.{Called, MayDo, Does, step-accepted, positive}
+use Rattle.admitting.specs.Promise.{Asks, Called, positive}
 
 -- final's promise: a call's, and the summary is the model's, or that of an empty tally where it was refused
 pub record Concludes (n : ℕ) (s s′ : Session) (σ σ′ : Storage) (f : Figures) : Type 0 where
@@ -37,27 +37,27 @@ tallied-of P N W k s σ R B =
       total = omega (arith, e, t, F .room, F .many);
     })
 
-module _ (s t : Session) (σ τ : Storage) (D : Does final-call s t σ τ) where
-  stepped : (P N : ℕ) (k : Model) → Rep P N k s σ → Between P N (length (σ .pool)) k → answer N (length (σ .pool)) final-call k ≡ 0
+-- final was made with number n
+module _ (n : ℕ) (s t : Session) (σ τ : Storage) (C : Called final-call n s t σ τ) where
+  stepped : (P N : ℕ) (k : Model) → Rep P N k s σ → Between P N (length (σ .pool)) k
       → Rep P N (step P N (length (σ .pool)) final-call k) t τ × Between P N (length (σ .pool)) (step P N (length (σ .pool)) final-call k)
-  stepped P N k R B e = (rw (step-accepted P N (length (σ .pool)) final-call k e) (D .rep P N k R B e), between-step P N (length (σ .pool)) (positive P N k s σ R) final-call k B)
+  stepped P N k R B = (C .keeps P N k R B .1, between-step P N (length (σ .pool)) (positive P N k s σ R) final-call k B)
 
-  pub final-tallied : MayDo final-call s σ → Tallied (τ .tally) (t .guide .p)
+  pub final-tallied : Asks s σ → Tallied (τ .tally) (t .guide .p)
   final-tallied a =
-      let x = stepped (a .parallelism) (a .places) (a .model) (a .rep) (a .between) (a .accepted) in
+      let x = stepped (a .parallelism) (a .places) (a .model) (a .rep) (a .between) in
       tallied-of (a .parallelism) (a .places) (length (σ .pool)) (step (a .parallelism) (a .places) (length (σ .pool)) final-call (a .model)) t τ (x .0) (x .1)
 
-  pub concluded : (n : ℕ) → ((P N : ℕ) (k : Model) → Rep P N k s σ → n ≡ answer N (length (σ .pool)) final-call k) → n ≡ 0 →
-      Called final-call 0 s t σ τ → (f : Figures) → f ≡ figures (take (t .guide .p + 1) (τ .tally)) → Concludes 0 s t σ τ f
+  pub concluded : n ≡ 0 → (f : Figures) → f ≡ figures (take (t .guide .p + 1) (τ .tally)) → Concludes n s t σ τ f
   unfolding summary-of
-  concluded n h z c f e =
+  concluded z f e =
       record {
-        called = c;
+        called = C;
         summary = λ y P N k R B.
-            let x = stepped P N k R B (sym (h P N k R) ∙ z) .0 in
+            let x = stepped P N k R B .0 in
             e ∙ ap (λ (p : ℕ). figures (take (p + 1) (τ .tally))) (x .core .guided .p-is) ∙ ap figures (tally-is (x .core .guided));
-        zeros = λ y. absurd (y refl);
+        zeros = λ y. absurd (y z);
       }
 
-pub not-concluded : (n : ℕ) (s : Session) (σ : Storage) (f : Figures) → (n ≡ 0 → ⊥) → Called final-call n s s σ σ → f ≡ figures [] → Concludes n s s σ σ f
-not-concluded n s σ f z c e = record { called = c; summary = λ y. absurd (z y); zeros = λ y. e }
+  pub not-concluded : (n ≡ 0 → ⊥) → (f : Figures) → f ≡ figures [] → Concludes n s t σ τ f
+  not-concluded z f e = record { called = C; summary = λ y. absurd (z y); zeros = λ y. e }

@@ -184,6 +184,35 @@ fn do_final(
     }
 }
 
+// Flushes and closes: final for those who do not ask for its summary, which takes a walk over all P + 1 counts.
+pub fn close(
+    s: Session,
+    spans: &mut [u32],
+    order: &mut [u32],
+    tally: &mut [u32],
+    rows: &mut [u32],
+    marks: &mut [u16],
+    locations: &mut [u64],
+    waiting: &mut [u64],
+    pool: &mut [u32],
+) -> Answer
+    requires { ⌜ Asks s (given spans order tally rows marks locations waiting pool) ⌝ }
+    ensures { λ r. ⌜ Called final-call (r .number) s (r .session) (before spans order tally rows marks locations waiting pool) (after spans order tally rows marks locations waiting pool) ⌝ }
+{
+    let n = checking::check_final(s.closed, s.delayed);
+    if n != 0 {
+        return Answer {
+            number: n,
+            session: s,
+        };
+    }
+    let t = do_final(s, spans, order, tally, rows);
+    Answer {
+        number: 0,
+        session: t,
+    }
+}
+
 // What final gives: its number, 0 if it was accepted, the session after it, and the summary of the tally, all zeros where it was refused.
 pub struct Finished {
     pub number: u64,

@@ -10,10 +10,10 @@ to-start c =
     let after-slice-known5 = c .before .before .before .before in
     after-slice-known5 .before .before .before .before .before
 
-abbrev to-else1 : tie.After-finish-arg8 → tie.Else1
+abbrev to-else1 : tie.After-close-arg8 → tie.Else1
 to-else1 c =
-    let after-finish-arg4 = c .before .before .before .before in
-    after-finish-arg4 .before .before .before .before
+    let after-close-arg4 = c .before .before .before .before in
+    after-close-arg4 .before .before .before .before
 
 abbrev to-then1 : tie.After-flush-arg8 → tie.Then1
 to-then1 c =
@@ -27,12 +27,12 @@ to-flush c =
     let after-slice-known10 = after-slice-known12 .before .before .before .before in
     after-slice-known10 .before .before .before .before
 
-abbrev to-finish : tie.After-z → tie.After-finish
-to-finish c =
-    let after-waiting2 = c .before .before .before .before in
-    let after-marks2 = after-waiting2 .before .before .before .before in
-    let after-tally2 = after-marks2 .before .before .before .before in
-    after-tally2 .before .before .before .before .before
+abbrev to-close : tie.After-slice-known24 → tie.After-close
+to-close c =
+    let after-slice-known22 = c .before .before .before .before in
+    let after-slice-known20 = after-slice-known22 .before .before .before .before in
+    let after-slice-known18 = after-slice-known20 .before .before .before .before in
+    after-slice-known18 .before .before .before .before
 
 mul-if1 : tie.Need-mul-if1
 mul-if1 c = let e = to-start c in omega (arith, e .pre .1 .0 .inside, e .good)
@@ -70,39 +70,39 @@ same-length-8 c = to-flush c .flush .kept .1 .1 .1 .1 .1 .1 .1 .1 .0
 returns : tie.Need-returns
 returns c = let b = to-then1 (to-flush c .before) in made-flush (to-start (b .before .before) .pre .1 .0) (b .if1 .taken) (to-flush c .flush .ensures)
 
-finish-requires : tie.Need-finish-requires
-finish-requires c κs = to-start (to-else1 c .before .before) .pre .0
+close-requires : tie.Need-close-requires
+close-requires c κs = to-start (to-else1 c .before .before) .pre .0
 
 same-length-9 : tie.Need-same-length-9
-same-length-9 c = to-finish c .finish .kept .1 .0
+same-length-9 c = to-close c .close .kept .1 .0
 
 same-length-10 : tie.Need-same-length-10
-same-length-10 c = to-finish c .finish .kept .1 .1 .0
+same-length-10 c = to-close c .close .kept .1 .1 .0
 
 same-length-11 : tie.Need-same-length-11
-same-length-11 c = to-finish c .finish .kept .1 .1 .1 .0
+same-length-11 c = to-close c .close .kept .1 .1 .1 .0
 
 same-length-12 : tie.Need-same-length-12
-same-length-12 c = to-finish c .finish .kept .1 .1 .1 .1 .0
+same-length-12 c = to-close c .close .kept .1 .1 .1 .1 .0
 
 same-length-13 : tie.Need-same-length-13
-same-length-13 c = to-finish c .finish .kept .1 .1 .1 .1 .1 .0
+same-length-13 c = to-close c .close .kept .1 .1 .1 .1 .1 .0
 
 same-length-14 : tie.Need-same-length-14
-same-length-14 c = to-finish c .finish .kept .1 .1 .1 .1 .1 .1 .0
+same-length-14 c = to-close c .close .kept .1 .1 .1 .1 .1 .1 .0
 
 same-length-15 : tie.Need-same-length-15
-same-length-15 c = to-finish c .finish .kept .1 .1 .1 .1 .1 .1 .1 .0
+same-length-15 c = to-close c .close .kept .1 .1 .1 .1 .1 .1 .1 .0
 
 same-length-16 : tie.Need-same-length-16
-same-length-16 c = to-finish c .finish .kept .1 .1 .1 .1 .1 .1 .1 .1 .0
+same-length-16 c = to-close c .close .kept .1 .1 .1 .1 .1 .1 .1 .1 .0
 
 returns-2 : tie.Need-returns-2
-returns-2 c = let f = to-finish c in
+returns-2 c = let f = to-close c in
     let b = to-else1 (f .before) in
     let t = to-start (b .before .before) .pre .1 in
     let e = end-tag (t .1) in
-    made-final (t .0) (e .0) (e .1) (b .if1 .left) (f .finish .ensures .called)
+    made-final (t .0) (e .0) (e .1) (b .if1 .left) (f .close .ensures)
 
 pub make-end-spec : {M : Type 1} → statement M
 make-end-spec =
@@ -120,7 +120,7 @@ make-end-spec =
     same-length-7
     same-length-8
     returns
-    finish-requires
+    close-requires
     same-length-9
     same-length-10
     same-length-11

@@ -28,8 +28,8 @@ no-summary-requires c κs = search needs
 
 returns : tie.Need-returns
 returns c =
-    not-concluded _ _ _ _ (c .before .if1 .taken) (called-refused _ _ _ _ (c .before .if1 .taken) (final-number _ _ _ (c .before .before .check-final .ensures)))
-    (c .no-summary .ensures)
+    let z = c .before .if1 .taken in
+    not-concluded _ _ _ _ _ (called-refused _ _ _ _ z (final-number _ _ _ (c .before .before .check-final .ensures))) z _ (c .no-summary .ensures)
 
 do-final-requires : tie.Need-do-final-requires
 do-final-requires c κs =
@@ -47,8 +47,9 @@ finalize-requires c κs =
     let at-check-final = at-else-1 .before in
     let at-start-1 = at-check-final .before .before .before .before .before in
     let at-start = at-start-1 .before .before .before .before in
-    final-tallied _ _ _ _ (flushes (at-do-final .do-final .ensures)) (may-do _ _ _ _ (final-number _ _ _ (at-check-final .check-final .ensures))
-    (at-else-1 .if1 .left) (at-start .pre))
+    final-tallied _ _ _ _ _
+    (called-does _ _ _ _ _ _ (final-number _ _ _ (at-check-final .check-final .ensures)) (at-else-1 .if1 .left) (flushes (at-do-final .do-final .ensures)))
+    (at-start .pre)
 
 same-length : tie.Need-same-length
 same-length c = refl
@@ -64,9 +65,9 @@ same-length-4 c = at-do-final c .do-final .kept .1 .1 .1 .1 .0
 
 returns-2 : tie.Need-returns-2
 returns-2 c =
-    concluded _ _ _ _ (flushes (at-do-final c .do-final .ensures)) _ (final-number _ _ _ (at-check-final c .check-final .ensures)) (at-else-1 c .if1 .left)
+    concluded _ _ _ _ _
     (called-does _ _ _ _ _ _ (final-number _ _ _ (at-check-final c .check-final .ensures)) (at-else-1 c .if1 .left) (flushes (at-do-final c .do-final .ensures)))
-    _ (c .finalize .ensures)
+    refl _ (c .finalize .ensures)
 
 pub finish-spec : {M : Type 1} → statement M
 finish-spec =
