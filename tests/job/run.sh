@@ -21,7 +21,7 @@ seed=${JOB_SEED:-1}
 work=target/job
 mkdir -p $work
 tools/archives host || fail "no library"
-rt check order >$work/order.log 2>&1 || { tail -n 20 $work/order.log >&2; fail "rt check order"; }
+flock target/rt.lock rt check order >$work/order.log 2>&1 || { tail -n 20 $work/order.log >&2; fail "rt check order"; }
 library=$(realpath target/staticlib/libhost.a)
 order=target/bin/order
 
