@@ -8,7 +8,7 @@ with V, and with the count of places waited on. Both axes are logarithmic.
 import math
 import sys
 
-from report import SIDES, times
+from report import SIDES, marginal, times
 
 LABELS = {"published": "Rust, published", "ordered": "Rust, ordered", "ours": "ours"}
 COLOURS = {"published": "#b3541e", "ordered": "#d9a441", "ours": "#1f6f8b"}
@@ -94,8 +94,9 @@ def waiting(cases):
         points = []
         for (name, p, size, k), sides in cases.items():
             base = cases.get((name, p, 0, k))
-            if name == "delayed" and size and base and side in sides and side in base:
-                points.append((k, max(1, (sides[side]["run"] - base[side]["run"]) / size)))
+            cost = marginal(sides, base, side, size) if name == "delayed" and size and base else None
+            if cost is not None:
+                points.append((k, cost))
         if points:
             lines[LABELS[side]] = (COLOURS[side], "none", sorted(points))
     return lines

@@ -96,17 +96,22 @@ def count_rows(counted, timed):
         yield shown(case) + [number(registrations)] + beside(per_registration(sides, registrations, run))
 
 
+def marginal(sides, base, side, size):
+    """What each of `size` more registrations costs a side: the run with them less the run without. None where the side is
+    missing, or where that is less than a fifth of the run: the times scatter as much."""
+    if side not in sides or side not in base:
+        return None
+    more = sides[side]["run"] - base[side]["run"]
+    return more / size if 5 * more >= sides[side]["run"] else None
+
+
 def marginal_rows(cases):
-    """What one more registration costs while others wait: the run with them less the run without."""
+    """What one more registration costs while others wait."""
     for (name, p, size, waiting), sides in cases.items():
         base = cases.get((name, p, 0, waiting))
         if name != "delayed" or size == 0 or base is None:
             continue
-        values = [
-            (sides[s]["run"] - base[s]["run"]) / size if s in sides and s in base else None
-            for s in SIDES
-        ]
-        yield [number(waiting)] + beside(values)
+        yield [number(waiting)] + beside([marginal(sides, base, s, size) for s in SIDES])
 
 
 def main():
