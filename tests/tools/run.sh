@@ -1,5 +1,5 @@
 #!/bin/bash
-# The tools that write or count what stands in the crates, on a small repository: crates.py, rooms.py, unused.py,
+# The tools that write or count what stands in the crates, on a small repository: crates.py, rooms.py, unused.py, edits.py,
 # metrics.py, lines.py, places.py, wrap.py, and oracle's vectors.py and generate.py. Each finds what it must, says it, and writes nothing
 # when it only compares; wrong words get a sentence. That the repository itself is as they write it is
 # looked at by steps of .ci/run.
@@ -150,6 +150,21 @@ says 1 'base/Base.double is used or gone' "$toy/tools/unused.py"
 echo 'nonsense' >>"$toy/tools/unused.txt"
 says 1 'tools/unused.txt:5: not' "$toy/tools/unused.py"
 says 1 'no crate nosuch' "$toy/tools/unused.py" --remove-imports nosuch
+
+# Wrong programs: what one replaces stands once.
+fresh && mkdir "$toy/crates/mid/must-fail"
+edit=$toy/crates/mid/must-fail/idle.edit
+printf '%s\n' '# another name' 'file: src/lib.rt' 'old: fn idle(' 'new: fn busy(' >"$edit"
+says 0 'wrong programs: 1, of which 0 cannot be made' "$toy/tools/edits.py"
+sed -i 's/^old: .*/old: fn /' "$edit"
+says 1 "crates/mid/must-fail/idle.edit: 'fn ' stands" "$toy/tools/edits.py"
+sed -i 's/^old: .*/old: fn lost/' "$edit"
+says 1 "'fn lost' stands 0 times in src/lib.rt, not once" "$toy/tools/edits.py"
+sed -i 's/^file: .*/file: src\/other.rt/' "$edit"
+says 1 'crate mid has no file src/other.rt' "$toy/tools/edits.py"
+echo '# nothing' >"$edit"
+says 1 'it replaces nothing' "$toy/tools/edits.py"
+says 1 'usage' tools/edits.py --nothing
 
 # The counts.
 fresh && "$toy/tools/crates.py" >"$toy/said"
