@@ -125,11 +125,11 @@ abbrev flat-slice : Ty
 flat-slice = sliceTy (tyRef (named 1) imm (tyInt w32))
 
 -- the order lent again: its pointer and its slice
-abbrev lent-ref : Ty
-lent-ref = tyRef erased mut (pointee (T.the-row .written))
+abbrev borrowed-ref : Ty
+borrowed-ref = tyRef erased mut (pointee (T.the-row .written))
 
-abbrev lent-slice : Ty
-lent-slice = sliceTy lent-ref
+abbrev borrowed-slice : Ty
+borrowed-slice = sliceTy borrowed-ref
 
 module _ {M : Type 1} (𝓤 : URA M) (H : Heap 𝓤) (A : Atoms 𝓤) (W : Given 𝓤 H A) (mem : Memory → SProp 𝓤) (run : Routine → Fun 𝓤)
     (κ κ′ : Lft) (q q′ : Share) (b o : ℕ) (γ : GName) (ys : List OrderInfo) (g : RefT (List ℕ)) (lo hi : ℕ) (lo-fits : lo < 2 ^ 64)
@@ -211,19 +211,19 @@ module _ {M : Type 1} (𝓤 : URA M) (H : Heap 𝓤) (A : Atoms 𝓤) (W : Given
   said-entry k r = exE 𝓤 _ (λ ws. snd∗ 𝓤 (sem 𝓤 H A (lasts entry-at.ended (κ′, tt) (g, (k, tt)) ws)) (fact 𝓤 (r ≡ entry-of (g .now) k)))
 
   -- the call of `append`, with the order lent for the lifetime α under the name δ
-  abbrev lent : ℕ → GName → ℕ → RefT (List OrderInfo)
-  lent α δ k = record { ptr = (b, o); name = δ; now = at k }
+  abbrev borrowed : ℕ → GName → ℕ → RefT (List OrderInfo)
+  borrowed α δ k = record { ptr = (b, o); name = δ; now = at k }
 
-  abbrev Lent : ℕ → GName → ℕ → Fml
-  Lent α δ k = MutSlice (named 0) (α ∷ []) R .own (lent α δ k) (sliceVal (b, o) (length (at k)) ∷ [])
+  abbrev Borrowed : ℕ → GName → ℕ → Fml
+  Borrowed α δ k = MutSlice (named 0) (α ∷ []) R .own (borrowed α δ k) (sliceVal (b, o) (length (at k)) ∷ [])
 
   abbrev to-append : ℕ → GName → ℕ → OrderInfo → Val → Append 𝓤 H A mem run .Ghost
-  to-append α δ k r u = (((α ∷ [], tt), (fullShare, tt), tt, (lent α δ k, (k, (r, tt))), (sliceVal (b, o) (length (at k)) ∷ [], (vint w64 k ∷ [], (u ∷ [], tt)))), tt)
+  to-append α δ k r u = (((α ∷ [], tt), (fullShare, tt), tt, (borrowed α δ k, (k, (r, tt))), (sliceVal (b, o) (length (at k)) ∷ [], (vint w64 k ∷ [], (u ∷ [], tt)))), tt)
 
   goes-append : (α : ℕ) (δ : GName) (k : ℕ) (r : OrderInfo) (u : Val) → k < 2 ^ 64 → k < length (at k)
-      → ent 𝓤 (sep 𝓤 (A .lft (α ∷ []) fullShare) (sep 𝓤 (sem 𝓤 H A (Lent α δ k)) (sem 𝓤 H A (R .own r (u ∷ []))))) (Append 𝓤 H A mem run .pre (to-append α δ k r u))
+      → ent 𝓤 (sep 𝓤 (A .lft (α ∷ []) fullShare) (sep 𝓤 (sem 𝓤 H A (Borrowed α δ k)) (sem 𝓤 H A (R .own r (u ∷ []))))) (Append 𝓤 H A mem run .pre (to-append α δ k r u))
   goes-append α δ k r u fits within =
-      qed W (‵ (flft (α ∷ []) fullShare) ∷ ‵ (Lent α δ k) ∷ ‵ (R .own r (u ∷ [])) ∷ []) ∵
+      qed W (‵ (flft (α ∷ []) fullShare) ∷ ‵ (Borrowed α δ k) ∷ ‵ (R .own r (u ∷ [])) ∷ []) ∵
       move ! (2 ∷ []) $ nothing ! $ move ! (1 ∷ 0 ∷ []) $ fjoin ! $ owned ! usize (Is usize) (uint-makes 𝓤 H A W w64) k _ (refl, fits) $ fjoin ! $ move ! (2 ∷ 0 ∷ []) $ fjoin ! $
       nothing ! $ move ! (2 ∷ 0 ∷ []) $ join ! $ says ! within $ frame ! $ done !
 
@@ -255,7 +255,7 @@ module _ {M : Type 1} (𝓤 : URA M) (H : Heap 𝓤) (A : Atoms 𝓤) (W : Given
     abbrev En : Env 𝓤 H
     En =
         (word, l₀) ∷ (order-slice, l₁) ∷ (flat-slice, l₂) ∷ (word, l₃) ∷ (word, l₄) ∷ (word, l₅) ∷ (word, l₆) ∷ (word, l₇) ∷ (T′.mir, l₈)
-        ∷ (word, l₉) ∷ (tyBool, l₁₀) ∷ (tyUnit, l₁₁) ∷ (lent-ref, l₁₂) ∷ (lent-slice, l₁₃) ∷ []
+        ∷ (word, l₉) ∷ (tyBool, l₁₀) ∷ (tyUnit, l₁₁) ∷ (borrowed-ref, l₁₂) ∷ (borrowed-slice, l₁₃) ∷ []
 
     -- what no turn touches
     abbrev Frame : List (Item 𝓤)
@@ -263,11 +263,11 @@ module _ {M : Type 1} (𝓤 : URA M) (H : Heap 𝓤) (A : Atoms 𝓤) (W : Given
         ∷ ‵ (fat fullShare word l₅ 0 (vint w64 n)) ∷ ‵ (fat fullShare word l₆ 0 (vint w64 m)) ∷ ‵ (fat fullShare word l₉ 0 (vint w64 (length ys))) ∷ ‵ (froom word l₀ 0)
         ∷ ‵ (fdies word l₀) ∷ ‵ (fdies order-slice l₁) ∷ ‵ (fdies flat-slice l₂) ∷ ‵ (fdies word l₃) ∷ ‵ (fdies word l₄)
         ∷ ‵ (fdies word l₅) ∷ ‵ (fdies word l₆) ∷ ‵ (fdies word l₇) ∷ ‵ (fdies T′.mir l₈) ∷ ‵ (fdies word l₉) ∷ ‵ (fdies tyBool l₁₀)
-        ∷ ‵ (fdies tyUnit l₁₁) ∷ ‵ (fdies lent-ref l₁₂) ∷ ‵ (fdies lent-slice l₁₃) ∷ []
+        ∷ ‵ (fdies tyUnit l₁₁) ∷ ‵ (fdies borrowed-ref l₁₂) ∷ ‵ (fdies borrowed-slice l₁₃) ∷ []
 
     -- the entries before k are copied
     abbrev At : ℕ → List (Item 𝓤)
-    At k = ‵ (fat fullShare word l₇ 0 (vint w64 k)) ∷ ‵ (froom T′.mir l₈ 0) ∷ ‵ (froom tyBool l₁₀ 0) ∷ ‵ (froom tyUnit l₁₁ 0) ∷ ‵ (froom lent-ref l₁₂ 0) ∷ ‵ (froom lent-slice l₁₃ 0)
+    At k = ‵ (fat fullShare word l₇ 0 (vint w64 k)) ∷ ‵ (froom T′.mir l₈ 0) ∷ ‵ (froom tyBool l₁₀ 0) ∷ ‵ (froom tyUnit l₁₁ 0) ∷ ‵ (froom borrowed-ref l₁₂ 0) ∷ ‵ (froom borrowed-slice l₁₃ 0)
         ∷ ‵ (fobs γ (codedHoleys R .code (heres R (at k)))) ∷ ‵ (fbor κ (Held R (length (at k)) b o γ)) ∷ ‵ (flft κ q) ∷ (‵ (flft κ′ q′) ⊛ ‵ ftrue) ∷ ‵ Own ∷ Frame
 
     abbrev Facts : ℕ → ℕ → Type 0
@@ -313,11 +313,11 @@ module _ {M : Type 1} (𝓤 : URA M) (H : Heap 𝓤) (A : Atoms 𝓤) (W : Given
         assigns ! (addr ! (from ! (fld ! refl (hop ! (look-in ! 12 (sub ! 0 refl (whole !))) (stop !))))) (from ! (stop !)) (init ! 7 refl (tt, tt)) $
         assigns ! (agg ! (and-then ! (load ! (from ! (stop !)) (look ! 7 refl)) (and-then ! (load ! (from ! (fld ! refl (stop !))) (look-in ! 12 (sub ! 1 refl (whole !)))) (no-more !))))
         (from ! (stop !)) (init ! 8 refl (tt, (tt, (record { fits = room .0 }, tt)))) $
-        rewrite ! 8 (λ (l : ℕ). ‵ (fat fullShare lent-slice l₁₃ 0 (sliceVal (b, o) l))) (sym len) refl $
+        rewrite ! 8 (λ (l : ℕ). ‵ (fat fullShare borrowed-slice l₁₃ 0 (sliceVal (b, o) l))) (sym len) refl $
         -- `append`: the order's borrow is opened, and what it holds is lent for a new lifetime
         move ! (9 ∷ 10 ∷ 11 ∷ []) $ opens-slice ! tt R (at k) b o $ use1 W (‵ (cells (in-memory R) (at k) b o)) (whole-in 𝓤 H A W R (at k) b o) $
         lft-new ! tt (λ α. move ! (1 ∷ []) $
-        use1 W (later (some (λ (δ : GName). ‵ (Lent α δ k) ⊛ ‵ (flent (α ∷ []) (Held R (length (at k)) b o δ)))))
+        use1 W (later (some (λ (δ : GName). ‵ (Borrowed α δ k) ⊛ ‵ (flent (α ∷ []) (Held R (length (at k)) b o δ)))))
         (lends-slice 𝓤 H A W R (named 0) (α ∷ []) (at k) b o (subst (Room R) (sym len) room)) $ await ! tt $ pick ! (λ δ. split ! $
         -- [the lent order; its lender's part; the new token; the open borrow; obs; auth; the entry; the flat slice's token; what it owns; _7; …]
         move ! (2 ∷ 0 ∷ 6 ∷ []) $ use3 W (raw (Append 𝓤 H A mem run .pre (to-append α δ k r u))) (goes-append α δ k r u fits within) $
@@ -325,11 +325,11 @@ module _ {M : Type 1} (𝓤 : URA M) (H : Heap 𝓤) (A : Atoms 𝓤) (W : Given
         (and-then ! (load ! (from ! (stop !)) (look ! 12 refl)) (and-then ! (load ! (from ! (stop !)) (look ! 7 refl)) (and-then ! (load ! (from ! (stop !)) (look ! 8 refl)) (no-more !))))
         (λ y.
         use1 W (later (some (λ (t : Unit {0}). ((‵ (flft (α ∷ []) fullShare) ⊛ ‵ ftrue) ⊛ ‵ (Nothing .own t (y ∷ []))) ⊛ raw
-        (ensured 𝓤 H A append.ended (append.clauses 𝓤 H A mem run) (α ∷ [], tt) (lent α δ k, (k, (r, tt))) tt t)))) (id⊢ 𝓤 _) $
+        (ensured 𝓤 H A append.ended (append.clauses 𝓤 H A mem run) (α ∷ [], tt) (borrowed α δ k, (k, (r, tt))) tt t)))) (id⊢ 𝓤 _) $
         await ! tt $ pick ! (λ t.
         split ! $ move ! (1 ∷ []) $
         use1 W
-        (some (λ (zs : List OrderInfo × (Unit {0} × (Unit {0} × Unit {0}))). ‵ (lasts append.ended (α ∷ [], tt) (lent α δ k, (k, (r, tt))) zs) ⊛ raw (fact 𝓤 (zs .0 ≡ set (at k) k r))))
+        (some (λ (zs : List OrderInfo × (Unit {0} × (Unit {0} × Unit {0}))). ‵ (lasts append.ended (α ∷ [], tt) (borrowed α δ k, (k, (r, tt))) zs) ⊛ raw (fact 𝓤 (zs .0 ≡ set (at k) k r))))
         (id⊢ 𝓤 _) $
         pick ! (λ zs.
         split ! $ move ! (1 ∷ []) $ heard ! (zs .0 ≡ set (at k) k r) (λ put. fsplit ! $ fsplit ! $ move ! (1 ∷ []) $ drop ! $ move ! (1 ∷ []) $ drop ! $
