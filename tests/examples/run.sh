@@ -3,6 +3,7 @@
 # commands write, and the answers in examples/README.md are those of the refused ones. Needs
 # target/bin/order, which the proofs' step builds.
 set -euo pipefail
+trap 'echo "$0: line $LINENO ended with $?" >&2' ERR
 cd "$(dirname "$0")/../.."
 
 order=target/bin/order

@@ -4,6 +4,7 @@
 # short lists and on random ones. GUIDE_RUNS random lists (default 5000; `tests/guide/run.sh full` takes
 # 100000), from the seed GUIDE_SEED (default 1).
 set -euo pipefail
+trap 'echo "$0: line $LINENO ended with $?" >&2' ERR
 cd "$(dirname "$0")/../.."
 
 default=5000

@@ -4,6 +4,7 @@
 # commands of docs/JOB.md and docs/HOSTS.md; the command order-job; an installation, and a host that is
 # built with nothing but pkg-config from it.
 set -euo pipefail
+trap 'echo "$0: line $LINENO ended with $?" >&2' ERR
 cd "$(dirname "$0")/../.."
 
 fail() { echo "tests/hosts/run.sh: $*" >&2; exit 1; }
@@ -131,6 +132,7 @@ elsewhere=$(mktemp -d)
 trap 'rm -rf "$elsewhere"' EXIT
 outside() (
   set -e
+  trap 'echo "$0: line $LINENO ended with $?: $BASH_COMMAND" >&2' ERR
   listing=$PWD/crates/order/stdout job=$PWD/crates/order/stdin prints=$PWD/tests/prints.sh
   export PKG_CONFIG_PATH=$prefix/lib/pkgconfig LD_LIBRARY_PATH=$prefix/lib
   cp "$prefix"/share/order/examples/*.c "$elsewhere"

@@ -8,6 +8,7 @@
 #
 # JOB_SEED chooses the random jobs (default 1). Where valgrind is at hand a part of it runs under it.
 set -euo pipefail
+trap 'echo "$0: line $LINENO ended with $?" >&2' ERR
 cd "$(dirname "$0")/../.."
 
 fail() { echo "tests/job/run.sh: $*" >&2; exit 1; }

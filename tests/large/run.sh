@@ -8,6 +8,7 @@
 # random bytes the crate's test takes. The archives are those in the folder that ORDER_LIBS names, else
 # in target/staticlib, brought up to date by tools/archives.
 set -euo pipefail
+trap 'echo "$0: line $LINENO ended with $?" >&2' ERR
 cd "$(dirname "$0")/../.."
 
 fail() { echo "tests/large/run.sh: $*" >&2; exit 1; }

@@ -2,6 +2,7 @@
 # tools/moved.py on a small repository with two commits: what stays, moves, comes and goes is told apart,
 # and a commit or a log that is not there is said.
 set -euo pipefail
+trap 'echo "$0: line $LINENO ended with $?" >&2' ERR
 root=$(cd "$(dirname "$0")/../.." && pwd)
 tool=$root/tools/moved.py
 folder=$(mktemp -d)

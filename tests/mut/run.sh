@@ -5,6 +5,7 @@
 # interpreter, compiled at -O0 and -O3, and with the compiler's assumptions checked; each must print
 # the file `printed`.
 set -euo pipefail
+trap 'echo "$0: line $LINENO ended with $?" >&2' ERR
 cd "$(dirname "$0")/../.."
 
 scratch=target/mut

@@ -2,6 +2,7 @@
 # Lends a slice of entry structs to `order_append_new` from C and from Rust, and looks that the new
 # entries stand there, that nothing else has changed, and that bad arguments are refused.
 set -euo pipefail
+trap 'echo "$0: line $LINENO ended with $?" >&2' ERR
 cd "$(dirname "$0")/../.."
 
 out=target/order_entries

@@ -2,6 +2,7 @@
 # The pictures of docs/GUARANTEE.md are what their commands draw, and tools/picture.py says plainly what
 # it can't draw. Needs target/bin/order, which the proofs' step builds; order-large is built if it is missing.
 set -euo pipefail
+trap 'echo "$0: line $LINENO ended with $?" >&2' ERR
 cd "$(dirname "$0")/../.."
 
 order=target/bin/order

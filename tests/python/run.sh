@@ -1,6 +1,7 @@
 #!/bin/bash
 # The Python module (hosts/python) over shared libraries of the proved archives.
 set -euo pipefail
+trap 'echo "$0: line $LINENO ended with $?" >&2' ERR
 cd "$(dirname "$0")/../.."
 tools/archives host replay summary
 PYTHONDONTWRITEBYTECODE=1 python3 tests/python/test.py 2>target/python.log || { cat target/python.log >&2; exit 1; }

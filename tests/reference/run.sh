@@ -3,6 +3,7 @@
 # at hand, against the oracle on all short call lists and on REFERENCE_RUNS random sessions (default
 # 30000) and half as many random guides. The seed is REFERENCE_SEED (default 1).
 set -euo pipefail
+trap 'echo "$0: line $LINENO ended with $?" >&2' ERR
 cd "$(dirname "$0")/../.."
 
 runs=${REFERENCE_RUNS:-30000} seed=${REFERENCE_SEED:-1}

@@ -9,6 +9,7 @@
 # SESSION_SEED chooses the random lists (default 1). SESSION_LIBRARY names a library to link instead of
 # the one that `rt staticlib replay` proves and writes.
 set -euo pipefail
+trap 'echo "$0: line $LINENO ended with $?" >&2' ERR
 cd "$(dirname "$0")/../.."
 
 fail() { echo "tests/session/run.sh: $*" >&2; exit 1; }

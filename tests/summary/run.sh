@@ -4,6 +4,7 @@
 # (default 1), SUMMARY_LIBRARY names a library to link instead of the one that `rt staticlib summary`
 # proves and writes. Beside the Rust's own summaries it is held by tests/session/run.sh.
 set -euo pipefail
+trap 'echo "$0: line $LINENO ended with $?" >&2' ERR
 cd "$(dirname "$0")/../.."
 
 fail() { echo "tests/summary/run.sh: $*" >&2; exit 1; }

@@ -4,6 +4,7 @@
 # when it only compares; wrong words get a sentence. That the repository itself is as they write it is
 # looked at by steps of .ci/run.
 set -euo pipefail
+trap 'echo "$0: line $LINENO ended with $?" >&2' ERR
 cd "$(dirname "$0")/../.."
 
 here=$PWD
