@@ -232,8 +232,8 @@ def lists(rows):
 
 
 def value(text, place):
-    """A number as it is written: decimal digits, or a power of two numbers."""
-    match = re.fullmatch(r"([0-9_]+)(?: \^ ([0-9]+))?", text)
+    """A number as it is written: decimal digits, or a power of two numbers; a float has .0 behind it."""
+    match = re.fullmatch(r"([0-9_]+)(?: \^ ([0-9]+)|\.0)?", text)
     if not match:
         raise Wrong(f"{place}: {text} is neither a number nor a power")
     return int(match[1]) ** int(match[2] or 1)
