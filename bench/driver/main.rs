@@ -208,7 +208,7 @@ fn main() {
     match words[..] {
         ["sides"] if ours::LINKED => println!("published,ordered,ours"),
         ["sides"] => println!("published,ordered"),
-        ["storage"] => println!("{}", Lent::PER_PLACE),
+        ["storage"] => println!("{}", Lent::per_place()),
         ["time", repetitions, sides, name, parallelism, size, waiting] => {
             let (made, parallelism) = asked(name, parallelism, size, waiting);
             let sides: Vec<&str> = sides.split(',').collect();
