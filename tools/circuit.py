@@ -92,7 +92,8 @@ def positive(word):
 
 
 def main():
-    parser = argparse.ArgumentParser(prog=os.path.basename(sys.argv[0]), description=__doc__,
+    name = os.path.basename(sys.argv[0])  # as it was called: an installation has it as order-circuit
+    parser = argparse.ArgumentParser(prog=name, description=__doc__.replace("circuit.py", name),
                                      formatter_class=argparse.RawDescriptionHelpFormatter)
     parser.add_argument("kind", choices=KINDS)
     parser.add_argument("count", type=positive, metavar="N")
@@ -101,9 +102,9 @@ def main():
     calls, places_of = KINDS[options.kind]
     places = places_of(options.count)
     if places > MOST_PLACES:
-        return f"{parser.prog}: {options.kind} {options.count} has {places:,} places, and a job has at most {MOST_PLACES:,}"
+        return f"{name}: {options.kind} {options.count} has {places:,} places, and a job has at most {MOST_PLACES:,}"
     if sys.stdout is None:
-        return f"{parser.prog}: standard output is closed"
+        return f"{name}: standard output is closed"
     try:
         sys.stdout.write(f"parallelism={options.parallelism}\nplaces={places}\n")
         sys.stdout.writelines(calls(options.count))
@@ -113,7 +114,7 @@ def main():
         # Python would try again at its end.
         os.dup2(os.open(os.devnull, os.O_WRONLY), sys.stdout.fileno())
         if not isinstance(error, BrokenPipeError):
-            return f"{parser.prog}: the job cannot be written: {error}"
+            return f"{name}: the job cannot be written: {error}"
     return None
 
 
