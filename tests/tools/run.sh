@@ -218,6 +218,15 @@ says 1 'guides.txt' "$toy/oracle/generate.py" --check
 touch "$toy/crates/vectors/specs/Runs9.antt"
 says 1 'Runs9.antt is there' "$toy/oracle/vectors.py" --check
 
+# Host code says that it is not proved, in its first line or after `#!`.
+fresh && git -C "$toy" init -q && git -C "$toy" add tools
+first_lines() { (cd "$toy" && python3 "$here/.ci/first_lines.py"); }
+says 0 ' files of host code, 0 do not say' first_lines
+sed -i '2s/Host code, not proved/Code/' "$toy/tools/rooms.py" && sed -i '1s/^/\n/' "$toy/tools/antt.py"
+says 1 'tools/antt.py: its first line does not say' first_lines
+says 1 'tools/rooms.py: its first line does not say' first_lines
+rm -rf "$toy/.git"
+
 # Words: every command of tools/ has its help on standard output, and an unknown option gets a sentence and nothing else. What
 # is no command there is data, or a module without the mode and the first line of one.
 commands=0
@@ -237,6 +246,11 @@ done
 for tool in tools/{crates,rooms,unused,metrics,wrap,refusals}.py oracle/vectors.py; do
   says 1 'usage' "$here/$tool" --nothing
 done
+says 2 'bench/large.sh: REPETITIONS is a number from 1 to 9999, not x' bench/large.sh x
+says 2 'bench/large.sh: REPETITIONS is a number from 1 to 9999, not 0' bench/large.sh 0
+says 2 'bench/large.sh: one number at most' bench/large.sh 3 3
+says 2 'large.py: REPETITIONS is a number from 1 to 9999' python3 bench/large.py x
+says 2 'large.py: REPETITIONS is a number from 1 to 9999' python3 bench/large.py
 for tool in tools/{crates,rooms,unused,metrics}.py; do
   says 1 'cannot be read' "$here/$tool" --root "$toy/nowhere"
 done
