@@ -1,5 +1,5 @@
-//! This repository's `replay` as a side of the benchmark. It is linked in by `--cfg ours`, which
-//! bench/build.sh gives once crates.txt lists the crate `replay`.
+//! Host code, not proved: this repository's `replay` as a side of the benchmark. It is linked in by
+//! `--cfg ours`, which bench/build.sh gives once crates.txt lists the crate `replay`.
 
 use crate::workloads::Workload;
 
