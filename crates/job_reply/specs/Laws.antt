@@ -33,7 +33,7 @@ unfolding rule.reply told rule.bytes-after
 replied-refused job bytes n code x {σ} {σ′} {a} {b} r e =
     let r′ = subst (λ (y : End). Ran job y σ σ′ a b) e r in
     let q : rule.reply (length bytes) job ≡ rule.refused n code = ap (told (length bytes)) (r′ .tells .is) in
-    record { is = sym q; bytes = sym (ap (λ (y : rule.Reply). rule.bytes-after y bytes) q); small = r′ .low }
+    record { is = sym q; bytes = sym (ap (λ (y : rule.Reply). rule.bytes-after y bytes) q); small = (r′ .low .0, omega (arith, r′ .low .1)) }
 
 -- a job that was finished, over order o and rows rs
 module _ (job : List ℕ) (w pl md : ℕ) (x : End) (sp o t rs m l wa pool : List ℕ) {σ : Storage} {a b : List ℕ}
