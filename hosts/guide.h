@@ -7,6 +7,8 @@
 #include <stddef.h>
 #include <stdint.h>
 
+#include "layout.h"
+#include "limits.h"
 #include "refusals.h"
 
 #ifdef __cplusplus
@@ -15,11 +17,11 @@ extern "C" {
 
 /* Numbers of a request, and of the answer to one. */
 #define GUIDE_REQUEST 6
-#define GUIDE_ANSWER 37
+#define GUIDE_ANSWER (5 + ORDER_SPANS)
 
 /* What a guide of parallelism P (1 to 64,999) and V pushes (1 to 16,777,216) needs, in numbers. */
-#define GUIDE_SPANS(p) ((size_t)128 * ((size_t)(p) + 1))
-#define GUIDE_ORDER(v) ((size_t)4 * (size_t)(v))
+#define GUIDE_SPANS(p) ((size_t)ORDER_SPANS * ORDER_ENTRY_NUMBERS * ((size_t)(p) + 1))
+#define GUIDE_ORDER(v) ((size_t)ORDER_ENTRY_NUMBERS * (size_t)(v))
 #define GUIDE_TALLY(p) ((size_t)(p) + 1)
 #define GUIDE_ANSWERS(requests) ((size_t)GUIDE_ANSWER * (size_t)(requests))
 

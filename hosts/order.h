@@ -8,6 +8,7 @@
 #include <stddef.h>
 #include <stdint.h>
 
+#include "limits.h"
 #include "refusals.h"
 
 #ifdef __cplusplus
@@ -15,8 +16,8 @@ extern "C" {
 #endif
 
 /* The greatest listing has fewer bytes than this; a job has at most as many. */
-#define ORDER_LISTING_BYTES 65536
-#define ORDER_JOB_BYTES 65536
+#define ORDER_LISTING_BYTES ORDER_PROGRAM_LISTING_BYTES
+#define ORDER_JOB_BYTES ORDER_MOST_JOB_BYTES
 
 /* Runs a job. The two slices are a pointer and a count of bytes each, do not overlap, and neither
    pointer is null, also where the count is 0. Nothing is kept between calls, and calls may run at the
@@ -30,9 +31,9 @@ extern "C" {
 uint64_t order_job(const uint8_t *job, size_t job_count, uint8_t *listing, size_t listing_count);
 
 /* A returned number, taken apart. */
-#define ORDER_CODE(returned) ((unsigned)((returned) % 64))     /* 0 if the job was accepted */
-#define ORDER_LENGTH(returned) ((size_t)((returned) / 64))     /* the listing's, if it was */
-#define ORDER_LINE(returned) ((unsigned long)((returned) / 64)) /* the refusal's, if it was not */
+#define ORDER_CODE(returned) ((unsigned)((returned) % ORDER_REPLY_RADIX))      /* 0 if the job was accepted */
+#define ORDER_LENGTH(returned) ((size_t)((returned) / ORDER_REPLY_RADIX))      /* the listing's, if it was */
+#define ORDER_LINE(returned) ((unsigned long)((returned) / ORDER_REPLY_RADIX)) /* the refusal's, if it was not */
 
 #ifdef __cplusplus
 }

@@ -9,6 +9,8 @@
 #include <stddef.h>
 #include <stdint.h>
 
+#include "layout.h"
+#include "limits.h"
 #include "refusals.h"
 
 #ifdef __cplusplus
@@ -16,23 +18,23 @@ extern "C" {
 #endif
 
 /* How many numbers an entry of the order has, and a registration's row. */
-#define REPLAY_ENTRY_NUMBERS 4
-#define REPLAY_ROW_NUMBERS 5
+#define REPLAY_ENTRY_NUMBERS ORDER_ENTRY_NUMBERS
+#define REPLAY_ROW_NUMBERS ORDER_ROW_NUMBERS
 
 /* What a session of parallelism P (1 to 64,999) over V places (1 to 16,777,216) needs, in numbers.
    The pool may have any length: it bounds the input and output numbers of all accepted adds. */
-#define REPLAY_SPANS(p) ((size_t)32 * REPLAY_ENTRY_NUMBERS * ((size_t)(p) + 1))
+#define REPLAY_SPANS(p) ((size_t)ORDER_SPANS * REPLAY_ENTRY_NUMBERS * ((size_t)(p) + 1))
 #define REPLAY_ORDER(v) ((size_t)REPLAY_ENTRY_NUMBERS * (size_t)(v))
 #define REPLAY_TALLY(p) ((size_t)(p) + 1)
 #define REPLAY_ROWS(v) ((size_t)REPLAY_ROW_NUMBERS * (size_t)(v))
 #define REPLAY_MARKS(v) ((size_t)(v))
 #define REPLAY_LOCATIONS(v) ((size_t)(v))
-#define REPLAY_WAITING(v) ((size_t)4 * (size_t)(v))
+#define REPLAY_WAITING(v) ((size_t)ORDER_WAITING_NUMBERS * (size_t)(v))
 
 /* Marks of a place. */
 #define REPLAY_UNTRACKED 0
-#define REPLAY_WRITTEN 32768
-#define REPLAY_SET 49152
+#define REPLAY_WRITTEN ORDER_MARK_WRITTEN
+#define REPLAY_SET ORDER_MARK_SET
 
 /* Opens a session on the lent storage, whose contents before do not matter, and makes all calls.
    Each slice is a pointer and a count of numbers; slices do not overlap, and no pointer is null,

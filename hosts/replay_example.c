@@ -36,7 +36,7 @@ int main(void) {
         waiting, REPLAY_WAITING(V), pool, W, answers, sizeof answers / sizeof *answers,
         calls, sizeof calls / sizeof *calls, P, V);
 
-    if (returned % 64 != 0) {
+    if (returned % ORDER_REPLY_RADIX != ORDER_ACCEPTED) {
         printf("refused=%" PRIu64 ": %s\n", returned, order_code_text(returned));
         return 1;
     }

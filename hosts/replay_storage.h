@@ -19,8 +19,8 @@
 #include "summary.h"
 
 /* The greatest parallelism and count of places that a session has. */
-#define REPLAY_MOST_PARALLELISM 64999
-#define REPLAY_MOST_PLACES 16777216
+#define REPLAY_MOST_PARALLELISM ORDER_MOST_PARALLELISM
+#define REPLAY_MOST_PLACES ORDER_MOST_PLACES
 
 /* The slices of a session, laid out in memory that the caller owns, and what became of the last run.
    Read them as you like; write none while the results of a run are wanted. */
@@ -147,8 +147,8 @@ static inline uint64_t replay_run(struct replay_storage *storage, const uint64_t
         storage->waiting, REPLAY_WAITING(storage->v), storage->pool, storage->pool_count,
         answers == NULL ? &nothing : answers, answers_count,
         calls == NULL ? &nothing : calls, calls_count, storage->p, storage->v);
-    if (returned % 64 == ORDER_ACCEPTED)
-        storage->entries = (size_t)(returned / 64);
+    if (returned % ORDER_REPLY_RADIX == ORDER_ACCEPTED)
+        storage->entries = (size_t)(returned / ORDER_REPLY_RADIX);
     return returned;
 }
 

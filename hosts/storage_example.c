@@ -68,7 +68,7 @@ int main(void) {
 
     uint64_t returned = replay_run(&storage, calls, sizeof calls / sizeof *calls,
                                    answers, sizeof answers / sizeof *answers);
-    if (returned % 64 != ORDER_ACCEPTED) {
+    if (returned % ORDER_REPLY_RADIX != ORDER_ACCEPTED) {
         free(memory);
         return refused("the list of calls", returned);
     }

@@ -7,24 +7,25 @@
 #include <stddef.h>
 #include <stdint.h>
 
+#include "limits.h"
 #include "refusals.h"
 
 #ifdef __cplusplus
 extern "C" {
 #endif
 
-/* The numbers of a summary, and where each part begins: the average's 32 bits (IEEE 754 binary32),
+/* Where each part of a summary begins, and how many numbers it has, 195: the average's 32 bits (IEEE 754 binary32),
    the median, the counts for the parallelisms 0 to 127, and the sums of the counts for 0 to 999,
    1,000 to 1,999 and so on. */
-#define SUMMARY_NUMBERS 195
 #define SUMMARY_AVERAGE 0
 #define SUMMARY_MEDIAN 1
 #define SUMMARY_COUNTS 2
-#define SUMMARY_THOUSANDS 130
+#define SUMMARY_THOUSANDS (SUMMARY_COUNTS + ORDER_LOW_COUNTS)
+#define SUMMARY_NUMBERS (SUMMARY_THOUSANDS + ORDER_SUMS_OF_THOUSANDS)
 
 /* The greatest tally: so many counts, and their sum. */
-#define SUMMARY_TALLY_MOST 65000
-#define SUMMARY_SUM_MOST 16777216
+#define SUMMARY_TALLY_MOST (ORDER_MOST_PARALLELISM + 1)
+#define SUMMARY_SUM_MOST ORDER_MOST_PLACES
 
 /* Fills the first 195 numbers of `summary` with the summary of `tally`, whose counts past its length
    are 0; what lies past them stays. Each slice is a pointer and a count of numbers; the slices do not

@@ -62,6 +62,7 @@ impl Lent {
 
 #[cfg(ours)]
 mod linked {
+    use super::layout::limits::REPLY_RADIX;
     use super::Lent;
 
     // A slice goes as a pointer and a length.
@@ -96,8 +97,8 @@ mod linked {
                 answers.1, calls.as_ptr(), calls.len(), parallelism as u64, places as u64,
             )
         };
-        // 64 times the order's length, or the number of a refusal.
-        assert!(number % 64 == 0, "replay refused the list with {number}");
+        // The order's length times a radix that is above every refusal's number, or such a number.
+        assert!(number % REPLY_RADIX == 0, "replay refused the list with {number}");
     }
 }
 

@@ -53,11 +53,12 @@ copy=$work/copy
 mkdir -p "$copy"/{crates/rules,docs,hosts/rust/src,hosts/python/witness_order,tools}
 fresh() {
   cp -r crates/rules/specs crates/rules/src "$copy/crates/rules/" && cp docs/JOB.md "$copy/docs/" && cp tools/refusals.py "$copy/tools/"
-  cp hosts/refusals.* "$copy/hosts/" && cp hosts/rust/src/refusal.rs "$copy/hosts/rust/src/"
-  cp hosts/python/witness_order/refusals.py "$copy/hosts/python/witness_order/"
+  cp hosts/refusals.* hosts/limits.h "$copy/hosts/" && cp hosts/rust/src/{refusal,limits}.rs "$copy/hosts/rust/src/"
+  cp hosts/python/witness_order/{refusals,limits}.py "$copy/hosts/python/witness_order/"
 }
-for list in hosts/refusals.h hosts/rust/src/refusal.rs hosts/python/witness_order/refusals.py docs/JOB.md; do
-  fresh && sed -i 's/already set, written or promised/already set or written/' "$copy/$list"
+for list in hosts/refusals.h hosts/limits.h hosts/rust/src/refusal.rs hosts/rust/src/limits.rs \
+  hosts/python/witness_order/refusals.py hosts/python/witness_order/limits.py docs/JOB.md; do
+  fresh && sed -i -e 's/already set, written or promised/already set or written/' -e 's/64_\?999$/64998/' -e 's/64_999;/64998;/' "$copy/$list"
   refuses 1 "$list is not what" "$copy/tools/refusals.py" --check
 done
 next=$(($(grep -o '^[0-9]*' hosts/refusals.txt | tail -n 1) + 1))
@@ -94,7 +95,7 @@ diff <(grep -v '^#' hosts/refusals.txt) <("$work/names") || fail "the refusals i
 diff <(grep -v '^#' hosts/refusals.txt) <(PYTHONDONTWRITEBYTECODE=1 PYTHONPATH=hosts/python python3 -c '
 from witness_order import Refusal
 for r in Refusal: print(f"{int(r)} | {r.name.lower()} | {r} | {r.advice}")') || fail "the refusals in Python"
-echo "hosts: names of refusals: one source, compared; eleven wrong copies are found"
+echo "hosts: names of refusals: one source, compared; fourteen wrong copies are found"
 
 # Headers, examples and replay_storage by every compiler, warnings being errors.
 compilers=()

@@ -3,6 +3,7 @@ import ctypes
 
 from . import layout
 from .libraries import as_arguments, function
+from .limits import REPLY_RADIX
 from .refusals import Refusal
 
 SET, ADD, FLUSH, FINAL = 1, 2, 3, 4
@@ -105,7 +106,7 @@ def replay(parallelism, places, calls, pool=None):
     answers = layout.array(ctypes.c_uint64, calls.count)
     encoded = (ctypes.c_uint64 * len(calls.encoded))(*calls.encoded)
     result = function("replay_calls")(*as_arguments(*storage.values(), answers, encoded), parallelism, places)
-    # An accepted list gives 64 times the order's length, a refused one its number, which is below 64.
-    if 0 < result < 64:
+    # An accepted list gives the order's length times the radix, a refused one its number, which is below that.
+    if 0 < result < REPLY_RADIX:
         raise Rejected(result)
-    return Replayed(storage, list(answers), result // 64)
+    return Replayed(storage, list(answers), result // REPLY_RADIX)

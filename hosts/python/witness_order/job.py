@@ -5,8 +5,9 @@ import ctypes
 from .calls import Rejected, numbers_of
 from .layout import array
 from .libraries import as_arguments, function
+from .limits import PROGRAM_LISTING_BYTES, REPLY_RADIX
 
-LISTING_BYTES = 65_536
+LISTING_BYTES = PROGRAM_LISTING_BYTES
 
 # An entry's line: its order index, and the line's other fields by their names.
 Listed = collections.namedtuple("Listed", "index added accepted parallelism written")
@@ -38,7 +39,7 @@ def run_job(job, room=LISTING_BYTES):
     text = (ctypes.c_uint8 * len(data)).from_buffer_copy(data) if data else (ctypes.c_uint8 * 0)()
     listing = array(ctypes.c_uint8, *numbers_of([room]))
     result = function("order_job")(*as_arguments(text, listing))
-    rest, number = divmod(result, 64)
+    rest, number = divmod(result, REPLY_RADIX)
     if number:
         raise Rejected(number, rest)
     return Listing(bytes(listing[:rest]).decode("ascii"))

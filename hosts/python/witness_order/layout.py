@@ -5,17 +5,17 @@ import collections
 import ctypes
 import struct
 
+from .limits import LOW_COUNTS, MOST_PARALLELISM, MOST_PLACES, SUMS_OF_THOUSANDS
+
 Entry = collections.namedtuple("Entry", "value added accepted parallelism")
 Row = collections.namedtuple("Row", "added accepted written index parallelism")
 Figures = collections.namedtuple("Figures", "average median counts thousands")
 
-MOST_PARALLELISM = 64_999
-MOST_PLACES = 16_777_216
 SPANS = 32
 ENTRY_NUMBERS = len(Entry._fields)
 ROW_NUMBERS = len(Row._fields)
 WAITING_PER_PLACE = 4
-COUNTS, THOUSANDS = 128, 65
+COUNTS, THOUSANDS = LOW_COUNTS, SUMS_OF_THOUSANDS
 SUMMARY_NUMBERS = 2 + COUNTS + THOUSANDS
 
 

@@ -4,7 +4,7 @@
 
 use std::fmt;
 
-use crate::layout::JOB_BYTES;
+use crate::layout::{limits::REPLY_RADIX, JOB_BYTES};
 use crate::refusal::Refusal;
 use crate::sys;
 
@@ -46,11 +46,11 @@ pub fn run(job: &[u8]) -> Result<String, Rejected> {
 /// lies behind it is untouched; a refused job leaves all of it untouched.
 pub fn run_into(job: &[u8], listing: &mut [u8]) -> Result<usize, Rejected> {
     let returned = sys::job(job, listing);
-    match returned % 64 {
-        0 => Ok((returned / 64) as usize),
+    match returned % REPLY_RADIX {
+        0 => Ok((returned / REPLY_RADIX) as usize),
         number => Err(Rejected {
             refusal: crate::refusal(number),
-            line: returned / 64,
+            line: returned / REPLY_RADIX,
         }),
     }
 }

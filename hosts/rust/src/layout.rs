@@ -1,6 +1,9 @@
 //! Host code, not proved: how the proved calls lay numbers out in slices. Every length and offset that
 //! this crate uses stands here; docs/REPLAY.md and docs/GUIDE.md describe the same.
 
+#[path = "limits.rs"]
+pub mod limits;
+
 /// Spans in the guide's window.
 pub const SPANS: usize = 32;
 /// Numbers of an entry: value, added, accepted, parallelism.
@@ -18,21 +21,21 @@ pub const REQUEST: usize = 6;
 pub const ANSWER: usize = 5 + SPANS;
 
 /// Counts of a summary, from the parallelism 0 on.
-pub const LOW_COUNTS: usize = 128;
+pub const LOW_COUNTS: usize = limits::LOW_COUNTS as usize;
 /// Sums of a thousand counts each.
-pub const THOUSANDS: usize = 65;
+pub const THOUSANDS: usize = limits::SUMS_OF_THOUSANDS as usize;
 /// Numbers of a summary: the average's bits, the median, the counts, the sums.
 pub const SUMMARY: usize = 2 + LOW_COUNTS + THOUSANDS;
 
 /// The mark of a place that is not tracked.
 pub const UNTRACKED: u16 = 0;
 /// The mark of a place that a registration wrote.
-pub const WRITTEN: u16 = 32_768;
+pub const WRITTEN: u16 = limits::MARK_WRITTEN as u16;
 /// The mark of a place that is set.
-pub const SET: u16 = 49_152;
+pub const SET: u16 = limits::MARK_SET as u16;
 
 /// The greatest job and listing of `order_job`, in bytes.
-pub const JOB_BYTES: usize = 65_536;
+pub const JOB_BYTES: usize = limits::MOST_JOB_BYTES as usize;
 
 /// What starts a call in an encoded list.
 pub const TAG_SET: u64 = 1;

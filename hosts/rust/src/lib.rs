@@ -81,7 +81,7 @@ pub mod summary;
 mod sys;
 
 pub use calls::{Call, Calls};
-pub use layout::{Entry, Location, Row};
+pub use layout::{limits, Entry, Location, Row};
 pub use refusal::Refusal;
 pub use replay::{replay, Replayed, Storage, StorageError};
 pub use summary::Summary;

@@ -4,6 +4,7 @@ use std::alloc::{alloc_zeroed, Layout};
 use std::fmt;
 
 use crate::calls::{Call, Calls};
+use crate::layout::limits::REPLY_RADIX;
 use crate::layout::{Entry, Location, Needed, Row, ENTRY, ROW, ROW_WRITTEN, SET, UNTRACKED};
 use crate::refusal::Refusal;
 use crate::summary::Summary;
@@ -166,11 +167,11 @@ pub fn replay<'a>(storage: &'a mut Storage, calls: &'a Calls) -> Result<Replayed
     };
     let answers = &mut storage.answers[..calls.len()];
     let returned = sys::replay(slices, answers, calls.numbers(), p, v);
-    match returned % 64 {
+    match returned % REPLY_RADIX {
         0 => Ok(Replayed {
             storage,
             calls,
-            length: (returned / 64) as usize,
+            length: (returned / REPLY_RADIX) as usize,
         }),
         number => Err(crate::refusal(number)),
     }
