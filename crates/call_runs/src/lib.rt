@@ -1,7 +1,7 @@
 // The sets and adds of an encoded list, made one after another on a session, up to the first flush or final.
 ghost use Prim.Native.Nat.{_≤_};
 ghost use lib.ListN.{getD};
-ghost use Rattle.session.specs.Storage.{given, before, after};
+ghost use Rattle.session.specs.Storage.{given, across};
 ghost use Rattle.admitting.specs.Promise.{Asks};
 ghost use Rattle.call_runs.specs.Made.{Readable, AdmitsAt};
 ghost use Rattle.call_runs.specs.Continuing.{MayContinue, Continues};
@@ -38,7 +38,7 @@ fn admit_call(
 ) -> Admission
     requires { ⌜ Asks s (given spans order tally rows marks locations waiting pool) ⌝ }
     requires { ⌜ (Readable (now calls) at) × (getD (now calls) at 0 ≤ 2) ⌝ }
-    ensures { λ r. ⌜ AdmitsAt (now (calls .entry)) at (r .admitted) (r .next) s (before spans order tally rows marks locations waiting pool) (after spans order tally rows marks locations waiting pool) ⌝ }
+    ensures { λ r. ⌜ across spans order tally rows marks locations waiting pool (λ σ τ. AdmitsAt (now (calls .entry)) at (r .admitted) (r .next) s σ τ) ⌝ }
 {
     if calls[at] == encoding::SET {
         let x = calls[at + 1];
@@ -77,7 +77,8 @@ pub fn run_open(
     done: usize,
 ) -> Run
     requires { ⌜ MayContinue (now calls) s (given spans order tally rows marks locations waiting pool) (now answers) from done ⌝ }
-    ensures { λ r. ⌜ Continues (now (calls .entry)) s (before spans order tally rows marks locations waiting pool) (now (answers .entry)) from done (r .session) (after spans order tally rows marks locations waiting pool) (now (answers .exit)) (r .at) (r .made) ⌝ }
+    ensures { λ r. ⌜ across spans order tally rows marks locations waiting pool
+        (λ σ τ. Continues (now (calls .entry)) s σ (now (answers .entry)) from done (r .session) τ (now (answers .exit)) (r .at) (r .made)) ⌝ }
 {
     let mut z = s;
     let mut at = from;
