@@ -1,5 +1,5 @@
 #!/bin/bash
-# Builds target/bench/bench: the Rust with its registrar as published, the Rust with the ordered copy,
+# Host code, not proved: builds target/bench/bench, the Rust with its registrar as published, the Rust with the ordered copy,
 # and this repository's `replay` (once crates.txt lists it), in one program, all optimised. The Rust's
 # files are laid out by oracle/build.sh, with bench/driver/sorter.rs in the place of the oracle's runs.
 #

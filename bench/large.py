@@ -1,5 +1,5 @@
 #!/usr/bin/env python3
-"""Measures order-large beside the Rust and prints the table, as Markdown. bench/large.sh builds first.
+"""Host code, not proved: measures order-large beside the Rust and prints the table, as Markdown. bench/large.sh builds first.
 
     large.py REPETITIONS
 
@@ -52,7 +52,11 @@ def measure(name, size, repetitions):
 
 
 def main():
-    repetitions = int(sys.argv[1])
+    words = sys.argv[1:]
+    if len(words) != 1 or not (words[0].isascii() and words[0].isdigit() and 0 < int(words[0]) < 10_000):
+        print("large.py: REPETITIONS is a number from 1 to 9999", file=sys.stderr)
+        sys.exit(2)
+    repetitions = int(words[0])
     heads = "".join(f" {side}, s |" for side in SIDES) + "".join(f" {side}, MB |" for side in SIDES)
     print("| workload | places | job, MB | listing, MB |" + heads)
     print("|---|---:|---:|---:|" + "---:|" * (2 * len(SIDES)))

@@ -1,5 +1,5 @@
 #!/usr/bin/env python3
-"""Draws the benchmark's plots from what bench/run.sh measured: how the cost of a registration grows
+"""Host code, not proved: draws the benchmark's plots from what bench/run.sh measured: how the cost of a registration grows
 with V, and with the count of places waited on. Both axes are logarithmic.
 
     plot.py TIMES FOLDER        writes FOLDER/growth.svg and FOLDER/waiting.svg

@@ -1,5 +1,5 @@
 #!/usr/bin/env python3
-"""Prints the benchmark's tables, as Markdown, from what bench/run.sh measured.
+"""Host code, not proved: prints the benchmark's tables, as Markdown, from what bench/run.sh measured.
 
     report.py TIMES COUNTS
 """

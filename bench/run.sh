@@ -1,5 +1,5 @@
 #!/bin/bash
-# The benchmark in one command: builds, measures all sides on the same lists of calls, prints the
+# Host code, not proved: the benchmark in one command, which builds, measures all sides on the same lists of calls, prints the
 # tables and draws the plots. What is measured is kept as target/bench/times.tsv and counts.tsv.
 #
 #   bench/run.sh          a few minutes

@@ -4,6 +4,7 @@ import collections
 import pathlib
 import re
 import subprocess
+import sys
 
 ROOT = pathlib.Path(__file__).resolve().parent.parent
 TOKEN = re.compile(r'--[^\n]*|"(?:[^"\\]|\\.)*"|«[^»]*»|\.[^\s(){}.;,@"«»]+|[^\s(){}.;,@"«»]+|[(){}.;,@]')
@@ -50,6 +51,16 @@ def declarations_of(text):
         elif found and words and words[0] == found[-1].name:
             found[-1].clauses.append((start, end))
     return found
+
+
+def crates_named(command, words):
+    """The crates that a command's words name; with none, or where a word is no crate, the command ends."""
+    known = {path.name for path in (ROOT / "crates").iterdir()}
+    wrong = [f"unknown option {word}" if word.startswith("-") else f"there is no crate {word}" for word in words if word not in known]
+    if wrong or not words:
+        print(f"{command}: {wrong[0] if wrong else 'a crate is needed'} (see --help)", file=sys.stderr)
+        sys.exit(2)
+    return words
 
 
 def files_of(crate="*"):

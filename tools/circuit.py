@@ -1,5 +1,5 @@
 #!/usr/bin/env python3
-"""Writes the job of a made-up circuit, for examples and trials. (Host code: not proved.)
+"""Host code, not proved: writes the job of a made-up circuit, for examples and trials.
 
     circuit.py poseidon N      N permutations of sponges like Poseidon's, 16 sponges taking turns: a state of
                                12, 8 full rounds and 22 partial ones; each takes in 8 places that are set
@@ -9,112 +9,112 @@
 
     --parallelism P            P of the job, 8 unless given
 
-The same words always give the same job. The exit status is 2 where a word is wrong or the job cannot be
-written.
+The same words always give the same job. The exit status is 2 where a word is wrong, the circuit would have more
+than 16,777,216 places, or the job cannot be written.
 """
 import argparse
+import itertools
 import os
 import sys
 
-STATE, RATE, SPONGES = 12, 8, 16
-FULL = [*range(4), *range(26, 30)]
+MOST_PLACES = 16_777_216  # no job has more
+STATE, RATE, SPONGES, ROUNDS = 12, 8, 16, 30
+FULL = {*range(4), *range(26, 30)}
 
 
-class Job:
-    """The lines of a job after its head, and how many places they name."""
-
-    def __init__(self):
-        self.lines = []
-        self.places = 0
-
-    def fresh(self):
-        self.places += 1
-        return self.places - 1
-
-    def set(self, place):
-        self.lines.append(f"set={place}")
-
-    def add(self, inputs, outputs):
-        self.lines.append("in=" + ",".join(map(str, inputs)))
-        self.lines.append("out=" + ",".join(map(str, outputs)))
-
-    def text(self, parallelism):
-        return "\n".join([f"parallelism={parallelism}", f"places={self.places}", *self.lines, "final=1", ""])
+def add(inputs, outputs):
+    return f"in={','.join(map(str, inputs))}\nout={','.join(map(str, outputs))}\n"
 
 
-def permutation(job, state):
+def powers(number):
+    """How many of the state a round raises to a power."""
+    return STATE if number in FULL else 1
+
+
+def permutation(fresh, state):
     """One permutation: every round raises some of the state to a power, then mixes all of it."""
-    for number in range(30):
-        for i in range(STATE if number in FULL else 1):
-            powered = job.fresh()
-            job.add([state[i]], [powered])
+    for number in range(ROUNDS):
+        for i in range(powers(number)):
+            powered = next(fresh)
+            yield add([state[i]], [powered])
             state[i] = powered
-        mixed = [job.fresh() for _ in state]
-        job.add(state, mixed)
+        mixed = [next(fresh) for _ in state]
+        yield add(state, mixed)
         state[:] = mixed
 
 
 def poseidon(count):
-    job = Job()
-    sponges = {}
+    fresh, sponges = itertools.count(), {}
     for number in range(count):
         state = sponges.setdefault(number % SPONGES, [None] * STATE)
         for i in range(STATE):
             if i < RATE or state[i] is None:
-                state[i] = job.fresh()
-                job.set(state[i])
-        permutation(job, state)
-    return job
+                state[i] = next(fresh)
+                yield f"set={state[i]}\n"
+        yield from permutation(fresh, state)
+
+
+def poseidon_places(count):
+    """Those that are set, all of the state for a sponge's first permutation, and those that the rounds write."""
+    written = sum(powers(number) + STATE for number in range(ROUNDS))
+    return count * (RATE + written) + min(count, SPONGES) * (STATE - RATE)
 
 
 def chain(count):
-    job = Job()
-    for number in range(count):
-        job.add([number - 1] if number else [], [job.fresh()])
-    return job
+    for place in range(count):
+        yield add([place - 1] if place else [], [place])
 
 
 def wide(count):
-    job = Job()
-    for _ in range(count):
-        job.add([], [job.fresh()])
-    return job
+    for place in range(count):
+        yield add([], [place])
 
 
 def backwards(count):
-    job = Job()
-    job.places = count + 1
     for place in range(count, 0, -1):
-        job.add([place - 1], [place])
-    job.set(0)
-    return job
+        yield add([place - 1], [place])
+    yield "set=0\n"
 
 
-KINDS = {"poseidon": poseidon, "chain": chain, "wide": wide, "backwards": backwards}
+# Of each kind its calls, and how many places they name, which the job's head says before them.
+KINDS = {
+    "poseidon": (poseidon, poseidon_places),
+    "chain": (chain, lambda count: count),
+    "wide": (wide, lambda count: count),
+    "backwards": (backwards, lambda count: count + 1),
+}
 
 
 def positive(word):
-    if not (word.isascii() and word.isdigit()) or int(word) == 0:
-        raise argparse.ArgumentTypeError("a number from 1 on")
+    if not (word.isascii() and word.isdigit() and len(word) <= 20) or int(word) == 0:
+        raise argparse.ArgumentTypeError("a number from 1 on, of at most 20 digits")
     return int(word)
 
 
 def main():
-    parser = argparse.ArgumentParser(prog="circuit.py", description=__doc__, formatter_class=argparse.RawDescriptionHelpFormatter)
+    name = os.path.basename(sys.argv[0])  # as it was called: an installation has it as order-circuit
+    parser = argparse.ArgumentParser(prog=name, description=__doc__.replace("circuit.py", name),
+                                     formatter_class=argparse.RawDescriptionHelpFormatter)
     parser.add_argument("kind", choices=KINDS)
     parser.add_argument("count", type=positive, metavar="N")
     parser.add_argument("--parallelism", type=positive, default=8, metavar="P")
     options = parser.parse_args()
+    calls, places_of = KINDS[options.kind]
+    places = places_of(options.count)
+    if places > MOST_PLACES:
+        return f"{name}: {options.kind} {options.count} has {places:,} places, and a job has at most {MOST_PLACES:,}"
     if sys.stdout is None:
-        return "circuit.py: standard output is closed"
+        return f"{name}: standard output is closed"
     try:
-        sys.stdout.write(KINDS[options.kind](options.count).text(options.parallelism))
+        sys.stdout.write(f"parallelism={options.parallelism}\nplaces={places}\n")
+        sys.stdout.writelines(calls(options.count))
+        sys.stdout.write("final=1\n")
         sys.stdout.flush()
     except OSError as error:
         # Python would try again at its end.
         os.dup2(os.open(os.devnull, os.O_WRONLY), sys.stdout.fileno())
         if not isinstance(error, BrokenPipeError):
-            return f"circuit.py: the job cannot be written: {error}"
+            return f"{name}: the job cannot be written: {error}"
     return None
 
 

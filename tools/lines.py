@@ -11,7 +11,7 @@ between its arguments. `rt fmt` indents what comes of it; that goes on until no 
 
 import sys
 
-from antt import CLOSE, OPEN, ROOT, depths, files_of, is_projection, tokens_of, write
+from antt import CLOSE, OPEN, ROOT, crates_named, depths, files_of, is_projection, tokens_of, write
 
 WIDE = 200                  # no line is longer
 FULL = 140                  # a line that is broken is filled up to here
@@ -187,11 +187,12 @@ def check():
 
 
 def main(arguments):
+    if "--help" in arguments:
+        return print(__doc__.strip())
     if arguments == ["--check"]:
         return check()
-    if not arguments or any(word.startswith("-") for word in arguments):
-        sys.exit(__doc__)
-    for path in (path for crate in arguments if crate not in GENERATED for path in files_of(crate)):
+    crates = crates_named("tools/lines.py", arguments)
+    for path in (path for crate in crates if crate not in GENERATED for path in files_of(crate)):
         for _ in range(ROUNDS):
             text = path.read_text(encoding="utf-8")
             new = broken(text)
@@ -202,7 +203,7 @@ def main(arguments):
                 break
         for at, length in too_long(path):
             print(f"{path.relative_to(ROOT)}:{at}: {length} characters: no place to break it was found")
-    for path in (path for crate in arguments for path in code_of(crate)):
+    for path in (path for crate in crates for path in code_of(crate)):
         for at, length in too_long(path):
             print(f"{path.relative_to(ROOT)}:{at}: {length} characters: lines of code are broken by hand")
 

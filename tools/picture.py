@@ -1,5 +1,5 @@
 #!/usr/bin/env python3
-"""Draws an order and its widths from a listing on standard input. (Host code: not proved.)
+"""Host code, not proved: draws an order and its widths from a listing on standard input.
 
     order <JOB | picture.py                 the entries as text, a bar for each
     order <JOB | picture.py --svg [JOB]     the same as SVG; with the job, what each entry reads
@@ -251,7 +251,9 @@ def write(drawn):
 
 
 def main():
-    parser = argparse.ArgumentParser(prog="picture.py", description=__doc__, formatter_class=argparse.RawDescriptionHelpFormatter)
+    name = os.path.basename(sys.argv[0])  # as it was called: an installation has it as order-picture
+    parser = argparse.ArgumentParser(prog=name, description=__doc__.replace("picture.py", name),
+                                     formatter_class=argparse.RawDescriptionHelpFormatter)
     parser.add_argument("--svg", action="store_true", help="draw SVG in place of text")
     parser.add_argument("--histogram", action="store_true", help="draw how many entries have each width")
     parser.add_argument("--entries", type=part, metavar="A-B", help="only the entries A to B, by order index")
@@ -268,10 +270,10 @@ def main():
             raise Unreadable(f"standard {'input' if sys.stdin is None else 'output'} is closed")
         return write(drawing(listing_of(sys.stdin.read()), options, job))
     except Refused as refused:
-        print(f"picture.py: {refused}", file=sys.stderr)
+        print(f"{name}: {refused}", file=sys.stderr)
         return 1
     except (Unreadable, OSError, UnicodeDecodeError) as error:
-        print(f"picture.py: {error}", file=sys.stderr)
+        print(f"{name}: {error}", file=sys.stderr)
         return 2
 
 

@@ -23,7 +23,7 @@ import re
 import subprocess
 import sys
 
-from antt import CLOSE, OPEN, ROOT, declarations_of, files_of, is_projection, tokens_of, write
+from antt import CLOSE, OPEN, ROOT, crates_named, declarations_of, files_of, is_projection, tokens_of, write
 
 MOST = 5        # no chain is longer
 KEPT = 2        # a chain that is no longer stays as it is
@@ -566,12 +566,12 @@ def rewrite(crate, abbrev):
 
 
 def main(arguments):
+    if "--help" in arguments:
+        return print(__doc__.strip())
     if arguments == ["--check"]:
         return check()
-    words = {word for word in arguments if word.startswith("-")}
-    crates = [word for word in arguments if word not in words]
-    if not crates or words - {"--kept", "--abbrev"}:
-        sys.exit(__doc__)
+    words = {"--kept", "--abbrev"}.intersection(arguments)
+    crates = crates_named("tools/places.py", [word for word in arguments if word not in words])
     for crate in crates if "--kept" not in words else []:      # before any is rewritten: what it uses is proved then
         if subprocess.run(["rt", "goals", crate], cwd=ROOT, stdout=subprocess.DEVNULL).returncode:
             sys.exit(f"places: rt goals {crate} failed")

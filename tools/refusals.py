@@ -1,15 +1,16 @@
 #!/usr/bin/env python3
-"""Host code, not proved: the lists of refusals, written from one source.
+"""Host code, not proved: the lists of refusals and of limits, each written from one source.
 
-    tools/refusals.py           writes the lists again from hosts/refusals.txt
-    tools/refusals.py --check   compares them with the source; the source's names and numbers with those of
+    tools/refusals.py           writes the lists again from hosts/refusals.txt and crates/rules/specs/Limits.antt
+    tools/refusals.py --check   compares them with the sources; the names and numbers of refusals with those of
                                 crates/rules, for definitions (specs/Refusals.antt) and for code
-                                (src/lib.rt); and the limits of specs/Limits.antt with those for code. On a
+                                (src/lib.rt); and the limits with those for code. On a
                                 difference it says what differs, and the status is 1
 
 The lists: the enum in C with order_code_text (hosts/refusals.h), the enum in Rust
 (hosts/rust/src/refusal.rs), the one in Python (hosts/python/witness_order/refusals.py) and the table of docs/JOB.md,
-between two lines that say so. One more refusal is one more line of the source."""
+between two lines that say so; and the limits in C (hosts/limits.h), Rust (hosts/rust/src/limits.rs) and Python
+(hosts/python/witness_order/limits.py). One more refusal is one more line of its source, one more limit a definition."""
 
 import difflib
 import pathlib
@@ -25,6 +26,7 @@ DOCUMENT = "docs/JOB.md"
 BEGIN = "<!-- the refusals, written by tools/refusals.py -->\n"
 END = "<!-- end of the refusals -->\n"
 NOTICE = "Host code, not proved. Written by tools/refusals.py from hosts/refusals.txt"
+LIMITS_NOTICE = "Host code, not proved. Written by tools/refusals.py from crates/rules/specs/Limits.antt"
 
 
 class Wrong(Exception):
@@ -222,8 +224,46 @@ def in_document(rows):
     return text[: text.index(BEGIN)] + BEGIN + "\n" + table + "\n" + text[text.index(END) :]
 
 
+def limits_in_c(limits):
+    def literal(number):
+        return str(number) if number < 1 << 31 else f"UINT64_C({number})"
+
+    macros = "".join(f"#define ORDER_{name.upper()} {literal(number)}\n" for name, number in limits.items())
+    return f"""/* {LIMITS_NOTICE}.
+   The limits of the specification under the names that the definitions have; what each is stands there. */
+#ifndef ORDER_LIMITS_H
+#define ORDER_LIMITS_H
+
+#include <stdint.h>
+
+{macros}
+#endif
+"""
+
+
+def limits_in_rust(limits):
+    constants = "".join(f"pub const {name.upper()}: u64 = {number:_};\n" for name, number in limits.items())
+    return f"""//! {LIMITS_NOTICE}.
+//! The limits of the specification under the names that the definitions have; what each is stands there.
+
+{constants}"""
+
+
+def limits_in_python(limits):
+    constants = "".join(f"{name.upper()} = {number:_}\n" for name, number in limits.items())
+    return f'''"""{LIMITS_NOTICE}.
+
+The limits of the specification under the names that the definitions have; what each is stands there."""
+
+{constants}'''
+
+
 def lists(rows):
+    limits = defined(LIMITS)
     return {
+        "hosts/limits.h": limits_in_c(limits),
+        "hosts/rust/src/limits.rs": limits_in_rust(limits),
+        "hosts/python/witness_order/limits.py": limits_in_python(limits),
         "hosts/refusals.h": in_c(rows),
         "hosts/rust/src/refusal.rs": in_rust(rows),
         "hosts/python/witness_order/refusals.py": in_python(rows),
@@ -232,8 +272,8 @@ def lists(rows):
 
 
 def value(text, place):
-    """A number as it is written: decimal digits, or a power of two numbers."""
-    match = re.fullmatch(r"([0-9_]+)(?: \^ ([0-9]+))?", text)
+    """A number as it is written: decimal digits, or a power of two numbers; a float has .0 behind it."""
+    match = re.fullmatch(r"([0-9_]+)(?: \^ ([0-9]+)|\.0)?", text)
     if not match:
         raise Wrong(f"{place}: {text} is neither a number nor a power")
     return int(match[1]) ** int(match[2] or 1)
@@ -277,7 +317,7 @@ def given():
 
 def difference(name, kept, written):
     """The lines in which a kept list is not what the source gives, a few of them."""
-    lines = list(difflib.unified_diff(kept.splitlines(), written.splitlines(), name, f"from {SOURCE}", n=0, lineterm=""))
+    lines = list(difflib.unified_diff(kept.splitlines(), written.splitlines(), name, "from its source", n=0, lineterm=""))
     return "\n".join(lines[:20] + (["..."] if len(lines) > 20 else []))
 
 
@@ -287,7 +327,7 @@ def check(rows):
     for name, text in lists(rows).items():
         kept = read(name)
         if kept != text:
-            wrong.append(f"{name} is not what {SOURCE} gives: run tools/refusals.py\n{difference(name, kept, text)}")
+            wrong.append(f"{name} is not what its source gives: run tools/refusals.py\n{difference(name, kept, text)}")
     source = {name: number for number, name, _, _ in rows}
     numbers, limits, code = defined(DEFINED), defined(LIMITS), constants()
     wrong += unlike(SOURCE, source, DEFINED, numbers)

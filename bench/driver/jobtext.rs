@@ -1,4 +1,4 @@
-//! Prints a workload of the benchmark as a job's text, for order-large.
+//! Host code, not proved: prints a workload of the benchmark as a job's text, for order-large.
 //!
 //!   jobtext NAME P SIZE WAITING
 

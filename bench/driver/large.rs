@@ -1,5 +1,5 @@
-//! The Rust behind order-large's own reading and printing: a job from a file, its listing on standard
-//! output.
+//! Host code, not proved: the Rust behind order-large's own reading and printing, a job from a file,
+//! its listing on standard output.
 //!
 //!   large SIDE FILE    SIDE is published or ordered
 

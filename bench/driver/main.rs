@@ -1,5 +1,5 @@
-//! The benchmark's program. `bench time` runs workloads on every side and prints a line of figures for
-//! each; `bench once` makes one run under a name that an instruction counter can look for.
+//! Host code, not proved: the benchmark's program. `bench time` runs workloads on every side and
+//! prints a line of figures for each; `bench once` makes one run under a name that an instruction counter can look for.
 //!
 //!   bench sides                                      the sides that are linked in
 //!   bench storage                                    bytes that `replay` is lent for each place
@@ -208,7 +208,7 @@ fn main() {
     match words[..] {
         ["sides"] if ours::LINKED => println!("published,ordered,ours"),
         ["sides"] => println!("published,ordered"),
-        ["storage"] => println!("{}", Lent::PER_PLACE),
+        ["storage"] => println!("{}", Lent::per_place()),
         ["time", repetitions, sides, name, parallelism, size, waiting] => {
             let (made, parallelism) = asked(name, parallelism, size, waiting);
             let sides: Vec<&str> = sides.split(',').collect();

@@ -1,7 +1,13 @@
-//! This repository's `replay` as a side of the benchmark. It is linked in by `--cfg ours`, which
-//! bench/build.sh gives once crates.txt lists the crate `replay`.
+//! Host code, not proved: this repository's `replay` as a side of the benchmark. It is linked in by
+//! `--cfg ours`, which bench/build.sh gives once crates.txt lists the crate `replay`.
 
 use crate::workloads::Workload;
+
+#[path = "../../hosts/rust/src/layout.rs"]
+#[allow(dead_code)]
+mod layout;
+
+use layout::{Entry, Needed, ENTRY};
 
 /// The storage that a session is lent, cleared.
 #[cfg_attr(not(ours), allow(dead_code))]
@@ -28,26 +34,29 @@ fn cleared<T: Clone>(zero: T, count: usize) -> Vec<T> {
 
 impl Lent {
     pub fn new(parallelism: u32, workload: &Workload) -> Self {
-        let (p, v) = (parallelism as usize, workload.capacity());
+        let needed = Needed::new(parallelism as usize, workload.capacity());
         Self {
-            spans: cleared(0, 4 * 32 * (p + 1)),
-            order: cleared(0, 4 * v),
-            tally: cleared(0, p + 1),
-            rows: cleared(0, 5 * v),
-            marks: cleared(0, v),
-            locations: cleared(0, v),
-            waiting: cleared(0, 4 * v),
+            spans: cleared(0, needed.spans),
+            order: cleared(0, needed.order),
+            tally: cleared(0, needed.tally),
+            rows: cleared(0, needed.rows),
+            marks: cleared(0, needed.marks),
+            locations: cleared(0, needed.locations),
+            waiting: cleared(0, needed.waiting),
             pool: cleared(0, workload.pooled),
             answers: cleared(0, workload.calls.len()),
         }
     }
 
     /// Bytes lent for each place: all but the spans, the tally, the pool and the answers.
-    pub const PER_PLACE: usize = 4 * 4 + 5 * 4 + 2 + 8 + 4 * 8;
+    pub fn per_place() -> u64 {
+        Needed::new(1, 2).bytes() - Needed::new(1, 1).bytes()
+    }
 
     /// Each entry's added, accepted and parallelism, in the order.
     pub fn order(&self, length: usize) -> impl Iterator<Item = (u32, u32, u32)> + '_ {
-        self.order[..4 * length].chunks_exact(4).map(|entry| (entry[1], entry[2], entry[3]))
+        let entries = self.order[..ENTRY * length].chunks_exact(ENTRY).map(Entry::from_numbers);
+        entries.map(|entry| (entry.added, entry.accepted, entry.parallelism))
     }
 }
 

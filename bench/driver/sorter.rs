@@ -1,5 +1,5 @@
-//! The Rust's recording sorter as a side of the benchmark. Lists of places are made before the clock
-//! starts, so that what is measured is the sorter's own work.
+//! Host code, not proved: the Rust's recording sorter as a side of the benchmark. Lists of places are
+//! made before the clock starts, so that what is measured is the sorter's own work.
 
 use std::cell::Cell;
 use std::sync::atomic::{AtomicBool, AtomicIsize};

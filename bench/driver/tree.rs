@@ -1,4 +1,5 @@
-//! The root of a library made of the Rust's own files (oracle/build.sh lays them out) and `sorter`.
+//! Host code, not proved: the root of a library made of the Rust's own files (oracle/build.sh lays them
+//! out) and `sorter`.
 
 #![feature(trait_alias, ptr_metadata, vec_push_within_capacity)]
 

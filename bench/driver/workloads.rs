@@ -1,5 +1,5 @@
-//! The workloads: lists of calls, encoded as docs/REPLAY.md says, made by a fixed generator. The same
-//! name and sizes always give the same list. bench/README.md says what each one is like.
+//! Host code, not proved: the workloads, lists of calls that are encoded as docs/REPLAY.md says, made by
+//! a fixed generator. The same name and sizes always give the same list. bench/README.md says what each one is like.
 
 /// A list of calls with what has to be known to open a session for it.
 pub struct Workload {

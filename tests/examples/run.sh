@@ -38,6 +38,29 @@ for words in 'poseidon' 'poseidon 0' 'tower 3' 'chain 4 --parallelism x' 'chain 
 done
 tools/circuit.py wide 100000 2>&1 | head -n 1 | grep -qx 'parallelism=8' || { echo "tests/examples: circuit.py minds a closed pipe" >&2; exit 1; }
 
+# The count of places in a job's head is that of the places it names, and the greatest is 16,777,216: one registration more, or
+# one permutation, and nothing is written. A circuit that is made whole before it is written would not fit the memory.
+for words in 'poseidon 1' 'poseidon 16' 'poseidon 17' 'poseidon 40' 'chain 7' 'wide 7' 'backwards 7'; do
+  # shellcheck disable=SC2086
+  tools/circuit.py $words | awk -F= '$1 == "places" { told = $2 }
+    $1 == "set" { seen[$2] = 1 } $1 == "in" || $1 == "out" { for (i = split($2, place, ","); i; i--) seen[place[i]] = 1 }
+    END { for (name in seen) count++; exit !(count == told && (count - 1) in seen) }' ||
+    { echo "tests/examples: circuit.py $words names other places than it says" >&2; exit 1; }
+done
+while read -r kind most places; do
+  [ "$( (ulimit -v 400000; tools/circuit.py "$kind" "$most") | sed -n '2{p;q}')" = "places=$places" ] ||
+    { echo "tests/examples: circuit.py does not make $kind $most, of $places places" >&2; exit 1; }
+  status=0
+  (ulimit -v 400000; tools/circuit.py "$kind" $((most + 1))) >target/circuit.out 2>target/circuit.said || status=$?
+  [ $status = 2 ] && [ ! -s target/circuit.out ] && grep -q '^circuit.py: .* a job has at most 16,777,216$' target/circuit.said ||
+    { cat target/circuit.said >&2; echo "tests/examples: circuit.py $kind $((most + 1)) is not refused" >&2; exit 1; }
+done <<'END'
+poseidon 34520 16776784
+chain 16777216 16777216
+wide 16777216 16777216
+backwards 16777215 16777216
+END
+
 # A job that can't be written: a sentence and status 2.
 lost() { # SENTENCE REDIRECTION
   local status=0 said
@@ -46,4 +69,4 @@ lost() { # SENTENCE REDIRECTION
 }
 lost 'standard output is closed' '>&-'
 lost 'the job cannot be written: [Errno 28] No space left on device' '>/dev/full'
-echo "examples: $count jobs with their listings, $generated of them generated, $told answers told, 5 misuses refused, 2 lost jobs said"
+echo "examples: $count jobs with their listings, $generated of them generated, $told answers told, 5 misuses and 4 circuits that are too large refused, 2 lost jobs said"

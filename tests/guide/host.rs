@@ -9,6 +9,12 @@ use std::fmt::{Display, Write as _};
 use std::io::{BufWriter, Read, Write};
 use std::process::exit;
 
+#[path = "../../hosts/rust/src/layout.rs"]
+#[allow(dead_code)]
+mod layout;
+
+use layout::{Needed, ANSWER, ENTRY, REQUEST, SPANS};
+
 extern "C" {
     #[allow(clippy::too_many_arguments)]
     fn guide_replay(
@@ -27,9 +33,6 @@ extern "C" {
     ) -> u32;
 }
 
-/// Numbers of a request and of an answer.
-const REQUEST: usize = 6;
-const ANSWER: usize = 37;
 /// What storage holds before the opening, and how many numbers are lent beyond the needed ones.
 const OTHER: u32 = 0xA5A5_5A5A;
 const BEYOND: usize = 3;
@@ -111,8 +114,8 @@ struct Case {
 impl Case {
     /// Storage of exactly the needed lengths for one push.
     fn exact(p: u64, v: u64) -> Self {
-        let (width, places) = (p as usize + 1, v as usize);
-        Self { p, v, spans: 128 * width, order: 4 * places, tally: width, answers: ANSWER, requests: PUSH.to_vec() }
+        let Needed { spans, order, tally, .. } = Needed::new(p as usize, v as usize);
+        Self { p, v, spans, order, tally, answers: ANSWER, requests: PUSH.to_vec() }
     }
 
     fn must_give(&self, want: u32) {
@@ -262,7 +265,7 @@ fn request(words: &[&str]) -> Option<[u32; REQUEST]> {
 fn answer(run: &Run) -> String {
     let (p, v) = (run.p as usize, run.v as usize);
     let calls = run.requests.len() / REQUEST;
-    let (spans, order, tally) = (128 * (p + 1), 4 * v, p + 1);
+    let Needed { spans, order, tally, .. } = Needed::new(p, v);
     let mut storage = Storage::new(spans + BEYOND, order + BEYOND, tally + BEYOND, calls * ANSWER + BEYOND);
     let code = storage.replay(run.p, run.v, &run.requests);
     let mut text = String::new();
@@ -303,7 +306,7 @@ fn answer(run: &Run) -> String {
     let last: &[u32] = answers.last().copied().unwrap_or(&fresh);
     let written = last[3] as usize;
     if storage.spans[spans..].iter().any(|n| *n != OTHER)
-        || storage.order[4 * written..].iter().any(|n| *n != OTHER)
+        || storage.order[ENTRY * written..].iter().any(|n| *n != OTHER)
         || storage.tally[tally..].iter().any(|n| *n != OTHER)
         || storage.answers[calls * ANSWER..].iter().any(|n| *n != OTHER)
     {
@@ -311,14 +314,14 @@ fn answer(run: &Run) -> String {
     }
     say(&mut text, "refused", refused);
     say(&mut text, "locations", locations);
-    say(&mut text, "order", storage.order[..4 * written].chunks(4).map(tuple));
+    say(&mut text, "order", storage.order[..ENTRY * written].chunks(ENTRY).map(tuple));
     let counts = storage.tally[..tally].iter().enumerate();
     say(&mut text, "tally", counts.filter(|(_, n)| **n != 0).map(|(i, n)| format!("{i},{n}")));
     let _ = writeln!(text, "= window {}", window(last));
-    // A span's row is its number modulo 32.
-    let held = (0..32).flat_map(|i| {
-        let row = (last[4] as usize + i) % 32 * (p + 1);
-        storage.spans[4 * row..].chunks(4).take(last[5 + i] as usize).map(|entry| tuple(&entry[..3]))
+    // A span's row is its number modulo the count of spans.
+    let held = (0..SPANS).flat_map(|i| {
+        let row = (last[4] as usize + i) % SPANS * (p + 1);
+        storage.spans[ENTRY * row..].chunks(ENTRY).take(last[5 + i] as usize).map(|entry| tuple(&entry[..3]))
     });
     say(&mut text, "held", held);
     text.push_str("end\n");

@@ -176,19 +176,34 @@ done
 ! grep -q TEXTREL <<<"$(readelf -d "$prefix/lib/liborder.so")" || fail "liborder.so has text relocations"
 echo "hosts: liborder exports $exported"
 
+# No link of an installed document is dead, and what was plain words there is text.
+(cd "$prefix" && python3 "$OLDPWD/.ci/links.py") >"$work/links" || { cat "$work/links" >&2; fail "dead links in the installed documents"; }
+[ "$(find "$prefix/share" -name '*.md' | wc -l)" = 8 ] || fail "other documents are installed than the eight"
+echo "hosts: the installed documents: $(cat "$work/links")"
+
 # PREFIX that will not do: a sentence, a status, and nothing written.
 listed() { find "$work/bad" -printf '%p %s %l\n' | sort; }
+unchanged() { [ "$before" = "$(listed)" ] || { diff <(echo "$before") <(listed) >&2; fail "a refused installation has changed something"; }; }
 mkdir -p "$work/bad/lib/order" "$work/bad/taken/bin/order" && echo text >"$work/bad/file" && echo text >"$work/bad/lib/pkgconfig"
 before=$(listed)
 refuses 2 "one PREFIX is needed" tools/install
 refuses 2 "one PREFIX is needed" tools/install ""
 refuses 2 "one PREFIX is needed" tools/install "$work/bad" "$work/bad"
 refuses 2 "unknown option --force" tools/install --force
+refuses 2 "unknown option --force" tools/install "$work/bad" --force
+refuses 2 "one PREFIX is needed" tools/install --without-large
+# without cargo: all commands but that one, in a folder of their own
+mkdir "$work/commands"
+IFS=: read -ra path <<<"$PATH"
+for folder in "${path[@]}"; do cp -sn "$folder"/* "$work/commands/" 2>/dev/null || true; done
+rm "$work/commands/cargo"
+refuses 1 "cargo is missing, which builds order-large; --without-large" env PATH="$work/commands" tools/install "$work/bad"
 refuses 1 "file is there and is no folder" tools/install "$work/bad/file"
 refuses 1 "file is there and is no folder" tools/install "$work/bad/file/below"
 refuses 1 "pkgconfig is there and is no folder" tools/install "$work/bad"
 refuses 1 "bin/order is a folder" tools/install "$work/bad/taken"
 refuses 1 "cannot be made" tools/install /proc/order/prefix
+unchanged
 # a folder that may not be written; root may write all, and so goes as nobody
 mkdir "$work/bad/closed" && chmod 555 "$work/bad/closed"
 before=$(listed)
@@ -201,9 +216,29 @@ else
 fi
 # a file system that takes no more: files end at 8 KB
 refuses 1 "nothing is installed" bash -c "trap '' XFSZ; ulimit -f 8; tools/install '$work/bad/full/deep'"
-[ "$before" = "$(listed)" ] || fail "a refused installation has changed something"
+unchanged
+# a move that fails among the others, over an installation and into a folder with nothing: all is as it was before
+mkdir -p "$work/moves" "$work/bad/over/bin" "$work/bad/empty"
+echo old >"$work/bad/over/bin/order-job" && ln -s nowhere "$work/bad/over/bin/order-picture"
+cat >"$work/moves/mv" <<END
+#!/bin/bash
+echo >>"$work/moves/count"
+[ "\$(wc -l <"$work/moves/count")" != 12 ] || exit 1
+exec $(command -v mv) "\$@"
+END
+chmod +x "$work/moves/mv"
+before=$(listed)
+for folder in over empty new/deep; do
+  rm -f "$work/moves/count"
+  refuses 1 "cannot be put there; nothing is installed" env PATH="$work/moves:$PATH" tools/install "$work/bad/$folder"
+done
+[ "$(cat "$work/bad/over/bin/order-job")" = old ] || fail "a file that was written over is not put back"
+unchanged
 tests/prints.sh PREFIX tools/install --help || fail "tools/install --help"
-echo "hosts: eleven installations refused in words, nothing written"
+echo "hosts: seventeen installations refused in words, nothing written"
+PATH=$work/commands tools/install --without-large "$work/small" >"$work/install.log" || fail "tools/install --without-large"
+grep -qx '  without order-large' "$work/install.log" || fail "tools/install does not say that order-large is left out"
+diff <(cd "$prefix" && find . ! -path ./bin/order-large | sort) <(cd "$work/small" && find . | sort) || fail "--without-large leaves out more"
 
 # The command around the program, as installed.
 command=$prefix/bin/order-job
@@ -230,6 +265,12 @@ tests/prints.sh usage "$command" --help || fail "order-job --help"
 [ "$("$command" --version)" = "order-job $(cat VERSION)" ] || fail "order-job --version"
 [ "$(hosts/order-job --version)" = "order-job $(cat VERSION)" ] || fail "hosts/order-job --version"
 "$command" crates/order/stdin | "$prefix/bin/order-picture" >/dev/null || fail "order-picture"
+refuses 2 "order-picture: no listing on standard input" "$prefix/bin/order-picture"
+tests/prints.sh "| order-picture --svg [JOB]" "$prefix/bin/order-picture" --help || fail "order-picture --help"
+diff examples/wide.job <("$prefix/bin/order-circuit" wide 60 --parallelism 16) || fail "order-circuit"
+refuses 2 "order-circuit: wide 16777217 has" "$prefix/bin/order-circuit" wide 16777217
+diff -r examples "$prefix/share/order/examples" >"$work/examples" || true
+! grep -v '^Only in .*_example\.c$\|^diff .*README\.md\|^[<>0-9-]' "$work/examples" || fail "the installed examples are others"
 diff crates/order/stdout <("$prefix/bin/order-large" crates/order/stdin) || fail "order-large as installed"
 [ "$("$prefix/bin/order-large" --version)" = "order-large $(cat VERSION)" ] || fail "order-large --version"
 # The module for Python, as installed: J1 by the installed library.

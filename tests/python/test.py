@@ -1,4 +1,4 @@
-"""The Python module against the proved libraries: J1, lists of calls beside jobs, refusals, bad arguments."""
+"""Host code, not proved: the Python module against the proved libraries: J1, lists of calls beside jobs, refusals, bad arguments."""
 import os
 import random
 import shutil

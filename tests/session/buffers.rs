@@ -2,7 +2,7 @@
 //! session needs, and is full of a pattern before a replay, so that every number that must not be
 //! written can be looked at afterwards.
 
-use crate::layout::Needed;
+use crate::layout::{Needed, ENTRY};
 use crate::sys::{self, Slices};
 use crate::Call;
 
@@ -234,7 +234,7 @@ impl Buffers {
     /// its entries, or in the pool beyond the list numbers of the accepted adds.
     pub fn check_frame(&self, entries: usize, list_numbers: usize) -> Result<(), String> {
         self.spans.check_untouched(self.spans.needed)?;
-        self.order.check_untouched(4 * entries)?;
+        self.order.check_untouched(ENTRY * entries)?;
         self.tally.check_untouched(self.tally.needed)?;
         self.rows.check_untouched(self.rows.needed)?;
         self.marks.check_untouched(self.marks.needed)?;

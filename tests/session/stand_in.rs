@@ -2,14 +2,16 @@
 //! instead of the proved one: so the tests can be tested. With the name of a fault in the environment
 //! variable STAND_IN_FAULT it does one thing wrong, which the tests must notice.
 
+#[path = "../../hosts/rust/src/layout.rs"]
+#[allow(dead_code)]
+mod layout;
 #[path = "../reference/model.rs"]
 #[allow(dead_code)]
 mod model;
 
+use layout::{Needed, ENTRY, ROW, SPANS};
 use model::{Lent, Session};
 use std::sync::OnceLock;
-
-const SPANS: usize = 32;
 
 enum Call<'a> {
     Set(u64),
@@ -107,9 +109,9 @@ fn replay(mut slices: Slices, calls: &[u64], p: u64, v: u64) -> u64 {
         return 15;
     };
     let lent = Lent {
-        spans: slices.spans.len() as u64 / 4,
-        order: slices.order.len() as u64 / 4,
-        rows: slices.rows.len() as u64 / 5,
+        spans: (slices.spans.len() / ENTRY) as u64,
+        order: (slices.order.len() / ENTRY) as u64,
+        rows: (slices.rows.len() / ROW) as u64,
         places: slices.marks.len().min(slices.locations.len()) as u64,
         waiting: slices.waiting.len() as u64,
         tally: slices.tally.len() as u64,
@@ -210,7 +212,7 @@ fn put(slices: &mut Slices, outcome: &Outcome) {
     for (number, count) in slices.tally.iter_mut().zip(&window.tally) {
         *number = *count as u32;
     }
-    slices.rows[..5 * v].fill(0);
+    slices.rows[..ROW * v].fill(0);
     for (i, r) in session.rows.iter().enumerate() {
         put_tuple(
             slices.rows,
@@ -260,22 +262,22 @@ fn put_chains(waiting: &mut [u64], session: &Session, v: usize) {
 /// Writes one number too many, or a wrong one, if such a fault is asked for.
 fn put_fault(slices: &mut Slices, outcome: &Outcome) {
     let Outcome { session, p, v, .. } = outcome;
-    let (p, v) = (*p, *v);
-    spoil("spans", slices.spans, 128 * (p + 1));
-    spoil("order", slices.order, 4 * session.window.order.len());
-    spoil("tally", slices.tally, p + 1);
-    spoil("rows", slices.rows, 5 * v);
-    spoil("marks", slices.marks, v);
-    spoil("locations", slices.locations, v);
-    spoil("waiting", slices.waiting, 4 * v);
+    let needed = Needed::new(*p, *v);
+    spoil("spans", slices.spans, needed.spans);
+    spoil("order", slices.order, ENTRY * session.window.order.len());
+    spoil("tally", slices.tally, needed.tally);
+    spoil("rows", slices.rows, needed.rows);
+    spoil("marks", slices.marks, needed.marks);
+    spoil("locations", slices.locations, needed.locations);
+    spoil("waiting", slices.waiting, needed.waiting);
     spoil("pool", slices.pool, outcome.list_numbers());
     spoil("answers", slices.answers, outcome.calls);
     if let (true, Some(place)) = (fault("refused-writes-mark"), outcome.refused_place) {
-        slices.marks[place] = 49_152;
+        slices.marks[place] = layout::SET;
     }
     // A slot past a span's length: only a comparison of all storage shows it.
     if fault("refused-writes-slot") && outcome.refused_last {
-        slices.spans[128 * (p + 1) - 1] = 0;
+        slices.spans[needed.spans - 1] = 0;
     }
 }
 

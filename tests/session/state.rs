@@ -7,19 +7,17 @@
 //! the spans it leaves free which row a span has, and the slots past its length.
 
 use crate::buffers::Buffers;
+use crate::layout::{self, SPANS};
 use crate::model;
 use crate::summary::{self, Numbers, COUNTS, THOUSANDS};
 use crate::Call;
 
-/// The spans of the window.
-const SPANS: usize = 32;
-
 /// What storage must say. Vectors of tuples have the numbers in the order of oracle/FORMAT.md.
 #[derive(Default)]
 pub struct State {
-    pub order: Vec<[u64; 4]>,
+    pub order: Vec<[u64; layout::ENTRY]>,
     /// One for each registration; all other rows are zeros.
-    pub rows: Vec<[u64; 5]>,
+    pub rows: Vec<[u64; layout::ROW]>,
     /// Place, mark, span, position of the places that are tracked, ascending.
     pub places: Vec<[u64; 4]>,
     /// The mark plus 1, or 0 where there is none.
@@ -111,7 +109,7 @@ impl State {
     }
 
     fn compare_order(&self, buffers: &Buffers) -> Result<(), String> {
-        let entries = buffers.order.needed().chunks_exact(4);
+        let entries = buffers.order.needed().chunks_exact(layout::ENTRY);
         for (i, (found, wanted)) in entries.zip(&self.order).enumerate() {
             same_tuple("order entry", i, found, wanted)?;
         }
@@ -119,11 +117,11 @@ impl State {
     }
 
     fn compare_rows(&self, buffers: &Buffers) -> Result<(), String> {
-        let wanted = self.rows.iter().copied().chain(std::iter::repeat([0; 5]));
+        let wanted = self.rows.iter().copied().chain(std::iter::repeat([0; layout::ROW]));
         for (i, (found, wanted)) in buffers
             .rows
             .needed()
-            .chunks_exact(5)
+            .chunks_exact(layout::ROW)
             .zip(wanted)
             .enumerate()
         {
@@ -183,7 +181,7 @@ impl State {
     /// Each span that holds entries has a row of its own that begins with them, their parallelism
     /// still 0.
     fn compare_spans(&self, buffers: &Buffers, p: u64) -> Result<(), String> {
-        let row_numbers = 4 * (p as usize + 1);
+        let row_numbers = layout::ENTRY * (p as usize + 1);
         let rows: Vec<&[u32]> = buffers.spans.needed().chunks_exact(row_numbers).collect();
         let mut taken = [false; SPANS];
         let mut entries = &self.held[..];
@@ -196,7 +194,7 @@ impl State {
             let (span, rest) = entries.split_at(length as usize);
             entries = rest;
             let begins = |row: &[u32]| {
-                row.chunks_exact(4).zip(span).all(|(found, entry)| {
+                row.chunks_exact(layout::ENTRY).zip(span).all(|(found, entry)| {
                     let numbers = entry.iter().copied().chain([0]);
                     found.iter().map(|number| u64::from(*number)).eq(numbers)
                 })
@@ -212,7 +210,7 @@ impl State {
     /// The chains of the places from the mark on: those who wait, the newest first.
     fn compare_waiting(&self, buffers: &Buffers) -> Result<(), String> {
         let waiting = buffers.waiting.needed();
-        let v = waiting.len() / 4;
+        let v = waiting.len() / layout::WAITING;
         let (heads, links) = (&waiting[..v], &waiting[v..2 * v]);
         let mut wanted = self.waiting.iter().peekable();
         for place in self.leading..v as u64 {
@@ -263,7 +261,7 @@ fn numbers_of(summary: &model::Summary) -> Numbers {
 /// and by the accepted sets. Gives the count of list numbers.
 fn compare_lists(buffers: &Buffers, calls: &[Call], codes: &[u64]) -> Result<usize, String> {
     let waiting = buffers.waiting.needed();
-    let v = waiting.len() / 4;
+    let v = waiting.len() / layout::WAITING;
     let (lists, flags) = (&waiting[2 * v..3 * v], &waiting[3 * v..]);
     let pool = buffers.pool.needed();
     let mut taken = vec![false; v];

@@ -186,11 +186,16 @@ says 1 'crates/base/specs/Base.antt:16: ' "$toy/tools/lines.py" --check
 "$toy/tools/lines.py" base
 "$toy/tools/lines.py" --check || fail "lines: one is still too long"
 [ "$(tail -n +16 "$toy/crates/base/specs/Base.antt" | tr -s ' \n' '  ')" = "wide n = n$long " ] || fail "a broken line says something else"
-says 1 'tools/lines.py CRATE' "$toy/tools/lines.py"
 echo "// $long" >>"$toy/crates/base/src/lib.rt"
 says 1 'crates/base/src/lib.rt:7: ' "$toy/tools/lines.py" --check
 says 0 'crates/base/src/lib.rt:7: ' "$toy/tools/lines.py" base
 says 1 'crates/mid/proofs/twice' "$toy/tools/places.py" --check
+for tool in lines places; do
+  says 2 "tools/$tool.py: a crate is needed" "$toy/tools/$tool.py"
+  says 2 "tools/$tool.py: there is no crate nosuch" "$toy/tools/$tool.py" mid nosuch
+  says 2 "tools/$tool.py: there is no crate ../crates" "$toy/tools/$tool.py" ../crates
+  says 2 "tools/$tool.py: unknown option --nothing" "$toy/tools/$tool.py" --nothing
+done
 
 # The walks: what is kept is compared; a walks.json that is none is said.
 fresh && cp -r crates/session_mut crates/flush_mut "$toy/crates/"
@@ -216,12 +221,40 @@ says 1 'guides.txt' "$toy/oracle/generate.py" --check
 touch "$toy/crates/vectors/specs/Runs9.antt"
 says 1 'Runs9.antt is there' "$toy/oracle/vectors.py" --check
 
-# Words.
+# Host code says that it is not proved, in its first line or after `#!`.
+fresh && git -C "$toy" init -q && git -C "$toy" add tools
+first_lines() { (cd "$toy" && python3 "$here/.ci/first_lines.py"); }
+says 0 ' files of host code, 0 do not say' first_lines
+sed -i '2s/Host code, not proved/Code/' "$toy/tools/rooms.py" && sed -i '1s/^/\n/' "$toy/tools/antt.py"
+says 1 'tools/antt.py: its first line does not say' first_lines
+says 1 'tools/rooms.py: its first line does not say' first_lines
+rm -rf "$toy/.git"
+
+# Words: every command of tools/ has its help on standard output, and an unknown option gets a sentence and nothing else. What
+# is no command there is data, or a module without the mode and the first line of one.
+commands=0
+for tool in tools/* oracle/vectors.py; do
+  [ -f "$tool" ] || continue
+  if [ ! -x "$tool" ]; then
+    [[ $tool == *.txt || $tool == *.py && $(head -c 2 "$tool") != '#!' ]] || fail "$tool is neither a command nor a module"
+    continue
+  fi
+  commands=$((commands + 1))
+  "$tool" --help >"$toy/help" 2>"$toy/said" </dev/null || fail "$tool --help: ended with $?"
+  [ ! -s "$toy/said" ] || fail "$tool --help: says something on standard error"
+  grep -qF "$(basename "$tool")" "$toy/help" || { cat "$toy/help" >&2; fail "$tool --help: does not name the command"; }
+  ! "$tool" --nothing >"$toy/help" 2>"$toy/said" </dev/null || fail "$tool --nothing: taken"
+  [ -s "$toy/said" ] && [ ! -s "$toy/help" ] || fail "$tool --nothing: no sentence, or not on standard error"
+done
 for tool in tools/{crates,rooms,unused,metrics,wrap,refusals}.py oracle/vectors.py; do
-  says 0 "$(basename $tool)" "$here/$tool" --help
   says 1 'usage' "$here/$tool" --nothing
 done
+says 2 'bench/large.sh: REPETITIONS is a number from 1 to 9999, not x' bench/large.sh x
+says 2 'bench/large.sh: REPETITIONS is a number from 1 to 9999, not 0' bench/large.sh 0
+says 2 'bench/large.sh: one number at most' bench/large.sh 3 3
+says 2 'large.py: REPETITIONS is a number from 1 to 9999' python3 bench/large.py x
+says 2 'large.py: REPETITIONS is a number from 1 to 9999' python3 bench/large.py
 for tool in tools/{crates,rooms,unused,metrics}.py; do
   says 1 'cannot be read' "$here/$tool" --root "$toy/nowhere"
 done
-echo "tools: crates, rooms, unused names, counts, walks and recorded runs: $findings answers as expected"
+echo "tools: crates, rooms, unused names, counts, walks and recorded runs: $findings answers as expected; $commands commands with their help"

@@ -3,9 +3,10 @@
 use mathlib.Core.Path.{_≡_, refl, sym, ap, _∙_, subst}
 use mathlib.Core.List.{List}
 use mathlib.Core.Bool.{Bool, true, false}
-use Prim.Native.Nat.{ℕ, _+_, _≤_, _<_}
+use Prim.Native.Nat.{ℕ, _+_, _*_, _^_, _≤_, _<_}
 use native.Mathlib.Omega.{arith}
 use lib.ListN.{length}
+use Rattle.rules.specs.Limits.{most-in-a-list}
 use Rattle.rules.specs.Guide.{Guide as GuideModel}
 use Rattle.rules.specs.Model.{Reg, Model, Recorded, greatest, with-add, do-add, note-add}
 use Rattle.rules.specs.Checks.{pooled, waiting-needed}
@@ -68,7 +69,7 @@ module _ (ins outs : List ℕ) (s : Session) (σ : Storage) where
         ended-le false = omega arith
 
     -- what the numbers of the session may become
-    pub add-counts : (s .added + 1 < 4294967296) × (s .delayed + 1 < 4294967296) × (s .used + (length ins + length outs) ≤ length (σ .pool)) × (length ins + length outs ≤ 131070)
+    pub add-counts : (s .added + 1 < 2 ^ 32) × (s .delayed + 1 < 2 ^ 32) × (s .used + (length ins + length outs) ≤ length (σ .pool)) × (length ins + length outs ≤ 2 * most-in-a-list)
     add-counts = (
       omega (arith, gone .more, a .rep .counted .added-is, a .rep .core .guided .v-is, a .rep .core .guided .stands .small),
       omega (arith, few),

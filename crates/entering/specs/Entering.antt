@@ -2,7 +2,7 @@
 -- Assumes nothing.
 use mathlib.Core.Path.{_≡_}
 use mathlib.Core.List.{List}
-use Prim.Native.Nat.{ℕ, _+_, _≤_, _<_}
+use Prim.Native.Nat.{ℕ, _+_, _^_, _≤_, _<_}
 use lib.ListN.{length, getD}
 use Rattle.rules.specs.Checks.{waiting-needed}
 use Rattle.pool.specs.Lists.{radix, most-pooled, with-cell, stored}
@@ -24,8 +24,8 @@ pub record Storing (w pool : List ℕ) (v r used : ℕ) (ins outs : List ℕ) : 
   pub small : used ≤ most-pooled
   pub few : length ins < radix
   pub room : used + length ins + length outs ≤ length pool
-  pub ins-fit : (j : ℕ) → j < length ins → getD ins j 0 < 4294967296
-  pub outs-fit : (j : ℕ) → j < length outs → getD outs j 0 < 4294967296
+  pub ins-fit : (j : ℕ) → j < length ins → getD ins j 0 < 2 ^ 32
+  pub outs-fit : (j : ℕ) → j < length outs → getD outs j 0 < 2 ^ 32
 
 -- and what it leaves
 pub record Stores (w pool : List ℕ) (v r used : ℕ) (ins outs w′ pool′ : List ℕ) : Type 0 where

@@ -9,7 +9,8 @@ use native.Mathlib.Decide.{ℕ-discrete, decLt, decLe}
 use lib.ListN.{length, take, drop, getD, set, replicate, length-append, length-take, length-drop, length-set}
 use lib.Seq.{take-suc, drop-cons, drop-append-le, take-append-le, take-all, getD-set-same, getD-set-other, getD-take, ext-getD, length-take-le}
 use borrow.Author.Tests.{le-leb, lt-leb}
-use Rattle.figures.specs.Small.{most-counts, low-count, thousand-count}
+use Rattle.figures.specs.Small.{most-counts}
+use Rattle.rules.specs.Limits.{low-counts, sums-of-thousands}
 use Rattle.rules.specs.Summary.{sum, median, median-from, counts, thousands}
 
 -- the sum
@@ -79,7 +80,7 @@ counts-at (suc n) at t (suc j) h = counts-at n (suc at) t j (omega arith) ∙ ap
 
 -- the low counts agree at every index with the first i counts of the tally
 abbrev pub Low : List ℕ → ℕ → List ℕ → Type 0
-Low t i low = (length low ≡ low-count) × ((j : ℕ) → getD low j 0 ≡ getD (take i t) j 0)
+Low t i low = (length low ≡ low-counts) × ((j : ℕ) → getD low j 0 ≡ getD (take i t) j 0)
 
 getD-nil : (j : ℕ) → getD {A = ℕ} [] j 0 ≡ 0
 getD-nil zero = refl
@@ -105,10 +106,10 @@ take-more t i j n =
           ∙ sym (beyond (take i t) j (omega (arith, length-take i t)))
     ]
 
-pub low-begins : (t : List ℕ) → Low t 0 (replicate low-count 0)
-low-begins t = (refl, λ j. zeros-at low-count j ∙ sym (getD-nil j))
+pub low-begins : (t : List ℕ) → Low t 0 (replicate low-counts 0)
+low-begins t = (refl, λ j. zeros-at low-counts j ∙ sym (getD-nil j))
 
-pub low-more : (t : List ℕ) (i : ℕ) (low : List ℕ) → i < low-count → Low t i low → Low t (i + 1) (set low i (getD t i 0))
+pub low-more : (t : List ℕ) (i : ℕ) (low : List ℕ) → i < low-counts → Low t i low → Low t (i + 1) (set low i (getD t i 0))
 low-more t i low h k = (length-set low i (getD t i 0) ∙ k .0, λ j. elim (ℕ-discrete j i) [ yes e ↦ same j e | no n ↦ getD-set-other low i j (getD t i 0) 0 n ∙ k .1 j ∙ sym (take-more t i j n) ])
   where
     same : (j : ℕ) → j ≡ i → getD (set low i (getD t i 0)) j 0 ≡ getD (take (i + 1) t) j 0
@@ -117,10 +118,10 @@ low-more t i low h k = (length-set low i (getD t i 0) ∙ k .0, λ j. elim (ℕ-
 pub low-past : (t : List ℕ) (i : ℕ) (low : List ℕ) → length t ≤ i → Low t i low → Low t (i + 1) low
 low-past t i low h k = (k .0, λ j. k .1 j ∙ ap (λ l. getD l j 0) (take-all i t h ∙ sym (take-all (i + 1) t (omega arith))))
 
-pub low-ends : (t : List ℕ) (i : ℕ) (low : List ℕ) → low-count ≤ i → Low t i low → low ≡ counts low-count 0 t
+pub low-ends : (t : List ℕ) (i : ℕ) (low : List ℕ) → low-counts ≤ i → Low t i low → low ≡ counts low-counts 0 t
 low-ends t i low h k =
-    ext-getD 0 low (counts low-count 0 t) (k .0 ∙ sym (counts-length low-count 0 t)) (λ j l.
-    k .1 j ∙ getD-take i t j 0 (omega (arith, k .0)) ∙ sym (counts-at low-count 0 t j (omega (arith, k .0)) ∙ ap (λ n. getD t n 0) (omega arith)))
+    ext-getD 0 low (counts low-counts 0 t) (k .0 ∙ sym (counts-length low-counts 0 t)) (λ j l.
+    k .1 j ∙ getD-take i t j 0 (omega (arith, k .0)) ∙ sym (counts-at low-counts 0 t j (omega (arith, k .0)) ∙ ap (λ n. getD t n 0) (omega arith)))
 
 -- the sums of thousands
 
@@ -130,7 +131,7 @@ thousand k t = sum (take 1000 (drop (1000 * k) t))
 
 -- the sums are those of the first i counts of the tally
 abbrev pub Thousands : List ℕ → ℕ → List ℕ → Type 0
-Thousands t i sums = (length sums ≡ thousand-count) × ((k : ℕ) → getD sums k 0 ≡ thousand k (take i t))
+Thousands t i sums = (length sums ≡ sums-of-thousands) × ((k : ℕ) → getD sums k 0 ≡ thousand k (take i t))
 
 pub thousands-length : (n at : ℕ) (t : List ℕ) → length (thousands n at t) ≡ n
 unfolding thousands
@@ -165,9 +166,9 @@ thousand-there s x k n = elim (decLe (1000 * k) (length s)) [ yes h ↦ full h |
     empty : length s < 1000 * k → thousand k (s ++ (x ∷ [])) ≡ thousand k s
     empty h = none (s ++ (x ∷ [])) (omega (arith, length-append s (x ∷ []))) ∙ sym (none s (omega arith))
 
-pub thousands-begin : (t : List ℕ) → Thousands t 0 (replicate thousand-count 0)
+pub thousands-begin : (t : List ℕ) → Thousands t 0 (replicate sums-of-thousands 0)
 unfolding sum
-thousands-begin t = (refl, λ k. zeros-at thousand-count k ∙ sym (let h = sum-take 1000 (drop (1000 * k) []) in let g = sum-drop (1000 * k) [] in omega arith))
+thousands-begin t = (refl, λ k. zeros-at sums-of-thousands k ∙ sym (let h = sum-take 1000 (drop (1000 * k) []) in let g = sum-drop (1000 * k) [] in omega arith))
 
 take-one : (t : List ℕ) (i : ℕ) → i < length t → take (i + 1) t ≡ take i t ++ (getD t i 0 ∷ [])
 take-one t i h = rw (add-one) (take-suc t i 0 h)
@@ -199,7 +200,7 @@ thousands-fit t i sums h small z =
     let d = sum-take (i + 1) t in
     omega arith
 
-pub thousands-end : (t : List ℕ) (i : ℕ) (sums : List ℕ) → length t ≤ i → Thousands t i sums → sums ≡ thousands thousand-count 0 t
+pub thousands-end : (t : List ℕ) (i : ℕ) (sums : List ℕ) → length t ≤ i → Thousands t i sums → sums ≡ thousands sums-of-thousands 0 t
 thousands-end t i sums h z =
-    ext-getD 0 sums (thousands thousand-count 0 t) (z .0 ∙ sym (thousands-length thousand-count 0 t)) (λ k l.
-    z .1 k ∙ ap (λ s. thousand k s) (take-all i t h) ∙ sym (let e : 0 + k ≡ k = omega arith in thousands-at thousand-count 0 t k (omega (arith, z .0)) ∙ ap (λ m. thousand m t) e))
+    ext-getD 0 sums (thousands sums-of-thousands 0 t) (z .0 ∙ sym (thousands-length sums-of-thousands 0 t)) (λ k l.
+    z .1 k ∙ ap (λ s. thousand k s) (take-all i t h) ∙ sym (let e : 0 + k ≡ k = omega arith in thousands-at sums-of-thousands 0 t k (omega (arith, z .0)) ∙ ap (λ m. thousand m t) e))

@@ -4,7 +4,7 @@ use mathlib.Core.Path.{_≡_, refl, sym, ap, _∙_, subst}
 use mathlib.Core.List.{List, [], _∷_}
 use mathlib.Core.Bool.{Bool}
 use mathlib.Core.Logic.{inl, inr}
-use Prim.Native.Nat.{ℕ, _+_, _-_, _≤_, _<_}
+use Prim.Native.Nat.{ℕ, _+_, _-_, _^_, _≤_, _<_}
 use native.Mathlib.Omega.{arith}
 use lib.ListN.{length, getD, set}
 use lib.Seq.{getD-set-same, getD-set-other}
@@ -112,7 +112,7 @@ module _ (g : Guide) (added : ℕ) (sp o t rs : List ℕ) where
         ),
       )
 
-    pub asks-fill : MayRelease g added sp o t rs → (fits o′ (n + new) × (n + new < 4294967296)) × Fillable o′ n new rs
+    pub asks-fill : MayRelease g added sp o t rs → (fits o′ (n + new) × (n + new < 2 ^ 32)) × Fillable o′ n new rs
     asks-fill a =
         let w = written-fits (a .P) (a .N) (a .k) (a .watermark) (a .m) (a .l) (a .w) (a .pool) (a .core) (a .flushed) in (
           (

@@ -9,7 +9,7 @@ pub extern "C" fn order_job(job: &[u8], listing: &mut [u8]) -> u64
 {
     let r = job_reply::reply_to(job, listing);
     match r {
-        Reply::Listed { length } => 64 * (length as u64),
-        Reply::Refused { line, code } => 64 * line + code,
+        Reply::Listed { length } => rules::REPLY_RADIX * (length as u64),
+        Reply::Refused { line, code } => rules::REPLY_RADIX * line + code,
     }
 }

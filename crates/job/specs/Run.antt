@@ -15,7 +15,7 @@ use Rattle.session.specs.declared.Session.{Session}
 use Rattle.session.specs.Storage.{Storage, Beyond, Frame}
 use Rattle.session.specs.Rep.{Rep}
 use Rattle.jobcalls.specs.Runs.{Run}
-use Rattle.jobturn.specs.Turned.{Number, remains, StandsFor, Figures}
+use Rattle.jobturn.specs.Turned.{Code, remains, StandsFor, Figures}
 use Rattle.jobturn.specs.declared.End.{End}
 use Rattle.jobturn.specs.declared.End.the-variants as end
 
@@ -48,12 +48,12 @@ abbrev pub Tells : List ℕ → Storage → Storage → End → Type 0
 Tells job σ σ′ (end.Rejected n code) = Refused job σ σ′ n code
 Tells job σ σ′ (end.Finished w pl md) = Closed job σ σ′ w pl md
 
--- a refusal's line and number are small: the line is at most five past the bytes of a job
-abbrev pub refusal-low : ℕ → ℕ → Type 0
-refusal-low n code = (n ≤ most-job-bytes + 5) × Number code
+-- a refusal's line is at most five past the bytes of a job, and its number small
+abbrev pub most-lines : ℕ
+most-lines = most-job-bytes + 5
 
 abbrev pub Low : End → Type 0
-Low (end.Rejected n code) = refusal-low n code
+Low (end.Rejected n code) = (n ≤ most-lines) × Code code
 Low (end.Finished w pl md) = Unit {0}
 
 -- calls may be run from `start` on: the session is fresh, and there is room for the numbers of lists

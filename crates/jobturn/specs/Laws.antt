@@ -37,7 +37,7 @@ use Rattle.jobcalls.specs.Runs.{reads, makes, goes, call-runs}
 use Rattle.jobturn.specs.declared.End.the-variants as end
 use Rattle.jobturn.specs.declared.Step.{Step}
 use Rattle.jobturn.specs.declared.Step.the-variants as step′
-use Rattle.jobturn.specs.Turned.{Number, AfterCall, AfterFinal, remains, StandsFor, Accepts, Figures, Turned}
+use Rattle.jobturn.specs.Turned.{Code, AfterCall, AfterFinal, remains, StandsFor, Accepts, Figures, Turned}
 
 -- the end of a job: nothing may follow final
 ends : (P n : ℕ) (k : Model) (l : List ℕ) → length l ≡ 0 → closing P n (lines l) (ragged l) k ≡ finished P k
@@ -84,19 +84,19 @@ module _ (P N W m : ℕ) (rest : List (List ℕ)) (rag : Bool) (k : Model) where
   goes-final h = rw (on-line, eq-eqb (answer N W calls.final k) 0 h)
 
 -- a call's number is small, since every check's is
-verdict-low : (c : Check) (cs : List Check) → Number (c .number) → Number (verdict cs) → Number (verdict (c ∷ cs))
+verdict-low : (c : Check) (cs : List Check) → Code (c .number) → Code (verdict cs) → Code (verdict (c ∷ cs))
 unfolding verdict
 verdict-low c cs h i = go (bool (c .fails))
   where
-    go : (c .fails ≡ true) ⊎ (c .fails ≡ false) → Number (verdict (c ∷ cs))
+    go : (c .fails ≡ true) ⊎ (c .fails ≡ false) → Code (verdict (c ∷ cs))
     go (inl e) = rw (verdict, e) h
     go (inr e) = rw (verdict, e) i
 
-none-low : Number (verdict [])
+none-low : Code (verdict [])
 unfolding verdict
 none-low = omega arith
 
-answer-low : (N W : ℕ) (c : calls.Call) (k : Model) → Number (answer N W c k)
+answer-low : (N W : ℕ) (c : calls.Call) (k : Model) → Code (answer N W c k)
 unfolding answer checks check-set check-add check-flush check-final check-closed check-places
 answer-low N W (calls.set x) k =
     verdict-low _ _ (omega arith) (verdict-low _ _ (omega arith) (verdict-low _ _ (omega arith) (verdict-low _ _ (omega arith) none-low)))
@@ -109,7 +109,7 @@ answer-low N W (calls.add i o) k =
 answer-low N W calls.flush k = verdict-low _ _ (omega arith) (verdict-low _ _ (omega arith) none-low)
 answer-low N W calls.final k = verdict-low _ _ (omega arith) (verdict-low _ _ (omega arith) none-low)
 
-pub open-low : (P N : ℕ) (s : Sizes) → Number (verdict (check-open P N s))
+pub open-low : (P N : ℕ) (s : Sizes) → Code (verdict (check-open P N s))
 unfolding check-open check-range
 open-low P N s = verdict-low _ _ (omega arith) (verdict-low _ _ (omega arith) (verdict-low _ _ (omega arith) none-low))
 

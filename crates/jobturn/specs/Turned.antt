@@ -4,7 +4,7 @@ use mathlib.Core.List.{List}
 use mathlib.Core.Logic.{_⊎_}
 use mathlib.Core.Option.{none}
 use mathlib.Core.Path.{_≡_}
-use Prim.Native.Nat.{ℕ, _+_, _*_, _/_, _≤_, _<_}
+use Prim.Native.Nat.{ℕ, _+_, _*_, _/_, _^_, _≤_, _<_}
 use lib.ListN.{length, drop}
 use Rattle.rules.specs.Guide.{tally}
 use Rattle.rules.specs.Model.{Model}
@@ -23,9 +23,9 @@ use Rattle.jobturn.specs.declared.End.the-variants as end
 use Rattle.jobturn.specs.declared.Step.{Step}
 use Rattle.jobturn.specs.declared.Step.the-variants as step′
 
--- a refusal's number is below 64, since the host's call tells it beside 64 times its line
-abbrev pub Number : ℕ → Type 0
-Number code = code < 64
+-- a number of a refusal that a job can get before its listing is written: at most 16
+abbrev pub Code : ℕ → Type 0
+Code code = code ≤ refusal.long-job
 
 -- what follows a call with this number on line m, the next starting at `next`
 pub record AfterCall (number m next : ℕ) (r : Step) : Type 0 where
@@ -86,7 +86,7 @@ Tells P N W job k s s′ σ σ′ (step′.On at n) o =
 
 -- the next call lies further on, within the job, and a line has a byte at least; a refusal's line and number are small
 abbrev pub Further : List ℕ → ℕ → ℕ → Step → Type 0
-Further job at n (step′.Ended (end.Rejected m code)) = (m ≤ n + 2) × Number code
+Further job at n (step′.Ended (end.Rejected m code)) = (m ≤ n + 2) × Code code
 Further job at n (step′.Ended (end.Finished w pl md)) = Unit {0}
 Further job at n (step′.On next m) = (at < next) × ((next ≤ length job) × (at + m ≤ next + n))
 
@@ -94,7 +94,7 @@ pub record MayTurn (s : Session) (σ : Storage) (job : List ℕ) (room at n : �
   pub asks : Asks s σ
   pub inside : at ≤ length job
   pub half : length job ≤ 2 * room
-  pub low : n < 4294967296
+  pub low : n < 2 ^ 32
 
 -- a and b are the storage for numbers before and after: the job's lists have at most half as many numbers as it has bytes
 pub record Turned (job : List ℕ) (at n : ℕ) (s : Session) (r : Step) (s′ : Session) (σ σ′ : Storage) (a b : List ℕ) : Type 0 where

@@ -9,6 +9,7 @@ use native.Mathlib.Omega.{arith}
 use lib.ListN.{length}
 use lib.Dec.{leb, ltb}
 use borrow.Author.Tests.{ltb-false, leb-false, ne-eqb}
+use Rattle.rules.specs.Limits.{most-in-a-list, most-flushes}
 use Rattle.rules.specs.Model.{Model}
 use Rattle.rules.specs.Calls.{set, add, flush, final, checks, answer, unless-refused}
 use Rattle.rules.specs.Checks.{Check, verdict, any, repeats, taken, pooled, check-set, check-add, check-flush, check-final, check-closed, check-places}
@@ -66,8 +67,8 @@ pub record SetPassed (N x : ℕ) (k : Model) : Type 0 where
 
 pub record AddPassed (N W : ℕ) (ins outs : List ℕ) (k : Model) : Type 0 where
   pub not-closed : k .closed ≡ false
-  pub ins-few : length ins ≤ 65535
-  pub outs-few : length outs ≤ 65535
+  pub ins-few : length ins ≤ most-in-a-list
+  pub outs-few : length outs ≤ most-in-a-list
   pub ins-inside : (i : ℕ) → In i ins → i < N
   pub outs-inside : (i : ℕ) → In i outs → i < N
   pub once : repeats outs ≡ false
@@ -77,7 +78,7 @@ pub record AddPassed (N W : ℕ) (ins outs : List ℕ) (k : Model) : Type 0 wher
 
 pub record FlushPassed (k : Model) : Type 0 where
   pub not-closed : k .closed ≡ false
-  pub few : k .flushes < 65535
+  pub few : k .flushes < most-flushes
 
 pub record FinalPassed (k : Model) : Type 0 where
   pub not-closed : k .closed ≡ false
@@ -106,8 +107,8 @@ add-passed N W ins outs k h =
     let m = verdict-head _ _ (g .1) (omega arith) in
     record {
       not-closed = a .0;
-      ins-few = ltb-false 65535 (length ins) (or-false (ltb 65535 (length ins)) (ltb 65535 (length outs)) (b .0) .0);
-      outs-few = ltb-false 65535 (length outs) (or-false (ltb 65535 (length ins)) (ltb 65535 (length outs)) (b .0) .1);
+      ins-few = ltb-false most-in-a-list (length ins) (or-false (ltb most-in-a-list (length ins)) (ltb most-in-a-list (length outs)) (b .0) .0);
+      outs-few = ltb-false most-in-a-list (length outs) (or-false (ltb most-in-a-list (length ins)) (ltb most-in-a-list (length outs)) (b .0) .1);
       ins-inside = λ i y. leb-false N i (any-false (λ x. leb N x) (ins ++ outs) i (d .0) (Memᴰ·append-left outs y));
       outs-inside = λ i y. leb-false N i (any-false (λ x. leb N x) (ins ++ outs) i (d .0) (Memᴰ·append-right ins y));
       once = e .0;
@@ -121,7 +122,7 @@ unfolding answer checks check-set check-add check-flush check-final check-closed
 flush-passed N W k h =
     let a = verdict-head _ _ h (omega arith) in
     let b = verdict-head _ _ (a .1) (omega arith) in
-    record { not-closed = a .0; few = leb-false 65535 (k .flushes) (b .0) }
+    record { not-closed = a .0; few = leb-false most-flushes (k .flushes) (b .0) }
 
 pub final-passed : (N W : ℕ) (k : Model) → answer N W final k ≡ 0 → FinalPassed k
 unfolding answer checks check-set check-add check-flush check-final check-closed check-places

@@ -5,11 +5,12 @@ use mathlib.Core.List.{List, [], _∷_, _++_}
 use mathlib.Core.Bool.{true, false}
 use mathlib.Core.Logic.{_⊎_, inl, inr}
 use mathlib.Core.Option.{Option}
-use Prim.Native.Nat.{ℕ, _+_, _≤_, _<_}
+use Prim.Native.Nat.{ℕ, _+_, _^_, _≤_, _<_}
 use native.Mathlib.Omega.{arith}
 use lib.ListN.{length, take}
 use lib.Dec.{eqb, leb}
 use borrow.Author.Tests.{eqb-true, leb-false}
+use Rattle.rules.specs.Limits.{last-span-limit}
 use Rattle.rules.specs.Guide.{Loc, Item, Guide, fresh, flush as flush-guide, release, released, place, held}
 use Rattle.rules.specs.Calls.{unless-refused}
 use Rattle.rules.specs.Alone.{Alone, alone, Request, push, flush, check-push, check-flush-alone, worn, requests, reply, serve, serve-step, serve-all}
@@ -30,7 +31,7 @@ pub record AloneSound (P N : ℕ) (a : Alone) : Type 0 where
   pub counted : length (a .guide .order) + held (a .guide .spans) ≡ a .pushes
   pub few : a .pushes ≤ N
   -- the last span number is in 32 bits
-  pub low : a .guide .first + 31 < 4294967296
+  pub low : a .guide .first + 31 < 2 ^ 32
 
 flush-later : (P : ℕ) (g : Guide) → length (g .spans) ≡ 32 → Later P 1 g → Later P 1 (flush-guide P g)
 unfolding flush-guide
@@ -42,7 +43,7 @@ flush-first P g = refl
 
 module _ (P N : ℕ) (hP : 1 ≤ P) where
   -- an accepted push and an accepted flush keep it
-  pub push-sound : (after : Option Loc) (e : Item) (a : Alone) → a .pushes < N → a .guide .first + 31 < 4294967264 → AloneSound P N a → AloneSound P N (serve P (push after e) a)
+  pub push-sound : (after : Option Loc) (e : Item) (a : Alone) → a .pushes < N → a .guide .first + 31 < last-span-limit → AloneSound P N a → AloneSound P N (serve P (push after e) a)
   unfolding serve
   push-sound after e a h w s =
       let t = place-step P (a .guide) (s .past) e hP (s .core) (s .later) after in
@@ -64,7 +65,7 @@ module _ (P N : ℕ) (hP : 1 ≤ P) where
         low = omega (arith, t .advances);
       }
 
-  pub flush-sound : (a : Alone) → a .guide .first + 31 < 4294967264 → AloneSound P N a → AloneSound P N (serve P flush a)
+  pub flush-sound : (a : Alone) → a .guide .first + 31 < last-span-limit → AloneSound P N a → AloneSound P N (serve P flush a)
   unfolding serve
   flush-sound a w s =
       let c = flush-core P (a .guide) (s .past) hP (s .core) (s .later 31 (omega arith)) in
@@ -86,16 +87,16 @@ module _ (P N : ℕ) (hP : 1 ≤ P) where
       }
 
   -- what the checks passed
-  push-passed : (after : Option Loc) (e : Item) (a : Alone) → reply N (push after e) a ≡ 0 → (a .pushes < N) × (a .guide .first + 31 < 4294967264)
+  push-passed : (after : Option Loc) (e : Item) (a : Alone) → reply N (push after e) a ≡ 0 → (a .pushes < N) × (a .guide .first + 31 < last-span-limit)
   unfolding reply requests check-push worn
   push-passed after e a h =
       let c = verdict-head _ _ h (omega arith) in
-      let d = or-false (leb N (a .pushes)) (leb 4294967264 (a .guide .first + 31)) (c .0) in
-      (leb-false N (a .pushes) (d .0), leb-false 4294967264 (a .guide .first + 31) (d .1))
+      let d = or-false (leb N (a .pushes)) (leb last-span-limit (a .guide .first + 31)) (c .0) in
+      (leb-false N (a .pushes) (d .0), leb-false last-span-limit (a .guide .first + 31) (d .1))
 
-  flush-passed : (a : Alone) → reply N flush a ≡ 0 → a .guide .first + 31 < 4294967264
+  flush-passed : (a : Alone) → reply N flush a ≡ 0 → a .guide .first + 31 < last-span-limit
   unfolding reply requests check-flush-alone worn
-  flush-passed a h = let c = verdict-head _ _ h (omega arith) in leb-false 4294967264 (a .guide .first + 31) (c .0)
+  flush-passed a h = let c = verdict-head _ _ h (omega arith) in leb-false last-span-limit (a .guide .first + 31) (c .0)
 
   serve-sound : (r : Request) (a : Alone) → reply N r a ≡ 0 → AloneSound P N a → AloneSound P N (serve P r a)
   serve-sound (push after e) a h s = let q = push-passed after e a h in push-sound after e a (q .0) (q .1) s

@@ -10,6 +10,7 @@ use Prim.Native.Nat.{ℕ, _+_, _≤_, _<_}
 use native.Mathlib.Omega.{arith}
 use lib.ListN.{length, getD, replicate, length-append}
 use lib.Dec.{eqb}
+use Rattle.rules.specs.Limits.{most-parallelism, most-places, last-span-limit}
 use Rattle.rules.specs.Guide.{Loc, Item, flush as flush-guide, place, tally}
 use Rattle.rules.specs.Calls.{unless-refused}
 use Rattle.rules.specs.Alone.{Alone, alone, Request, push, flush, location, reply, serve, serve-step, serve-all}
@@ -34,10 +35,10 @@ pub record AloneWidths (P : ℕ) (a : Alone) : Type 0 where
   -- no entry ever gets span 0: wherever the next is placed
   pub not-span-0 : (after : Option Loc) (e : Item) → 1 ≤ (location P after e a) .span
   -- the location that the next push returns, where it is accepted
-  pub locations : (after : Option Loc) (e : Item) → a .guide .first + 31 < 4294967264 → In32 ((location P after e a) .span) × In32 ((location P after e a) .pos)
+  pub locations : (after : Option Loc) (e : Item) → a .guide .first + 31 < last-span-limit → In32 ((location P after e a) .span) × In32 ((location P after e a) .pos)
 
-module _ (P N : ℕ) (hP : 1 ≤ P) (tP : P ≤ 64999) (hN : N ≤ 16777216) (a : Alone) (s : AloneSound P N a) where
-  next-fits : (after : Option Loc) (e : Item) → a .guide .first + 31 < 4294967264 → In32 ((location P after e a) .span) × In32 ((location P after e a) .pos)
+module _ (P N : ℕ) (hP : 1 ≤ P) (tP : P ≤ most-parallelism) (hN : N ≤ most-places) (a : Alone) (s : AloneSound P N a) where
+  next-fits : (after : Option Loc) (e : Item) → a .guide .first + 31 < last-span-limit → In32 ((location P after e a) .span) × In32 ((location P after e a) .pos)
   unfolding location
   next-fits after e h =
       let p = place P after e (a .guide) in
@@ -67,7 +68,7 @@ module _ (P N : ℕ) (hP : 1 ≤ P) (tP : P ≤ 64999) (hN : N ≤ 16777216) (a 
       }
 
 -- after every list of requests
-pub alone-numbers-fit : (P N : ℕ) → 1 ≤ P → P ≤ 64999 → N ≤ 16777216 → (rs : List Request) → AloneWidths P (serve-all P N rs alone)
+pub alone-numbers-fit : (P N : ℕ) → 1 ≤ P → P ≤ most-parallelism → N ≤ most-places → (rs : List Request) → AloneWidths P (serve-all P N rs alone)
 alone-numbers-fit P N hP tP hN rs = alone-widths P N hP tP hN (serve-all P N rs alone) (alone-sound P N hP rs alone (alone-initial P N hP))
 
 -- what a request brings fits 32 bits

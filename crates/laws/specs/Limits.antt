@@ -7,6 +7,7 @@ use Prim.Native.Nat.{ℕ, _+_, _≤_, _<_}
 use mathlib.Core.Bool.{false}
 use native.Mathlib.Omega.{arith}
 use lib.ListN.{length, length-append, List·getD-eq-default}
+use Rattle.rules.specs.Limits.{most-in-a-list, most-flushes}
 use Rattle.rules.specs.Model.{with-record, Reg, Model, reg-of, place-one, keep, rest, with-set, with-add, with-flush, initial}
 use Rattle.rules.specs.Checks.{repeats, pooled}
 use Rattle.laws.specs.ModelBase.{In}
@@ -24,13 +25,13 @@ AllBelow N l = (i : ℕ) → In i l → i < N
 pub record Limits (N W : ℕ) (k : Model) (st : List ℕ) : Type 0 where
   pub many : length (k .adds) ≤ N
   pub pool : pooled (k .adds) ≤ W
-  pub few : k .flushes ≤ 65535
+  pub few : k .flushes ≤ most-flushes
   pub rows : length (k .recorded .written) ≤ length (k .adds)
 
 -- an accepted registration's lists
 pub record Bounded (N : ℕ) (a : Reg) : Type 0 where
-  pub ins-few : length (a .ins) ≤ 65535
-  pub outs-few : length (a .outs) ≤ 65535
+  pub ins-few : length (a .ins) ≤ most-in-a-list
+  pub outs-few : length (a .outs) ≤ most-in-a-list
   pub ins-below : AllBelow N (a .ins)
   pub outs-below : AllBelow N (a .outs)
   pub outs-once : repeats (a .outs) ≡ false

@@ -9,6 +9,7 @@ use Prim.Native.Nat.{ℕ, _+_, _≤_, _<_}
 use native.Mathlib.Omega.{arith}
 use lib.ListN.{length, getD, length-append}
 use lib.Seq.{getD-append-add}
+use Rattle.rules.specs.Limits.{most-places}
 use Rattle.rules.specs.Guide.{Item, held}
 use Rattle.rules.specs.Model.{Model, Pending, member, marked, watermark, greatest, ready, loc-of, top, reg-of}
 use Rattle.laws.specs.History.{len}
@@ -156,7 +157,7 @@ module _ (P N W : ℕ) (hP : 1 ≤ P) (k : Model) (st : List ℕ) (s : Sound P N
   window-entry i q = ap (λ (l : List Item). getD l q no-entry) (sym (getD-append-add (s .inv .past) (k .guide .spans) i []))
 
   -- every sound model fits
-  pub fits-of : N ≤ 16777216 → Fits P N k
+  pub fits-of : N ≤ most-places → Fits P N k
   fits-of hN =
       record {
         many = s .limits .many;
@@ -187,7 +188,7 @@ module _ (P N W : ℕ) (hP : 1 ≤ P) (k : Model) (st : List ℕ) (s : Sound P N
       }
 
 -- the top of the stack may be placed
-pub placeable : (P N W : ℕ) → 1 ≤ P → N ≤ 16777216 → (r : ℕ) (st : List ℕ) (k : Model) → Sound P N W k (r ∷ st) → Placeable P N r k
+pub placeable : (P N W : ℕ) → 1 ≤ P → N ≤ most-places → (r : ℕ) (st : List ℕ) (k : Model) → Sound P N W k (r ∷ st) → Placeable P N r k
 unfolding lsum
 placeable P N W hP hN r st k s =
     record {

@@ -6,10 +6,11 @@ use mathlib.Core.List.{List, [], _∷_}
 use mathlib.Core.Bool.{Bool, true, false}
 use mathlib.Core.Logic.{_⊎_, inl, inr}
 use mathlib.Core.Option.{Option}
-use Prim.Native.Nat.{ℕ, _+_, _≤_, _<_}
+use Prim.Native.Nat.{ℕ, _+_, _^_, _≤_, _<_}
 use native.Mathlib.Omega.{arith}
 use lib.ListN.{length, getD}
 use lib.Dec.{eqb}
+use Rattle.rules.specs.Limits.{most-parallelism, most-places}
 use Rattle.rules.specs.Guide.{Loc, Item, Entry, place, tally}
 use Rattle.rules.specs.Model.{Model, marked, loc-of, reg-of, watermark, initial, registrations as registered}
 use Rattle.rules.specs.Calls.{Call, run}
@@ -25,10 +26,10 @@ use Rattle.laws.specs.Placeable.{Fits, fits-of, located-span}
 
 -- fits 32 bits, fits 16 bits
 abbrev pub In32 : ℕ → Type 0
-In32 n = n < 4294967296
+In32 n = n < 2 ^ 32
 
 abbrev pub In16 : ℕ → Type 0
-In16 n = n < 65536
+In16 n = n < 2 ^ 16
 
 -- an entry's value, added and accepted
 abbrev pub Item32 : Item → Type 0
@@ -67,7 +68,7 @@ unfolding having
 having-le p [] = omega arith
 having-le p (x ∷ l) = omega (arith, having-le p l, one-of-le p (x .parallelism))
 
-module _ (P N W : ℕ) (hP : 1 ≤ P) (tP : P ≤ 64999) (hN : N ≤ 16777216) (k : Model) (st : List ℕ) (s : Sound P N W k st) where
+module _ (P N W : ℕ) (hP : 1 ≤ P) (tP : P ≤ most-parallelism) (hN : N ≤ most-places) (k : Model) (st : List ℕ) (s : Sound P N W k st) where
   f : Fits P N k
   f = fits-of P N W hP k st s hN
 
@@ -108,5 +109,5 @@ module _ (P N W : ℕ) (hP : 1 ≤ P) (tP : P ≤ 64999) (hN : N ≤ 16777216) (
       }
 
 -- after every list of calls
-pub numbers-fit : (P N W : ℕ) → 1 ≤ P → P ≤ 64999 → N ≤ 16777216 → (calls : List Call) → Widths P N (run P N W calls initial)
+pub numbers-fit : (P N W : ℕ) → 1 ≤ P → P ≤ most-parallelism → N ≤ most-places → (calls : List Call) → Widths P N (run P N W calls initial)
 numbers-fit P N W hP tP hN calls = widths P N W hP tP hN (run P N W calls initial) [] (sound P N W hP calls)

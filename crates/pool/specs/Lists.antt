@@ -3,7 +3,7 @@
 use mathlib.Core.Path.{_≡_}
 use mathlib.Core.List.{List, [], _∷_, _++_}
 use mathlib.Core.Bool.{cond}
-use Prim.Native.Nat.{ℕ, _+_, _*_, _/_, _%_, _≤_, _<_}
+use Prim.Native.Nat.{ℕ, _+_, _*_, _/_, _%_, _^_, _≤_, _<_}
 use lib.ListN.{length, getD, set, take, drop}
 use lib.Dec.{ltb}
 use Rattle.rules.specs.Model.{Reg}
@@ -50,7 +50,7 @@ stored pool at xs = take at pool ++ (xs ++ drop (at + length xs) pool)
 -- there is room for xs, and each fits the pool's 32 bits
 pub record Storable (pool : List ℕ) (at : ℕ) (xs : List ℕ) : Type 0 where
   pub room : at + length xs ≤ length pool
-  pub fits : (j : ℕ) → j < length xs → getD xs j 0 < 4294967296
+  pub fits : (j : ℕ) → j < length xs → getD xs j 0 < 2 ^ 32
 
 -- the lists of registrations, one after the other
 unfoldable pub contents : List Reg → List ℕ

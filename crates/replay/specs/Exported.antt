@@ -3,6 +3,7 @@
 use mathlib.Core.Path.{_≡_}
 use mathlib.Core.List.{List}
 use Prim.Native.Nat.{ℕ, _*_}
+use Rattle.rules.specs.Limits.{reply-radix}
 use Rattle.rules.specs.Calls.{unless-refused}
 use Rattle.session.specs.declared.Session.{Session}
 use Rattle.session.specs.Storage.{Storage}
@@ -10,7 +11,7 @@ use Rattle.call_list.specs.Replay.{Replays}
 
 -- 64 times a count, or the number of a refusal
 abbrev pub by-number : ℕ → ℕ → ℕ
-by-number n count = unless-refused n n (64 * count)
+by-number n count = unless-refused n n (reply-radix * count)
 
 -- the order's length
 abbrev pub written : Session → ℕ

@@ -8,7 +8,7 @@ fn by_number(number: u64, count: u32) -> u64
     ensures { λ r. ⌜ r ≡ by-number number count ⌝ }
 {
     if number == 0 {
-        return 64 * (count as u64);
+        return rules::REPLY_RADIX * (count as u64);
     }
     number
 }

@@ -8,6 +8,19 @@ use lib.ListN.{length, take, drop}
 use lib.Dec.{leb, eqb}
 use Rattle.rules.specs.Calls.{Call, set, add, flush, final}
 
+-- the number that a call starts with
+abbrev pub set-tag : ℕ
+set-tag = 1
+
+abbrev pub add-tag : ℕ
+add-tag = 2
+
+abbrev pub flush-tag : ℕ
+flush-tag = 3
+
+abbrev pub final-tag : ℕ
+final-tag = 4
+
 -- a call read off the front, and the numbers that follow it
 pub record Front : Type 0 where
   pub call : Call
@@ -37,15 +50,15 @@ add-front (some c) = add-outs (c .items) (counted (c .rest))
 unfoldable pub front : List ℕ → Option Front
 front [] = none
 front (tag ∷ l) =
-    elim (eqb tag 1) [
+    elim (eqb tag set-tag) [
       | true ↦ set-front l
       | false ↦
-          elim (eqb tag 2) [
+          elim (eqb tag add-tag) [
             | true ↦ add-front (counted l)
             | false ↦
-                elim (eqb tag 3) [
+                elim (eqb tag flush-tag) [
                   | true ↦ some (record { call = flush; rest = l })
-                  | false ↦ elim (eqb tag 4) [ true ↦ some (record { call = final; rest = l }) | false ↦ none ]
+                  | false ↦ elim (eqb tag final-tag) [ true ↦ some (record { call = final; rest = l }) | false ↦ none ]
                 ]
           ]
     ]

@@ -8,7 +8,7 @@ use lib.ListN.{length}
 use lib.Dec.{leb, ltb, eqb}
 use Rattle.rules.specs.Limits.{most-job-bytes, job-parallelism, job-places, job-pool}
 use Rattle.rules.specs.Refusals as refusal
-use Rattle.rules.specs.Text.{bytes}
+use Rattle.rules.specs.Text.{bytes, newline, comma, zero-digit, nine-digit}
 use Rattle.rules.specs.Model.{Model, initial}
 use Rattle.rules.specs.Checks.{Sizes, spans-needed, waiting-needed, tally-needed, verdict, check-open}
 use Rattle.rules.specs.Calls.{Call, set, add, flush, final, answer, step}
@@ -38,7 +38,7 @@ final-text = bytes "final=1"
 -- the lines that byte 10 ends; what stands after the last byte 10 is no line
 unfoldable pub lines-from : List ℕ → List ℕ → List (List ℕ)
 lines-from so-far [] = []
-lines-from so-far (b ∷ bs) = elim (eqb b 10) [ true ↦ so-far ∷ lines-from [] bs | false ↦ lines-from (so-far ++ (b ∷ [])) bs ]
+lines-from so-far (b ∷ bs) = elim (eqb b newline) [ true ↦ so-far ∷ lines-from [] bs | false ↦ lines-from (so-far ++ (b ∷ [])) bs ]
 
 unfoldable pub lines : List ℕ → List (List ℕ)
 lines bs = lines-from [] bs
@@ -46,19 +46,19 @@ lines bs = lines-from [] bs
 -- the job ends without byte 10
 unfoldable pub ragged : List ℕ → Bool
 ragged [] = false
-ragged (b ∷ []) = not (eqb b 10)
+ragged (b ∷ []) = not (eqb b newline)
 ragged (b ∷ (c ∷ bs)) = ragged (c ∷ bs)
 
 -- a number: digits only, with the value of those before it
 unfoldable pub digits-from : ℕ → List ℕ → Option ℕ
 digits-from n [] = some n
-digits-from n (b ∷ bs) = elim (leb 48 b && leb b 57) [ true ↦ digits-from (n * 10 + (b - 48)) bs | false ↦ none ]
+digits-from n (b ∷ bs) = elim (leb zero-digit b && leb b nine-digit) [ true ↦ digits-from (n * 10 + (b - zero-digit)) bs | false ↦ none ]
 
 -- no leading zero but 0 itself
 unfoldable pub leading-zero : List ℕ → Bool
 leading-zero [] = false
 leading-zero (b ∷ []) = false
-leading-zero (b ∷ (c ∷ bs)) = eqb b 48
+leading-zero (b ∷ (c ∷ bs)) = eqb b zero-digit
 
 -- at most 64 bits
 unfoldable pub in-64-bits : Option ℕ → Option ℕ
@@ -72,7 +72,7 @@ number bs = elim (leb 1 (length bs) && (leb (length bs) 20 && not (leading-zero 
 -- the fields between single commas: one more than there are commas
 unfoldable pub fields-from : List ℕ → List ℕ → List (List ℕ)
 fields-from so-far [] = so-far ∷ []
-fields-from so-far (b ∷ bs) = elim (eqb b 44) [ true ↦ so-far ∷ fields-from [] bs | false ↦ fields-from (so-far ++ (b ∷ [])) bs ]
+fields-from so-far (b ∷ bs) = elim (eqb b comma) [ true ↦ so-far ∷ fields-from [] bs | false ↦ fields-from (so-far ++ (b ∷ [])) bs ]
 
 unfoldable pub both : Option ℕ → Option (List ℕ) → Option (List ℕ)
 both none ns = none

@@ -30,12 +30,30 @@ mark-written = 32768
 abbrev pub mark-set : ℕ
 mark-set = 49152
 
+-- "A location is a span number (32 bits) and a position (32 bits)": as one number, the span number times this plus the position
+abbrev pub location-radix : ℕ
+location-radix = 2 ^ 32
+
+-- "the tally's sum divided by 65,000"; "the counts for 0 to 127 and 65 sums of thousands"
+abbrev pub average-divisor : ℕ
+average-divisor = 65000
+
+abbrev pub low-counts : ℕ
+low-counts = 128
+
+abbrev pub sums-of-thousands : ℕ
+sums-of-thousands = 65
+
 -- "a job over 65,536 bytes"; the program "lends 65,536 listing bytes"
 abbrev pub most-job-bytes : ℕ
 most-job-bytes = 65536
 
 abbrev pub program-listing-bytes : ℕ
 program-listing-bytes = 65536
+
+-- "The host's call returns 64 times the listing's length, or for a refusal 64 times the line plus the number"
+abbrev pub reply-radix : ℕ
+reply-radix = 64
 
 -- "Both lend storage for P ≤ 64, V ≤ 512, W = 4,096."
 abbrev pub job-parallelism : ℕ

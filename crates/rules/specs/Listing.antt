@@ -4,9 +4,9 @@ use mathlib.Core.Bool.{true, false}
 use Prim.Native.Nat.{ℕ, zero, suc, _+_, _*_, _/_, _%_, min}
 use lib.ListN.{length, drop, getD}
 use lib.Dec.{ltb}
-use Rattle.rules.specs.Limits.{program-listing-bytes}
+use Rattle.rules.specs.Limits.{program-listing-bytes, reply-radix}
 use Rattle.rules.specs.Refusals as refusal
-use Rattle.rules.specs.Text.{bytes}
+use Rattle.rules.specs.Text.{bytes, newline, zero-digit}
 use Rattle.rules.specs.Guide.{Entry, tally}
 use Rattle.rules.specs.Model.{Model}
 use Rattle.rules.specs.Summary.{median}
@@ -15,7 +15,7 @@ use Rattle.rules.specs.Job.{Outcome, finished, rejected, outcome}
 -- the digits of n, of which there are at most f
 unfoldable pub digits : ℕ → ℕ → List ℕ
 digits zero n = []
-digits (suc f) n = elim (ltb n 10) [ true ↦ (48 + n) ∷ [] | false ↦ digits f (n / 10) ++ ((48 + n % 10) ∷ []) ]
+digits (suc f) n = elim (ltb n 10) [ true ↦ (zero-digit + n) ∷ [] | false ↦ digits f (n / 10) ++ ((zero-digit + n % 10) ∷ []) ]
 
 -- a 64-bit number in decimal
 unfoldable pub decimal : ℕ → List ℕ
@@ -60,7 +60,7 @@ unfoldable pub field : List ℕ → ℕ → List ℕ
 field word n = word ++ decimal n
 
 unfoldable pub line : List ℕ → ℕ → List ℕ
-line word n = field word n ++ (10 ∷ [])
+line word n = field word n ++ (newline ∷ [])
 
 -- floor: the smallest parallelism in the order, 0 if it is empty
 unfoldable pub floor : List Entry → ℕ
@@ -73,7 +73,7 @@ unfoldable pub entry-line : ℕ → Entry → ℕ → List ℕ
 entry-line index e written =
     field word-order index
     ++ (field word-added (e .item .added)
-    ++ (field word-accepted (e .item .accepted) ++ (field word-parallelism (e .parallelism) ++ (field word-written written ++ (10 ∷ [])))))
+    ++ (field word-accepted (e .item .accepted) ++ (field word-parallelism (e .parallelism) ++ (field word-written written ++ (newline ∷ [])))))
 
 -- the entries from index n on
 unfoldable pub entry-lines : ℕ → List Entry → List ℕ → List ℕ
@@ -118,8 +118,8 @@ program job = printed (reply program-listing-bytes job)
 
 -- the host's call: its result, and the listing bytes after it
 unfoldable pub result : Reply → ℕ
-result (listed text) = 64 * length text
-result (refused n code) = 64 * n + code
+result (listed text) = reply-radix * length text
+result (refused n code) = reply-radix * n + code
 
 unfoldable pub bytes-after : Reply → List ℕ → List ℕ
 bytes-after (listed text) room = text ++ drop (length text) room

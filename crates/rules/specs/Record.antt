@@ -5,7 +5,7 @@ use mathlib.Core.Bool.{Bool, true, false}
 use Prim.Native.Nat.{ℕ, suc, _+_, _*_}
 use lib.ListN.{getD}
 use lib.Dec.{eqb}
-use Rattle.rules.specs.Limits.{mark-set, mark-written}
+use Rattle.rules.specs.Limits.{mark-set, mark-written, location-radix}
 use Rattle.rules.specs.Guide.{Loc, Entry, tally}
 use Rattle.rules.specs.Model.{Model, member, marked, loc-of}
 use Rattle.rules.specs.Summary.{Figures, figures}
@@ -22,7 +22,7 @@ mark-of k x = mark-by (member x (k .sets)) (marked x (k .located))
 
 -- "A location is a span number (32 bits) and a position (32 bits)": as one number, the greater for the later location
 unfoldable pub pack : Loc → ℕ
-pack l = l .span * 4294967296 + l .pos
+pack l = l .span * location-radix + l .pos
 
 -- "Location (0,0) belongs to every set place", and places start as zeros: a place's location, that of the registration which wrote it, or (0,0)
 unfoldable pub location-of : Model → ℕ → ℕ

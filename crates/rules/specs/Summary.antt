@@ -5,6 +5,7 @@ use Prim.Native.Nat.{ℕ, zero, suc, _+_, _*_}
 use lib.ListN.{take, drop, getD}
 use lib.Dec.{leb}
 use lib.Ieee.{Float, binary32, round}
+use Rattle.rules.specs.Limits.{average-divisor, low-counts, sums-of-thousands}
 
 unfoldable pub sum : List ℕ → ℕ
 sum [] = 0
@@ -12,7 +13,7 @@ sum (n ∷ t) = n + sum t
 
 -- the tally's sum divided by 65,000 and rounded once, in binary32
 unfoldable pub average : List ℕ → Float
-average t = round binary32 false (sum t) 65000
+average t = round binary32 false (sum t) average-divisor
 
 -- the first p from `at` on with twice the running sum at least the sum `all`, so far being the running sum before it; 0 past the end
 unfoldable pub median-from : ℕ → ℕ → ℕ → List ℕ → ℕ
@@ -40,4 +41,4 @@ pub record Figures : Type 0 where
 
 -- the average, the median, the counts for 0 to 127 and 65 sums of thousands
 unfoldable pub figures : List ℕ → Figures
-figures t = record { average = average t; median = median t; low = counts 128 0 t; thousands = thousands 65 0 t }
+figures t = record { average = average t; median = median t; low = counts low-counts 0 t; thousands = thousands sums-of-thousands 0 t }

@@ -22,10 +22,24 @@ pub const MARK_WRITTEN: u16 = 32768;
 
 pub const MARK_SET: u16 = 49152;
 
+// What a span number is multiplied by in a location that is one number: above every position.
+pub const LOCATION_RADIX: u64 = 4294967296;
+
+// What the tally's sum is divided by in the average.
+pub const AVERAGE_DIVISOR: f32 = 65000.0;
+
+// How many counts for low parallelisms a summary has, and how many sums of thousands.
+pub const LOW_COUNTS: usize = 128;
+
+pub const SUMS_OF_THOUSANDS: usize = 65;
+
 // The most bytes of a job, and the bytes that the program lends for a listing.
 pub const MOST_JOB_BYTES: usize = 65536;
 
 pub const PROGRAM_LISTING_BYTES: usize = 65536;
+
+// What a listing's length, or a refusal's line, is multiplied by in the number that a host gets.
+pub const REPLY_RADIX: u64 = 64;
 
 // The storage that a job is run in: its greatest P and V, and W.
 pub const JOB_PARALLELISM: usize = 64;

@@ -1,7 +1,7 @@
 -- What the code of one placing needs at each call, and its promise, from what its callees promise. Assumes nothing.
 use mathlib.Core.Path.{_≡_, refl, sym, ap, _∙_, subst}
 use mathlib.Core.List.{List, _∷_}
-use Prim.Native.Nat.{ℕ, _+_, _-_, _≤_, _<_}
+use Prim.Native.Nat.{ℕ, _+_, _-_, _^_, _≤_, _<_}
 use native.Mathlib.Omega.{arith}
 use lib.ListN.{length, drop}
 use Rattle.rules.specs.Guide.{Guide as GuideModel, Entry as OrderEntry}
@@ -156,7 +156,7 @@ module _ (c r : ℕ) (g : Guide) (watermark added used : ℕ) (σ : Storage) whe
               ap (λ (b : GuideModel). length (b .order)) (placed-view P N k g watermark σ r C (may P N W k st C S) f F c (entry-for r c) h sp o t span pos refl refl refl U),
             )
 
-      pub asks-fill : MayPlace c g watermark added used σ r → (fits o (n + new) × (n + new < 4294967296)) × Fillable o n new (σ .rows)
+      pub asks-fill : MayPlace c g watermark added used σ r → (fits o (n + new) × (n + new < 2 ^ 32)) × Fillable o n new (σ .rows)
       asks-fill a =
           let w = written-fits (a .P) (a .N) (a .W) (a .k) (a .st) (a .core) (a .sound) (a .ended) (a .added-is) (a .used-is) in (
             (

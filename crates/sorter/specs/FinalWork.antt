@@ -4,6 +4,7 @@ use mathlib.Core.List.{[]}
 use Prim.Native.Nat.{ℕ, _+_, _≤_}
 use native.Mathlib.Omega.{arith}
 use lib.ListN.{length, take}
+use Rattle.rules.specs.Limits.{most-places}
 use Rattle.rules.specs.Model.{Model}
 use Rattle.rules.specs.Calls.{final as final-call, step}
 use Rattle.rules.specs.Summary.{sum, Figures, figures}
@@ -27,7 +28,7 @@ pub record Concludes (n : ℕ) (s s′ : Session) (σ σ′ : Storage) (f : Figu
 -- the tally of a session can be summed up
 tallied-of : (P N W : ℕ) (k : Model) (s : Session) (σ : Storage) → Rep P N k s σ → Between P N W k → Tallied (σ .tally) (s .guide .p)
 tallied-of P N W k s σ R B =
-    let h : N ≤ 16777216 = omega (arith, R .core .guided .stands .small, R .core .guided .v-is) in
+    let h : N ≤ most-places = omega (arith, R .core .guided .stands .small, R .core .guided .v-is) in
     let F = fits-of P N W (positive P N k s σ R) k [] (B .sound) h in
     let e = tally-sum P (k .guide .order) (λ j q. F .parallelisms j q .1) in
     let t = ap sum (tally-is (R .core .guided)) in

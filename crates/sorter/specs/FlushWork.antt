@@ -2,9 +2,10 @@
 use mathlib.Core.Path.{_≡_, refl}
 use mathlib.Core.List.{List, []}
 use mathlib.Core.Bool.{Bool, true}
-use Prim.Native.Nat.{ℕ, suc, _+_, _≤_, _<_}
+use Prim.Native.Nat.{ℕ, suc, _+_, _^_, _≤_, _<_}
 use native.Mathlib.Omega.{arith}
 use lib.ListN.{length}
+use Rattle.rules.specs.Limits.{most-places}
 use Rattle.rules.specs.Record.{row-of}
 use Rattle.rules.specs.Model.{Model, tracked, watermark as watermark-of, with-record, with-flush, note-flush, note-final, do-flush, do-final}
 use Rattle.rules.specs.Checks.{taken}
@@ -74,7 +75,7 @@ fits-flushed P N f g b c k F =
     }
 
 module _ (P N : ℕ) (k : Model) (s : Session) (σ : Storage) (R : Rep P N k s σ) (B : Between P N (length (σ .pool)) k) where
-  small : N ≤ 16777216
+  small : N ≤ most-places
   small = omega (arith, R .core .guided .stands .small, R .core .guided .v-is)
 
   fits-now : Fits P N k
@@ -162,10 +163,10 @@ module _ (s : Session) (σ : Storage) where
   final-releases a = may-release (a .parallelism) (a .places) (a .model) s σ (a .rep) (a .between) (fits-final (a .parallelism) (a .places) (a .model) s σ (a .rep) (a .between) (a .accepted))
 
   -- the counts that change fit
-  pub flush-counts : MayDo flush-call s σ → s .flushes + 1 < 4294967296
+  pub flush-counts : MayDo flush-call s σ → s .flushes + 1 < 2 ^ 32
   flush-counts a = omega (arith, a .rep .counted .flushes-is, flush-passed (a .places) (length (σ .pool)) (a .model) (a .accepted) .few)
 
-  pub final-counts : MayDo final-call s σ → s .watermark < 4294967296
+  pub final-counts : MayDo final-call s σ → s .watermark < 2 ^ 32
   final-counts a =
       omega (
         arith,

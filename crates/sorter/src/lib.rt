@@ -227,8 +227,8 @@ fn no_summary() -> Summary
     Summary {
         average: 0.0,
         median: 0,
-        low: [0u32; 128],
-        thousands: [0u32; 65],
+        low: [0u32; rules::LOW_COUNTS],
+        thousands: [0u32; rules::SUMS_OF_THOUSANDS],
     }
 }
 

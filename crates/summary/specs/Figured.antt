@@ -6,9 +6,8 @@ use Prim.Native.Nat.{ℕ, _+_, _≤_}
 use lib.ListN.{length, take}
 use lib.Dec.{T}
 use lib.Ieee.{isNan}
-use Rattle.rules.specs.Limits.{most-parallelism, most-places}
+use Rattle.rules.specs.Limits.{most-parallelism, most-places, low-counts, sums-of-thousands}
 use Rattle.rules.specs.Summary.{Figures, sum}
-use Rattle.figures.specs.Small.{low-count, thousand-count}
 use Rattle.summary.specs.declared.Summary.{Summary}
 
 -- the figures that the struct holds
@@ -24,5 +23,5 @@ pub record Tallied (t : List ℕ) (P : ℕ) : Type 0 where
 -- a summary that can be written as numbers: the average has bits, and the arrays have their lengths
 pub record Writable (s : Summary) : Type 0 where
   pub number : T (not (isNan (s .average)))
-  pub low : length (s .low) ≡ low-count
-  pub thousands : length (s .thousands) ≡ thousand-count
+  pub low : length (s .low) ≡ low-counts
+  pub thousands : length (s .thousands) ≡ sums-of-thousands

@@ -10,12 +10,12 @@ use lib.Seq.{length-take-le, paste, take-paste, drop-paste, take-all, drop-drop}
 use lib.Dec.{T, ltb}
 use lib.Ieee.{inf, Format, binary32, prec, emax, low, size, nearest, odd, units, round, isNan}
 use borrow.Author.Tests.{lt-ltb, le-ltb}
-use Rattle.rules.specs.Limits.{most-places}
+use Rattle.rules.specs.Limits.{most-places, average-divisor, low-counts, sums-of-thousands}
 use Rattle.rules.specs.Refusals as refusal
 use Rattle.rules.specs.Checks.{verdict}
 use Rattle.rules.specs.Summary.{Figures, sum, average, figures}
 use Rattle.summary.specs.declared.Summary.{Summary}
-use Rattle.figures.specs.Small.{most-counts, low-count, thousand-count, Small}
+use Rattle.figures.specs.Small.{most-counts, Small}
 use Rattle.figures.specs.Loops.{counts-length, thousands-length}
 use Rattle.summary.specs.Figured.{figured, Tallied, Writable}
 use Rattle.summary.specs.Layout.{summary-size, summary-numbers, check-tally, summary-number, summary-after}
@@ -44,9 +44,9 @@ pub writable : (s : Summary) (t : List ℕ) → figured s ≡ figures t → Writ
 unfolding figures average
 writable s t e =
     record {
-      number = subst (λ x. T (not (isNan x))) (sym (ap (λ f. f .average) e)) (round-number binary32 false (sum t) most-counts);
-      low = ap (λ f. length (f .low)) e ∙ counts-length low-count 0 t;
-      thousands = ap (λ f. length (f .thousands)) e ∙ thousands-length thousand-count 0 t;
+      number = subst (λ x. T (not (isNan x))) (sym (ap (λ f. f .average) e)) (round-number binary32 false (sum t) average-divisor);
+      low = ap (λ f. length (f .low)) e ∙ counts-length low-counts 0 t;
+      thousands = ap (λ f. length (f .thousands)) e ∙ thousands-length sums-of-thousands 0 t;
     }
 
 -- the counts of a tally that final sums up
@@ -92,7 +92,7 @@ after-refused zero t before h = absurd (h refl)
 after-refused (suc n) t before h = refl
 
 -- the summary written in its parts: two numbers, then the counts, then the sums
-pub written : (b m : ℕ) (counts sums to x y : List ℕ) → length counts ≡ low-count → length sums ≡ thousand-count → summary-size ≤ length to
+pub written : (b m : ℕ) (counts sums to x y : List ℕ) → length counts ≡ low-counts → length sums ≡ sums-of-thousands → summary-size ≤ length to
     → x ≡ paste (set (set to 0 b) 1 m) 2 counts (length counts) → y ≡ paste x 130 sums (length sums) → y ≡ (b ∷ m ∷ (counts ++ sums)) ++ drop summary-size to
 written b m counts sums [] x y el es h ex ey = absurd (omega arith)
 written b m counts sums (p ∷ []) x y el es h ex ey = absurd (omega arith)

@@ -14,9 +14,9 @@ ghost use Rattle.summary.specs.Layout.{summary-size, summary-numbers, su
 // The numbers of a summary: the average's 32 bits, the median, from LOW_AT on the low counts, and from SUMS_AT on the sums of thousands.
 const LOW_AT: usize = 2;
 
-const SUMS_AT: usize = LOW_AT + figures::LOW;
+const SUMS_AT: usize = LOW_AT + rules::LOW_COUNTS;
 
-const SIZE: usize = SUMS_AT + figures::THOUSANDS;
+const SIZE: usize = SUMS_AT + rules::SUMS_OF_THOUSANDS;
 
 // The greatest sum of a tally's counts.
 const MOST: u32 = rules::MOST_PLACES as u32;
@@ -25,8 +25,8 @@ const MOST: u32 = rules::MOST_PLACES as u32;
 pub struct Summary {
     pub average: f32,
     pub median: u32,
-    pub low: [u32; figures::LOW],
-    pub thousands: [u32; figures::THOUSANDS],
+    pub low: [u32; rules::LOW_COUNTS],
+    pub thousands: [u32; rules::SUMS_OF_THOUSANDS],
 }
 
 // The summary of a tally.

@@ -1,4 +1,4 @@
-"""Execution orders of circuits, by the proved libraries. (Host code: not proved; what it calls is.)
+"""Host code, not proved: execution orders of circuits, by the proved libraries.
 
     from witness_order import Calls, replay, run_job
 

@@ -1,4 +1,4 @@
-"""A list of calls made on a fresh session. (Host code: not proved; `replay_calls`, which runs them, is.)"""
+"""Host code, not proved: a list of calls made on a fresh session, by the proved `replay_calls`."""
 import ctypes
 
 from . import layout

@@ -1,4 +1,4 @@
-"""A job run by one call. (Host code: not proved; `order_job`, which runs it, is.)"""
+"""Host code, not proved: a job run by one call of the proved `order_job`."""
 import collections
 import ctypes
 

@@ -1,4 +1,4 @@
-"""How the libraries lay numbers out in storage; nothing else here knows these figures. (Host code: not proved.)
+"""Host code, not proved: how the libraries lay numbers out in storage; nothing else here knows these figures.
 
 docs/REPLAY.md has the same table."""
 import collections

@@ -1,4 +1,4 @@
-"""The shared library, found or linked, and its functions with C's types. (Host code: not proved.)"""
+"""Host code, not proved: the shared library, found or linked, and its functions with C's types."""
 import ctypes
 import functools
 import glob

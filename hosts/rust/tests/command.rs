@@ -1,7 +1,7 @@
 //! Host code, not proved: the program `order-large` as a command: options, exit status, what it says.
 
 use std::fs::{self, File};
-use std::io::Write;
+use std::io::{Read, Write};
 use std::path::PathBuf;
 use std::process::{Command, Output, Stdio};
 
@@ -271,21 +271,39 @@ fn closed_streams_are_said() {
 }
 
 #[test]
-fn a_reader_that_goes_ends_it_quietly() {
+fn a_reader_that_goes_is_said() {
     let adds: String = (1..20_000)
         .map(|x| format!("in={}\nout={x}\n", x - 1))
         .collect();
     let job = format!("parallelism=4\nplaces=20000\nset=0\n{adds}final=1\n");
     let path = file("pipe.job", job.as_bytes());
-    let mut command = order_large(&[path.to_str().unwrap()]);
+    let path = path.to_str().unwrap();
+    let sentence = "order-large: standard output was closed before all was written\n";
+    // Its one reader ends before anything is written.
+    let unread = |words: &str| {
+        shell(&format!(
+            "exec 3>&1; {{ sleep 0.2; \"$0\" {words}; echo $? >&3; }} | exec true"
+        ))
+    };
+    for words in ["FILE", "--dry-run FILE", "--help", "--version"] {
+        let said = (0, "2\n".to_owned(), sentence.to_owned());
+        let words = words.replace("FILE", &format!("'{path}'"));
+        assert_eq!(unread(&words), said, "{words}");
+    }
+    // And one that goes in the middle: no pipe holds a listing so long.
+    let mut command = order_large(&[path]);
     let mut child = command
         .stdout(Stdio::piped())
         .stderr(Stdio::piped())
         .spawn()
         .unwrap();
-    drop(child.stdout.take());
+    let mut start = [0; 9];
+    let mut reader = child.stdout.take().unwrap();
+    reader.read_exact(&mut start).unwrap();
+    drop(reader);
+    assert_eq!(&start, b"status=0\n");
     let (status, _, said) = told(child.wait_with_output().unwrap());
-    assert_eq!((status, said.as_str()), (2, ""));
+    assert_eq!((status, said.as_str()), (2, sentence));
 }
 
 #[test]
@@ -316,11 +334,13 @@ fn a_dry_run_says_the_memory_and_places_nothing() {
         run(&["--dry-run"], "parallelism=0\nplaces=1\n"),
         (1, "status=1\nline=2\n".to_owned(), String::new())
     );
-    let (status, text, _) = run(&["--dry-run"], "parallelism=1\nplaces=1\nset=0\nnonsense\n");
-    assert!(
-        status == 1 && text.ends_with("status=15\nline=4\n") && text.contains("calls=1\n"),
-        "{text}"
+    assert_eq!(
+        run(&["--dry-run"], "parallelism=1\nplaces=1\nset=0\nnonsense\n"),
+        (1, "status=15\nline=4\n".to_owned(), String::new())
     );
+    // What only a call finds is not looked for.
+    let (status, text, _) = run(&["--dry-run"], "parallelism=1\nplaces=1\nset=9\nfinal=1\n");
+    assert!(status == 0 && text.starts_with("parallelism=1\n"), "{text}");
 }
 
 /// With less memory than a job needs it says so. `prlimit` is a part of util-linux.

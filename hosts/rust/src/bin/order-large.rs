@@ -44,11 +44,8 @@ enum Command {
     Print(String),
 }
 
-/// What ends the program with status 2: a sentence, or none for a reader that has gone.
-enum Stop {
-    Said(String),
-    Quiet,
-}
+/// The sentence with which the program ends, its status 2.
+struct Stop(String);
 
 // ---- Streams that are closed
 
@@ -77,7 +74,7 @@ static LOOK_FIRST: extern "C" fn() = look_at_streams;
 /// Standard input, unless it was closed.
 fn input() -> Result<io::StdinLock<'static>, Stop> {
     match CLOSED[0].load(Ordering::Relaxed) {
-        true => Err(Stop::Said(
+        true => Err(Stop(
             "standard input cannot be read: it is closed".to_owned(),
         )),
         false => Ok(io::stdin().lock()),
@@ -87,7 +84,7 @@ fn input() -> Result<io::StdinLock<'static>, Stop> {
 /// Standard output, unless it was closed.
 fn output() -> Result<io::StdoutLock<'static>, Stop> {
     match CLOSED[1].load(Ordering::Relaxed) {
-        true => Err(Stop::Said(
+        true => Err(Stop(
             "standard output cannot be written: it is closed".to_owned(),
         )),
         false => Ok(io::stdout().lock()),
@@ -100,18 +97,17 @@ fn main() -> ExitCode {
     let words = std::env::args_os().skip(1).map(|word| word.into_string());
     let ended = match words.collect::<Result<Vec<String>, _>>() {
         Ok(words) => command(&words).and_then(carry_out),
-        Err(word) => Err(Stop::Said(format!(
+        Err(word) => Err(Stop(format!(
             "the argument {} is no text in UTF-8",
             word.to_string_lossy()
         ))),
     };
     match ended {
         Ok(status) => status,
-        Err(Stop::Said(sentence)) => {
+        Err(Stop(sentence)) => {
             say(format_args!("order-large: {sentence}"));
             ExitCode::from(2)
         }
-        Err(Stop::Quiet) => ExitCode::from(2),
     }
 }
 
@@ -121,7 +117,7 @@ fn say(line: fmt::Arguments) {
 }
 
 fn misused(sentence: String) -> Stop {
-    Stop::Said(format!("{sentence}; see order-large --help"))
+    Stop(format!("{sentence}; see order-large --help"))
 }
 
 fn command(words: &[String]) -> Result<Command, Stop> {
@@ -217,11 +213,11 @@ fn carry_out(command: Command) -> Result<ExitCode, Stop> {
 }
 
 fn open(path: &str) -> Result<(File, Option<u64>), Stop> {
-    let cannot = |error: io::Error| Stop::Said(format!("{path} cannot be read: {error}"));
+    let cannot = |error: io::Error| Stop(format!("{path} cannot be read: {error}"));
     let file = File::open(path).map_err(cannot)?;
     let about = file.metadata().map_err(cannot)?;
     if about.is_dir() {
-        return Err(Stop::Said(format!("{path} is a directory, not a job")));
+        return Err(Stop(format!("{path} is a directory, not a job")));
     }
     let length = about.is_file().then_some(about.len());
     Ok((file, length))
@@ -229,10 +225,12 @@ fn open(path: &str) -> Result<(File, Option<u64>), Stop> {
 
 fn stop(failure: Failure, name: &str) -> Stop {
     match failure {
-        Failure::Input(error) => Stop::Said(format!("{name} cannot be read: {error}")),
-        Failure::Output(error) if error.kind() == io::ErrorKind::BrokenPipe => Stop::Quiet,
-        Failure::Output(error) => Stop::Said(format!("standard output cannot be written: {error}")),
-        Failure::Memory(_) => Stop::Said(failure.to_string()),
+        Failure::Input(error) => Stop(format!("{name} cannot be read: {error}")),
+        Failure::Output(error) if error.kind() == io::ErrorKind::BrokenPipe => {
+            Stop("standard output was closed before all was written".to_owned())
+        }
+        Failure::Output(error) => Stop(format!("standard output cannot be written: {error}")),
+        Failure::Memory(_) => Stop(failure.to_string()),
     }
 }
 
@@ -245,33 +243,30 @@ fn print(text: &str) -> Result<ExitCode, Stop> {
     }
 }
 
-/// Says the memory that a job takes, in bytes.
+/// Says the memory that a job takes, in bytes, or that its head or a line of it is refused.
 fn dry_run(
     input: impl io::BufRead,
     mut out: impl Write,
     asked: &Asked,
     progress: &mut dyn Progress,
 ) -> Result<Result<(), Rejection>, Failure> {
-    let (text, verdict) = match large::read(input, progress)? {
-        Ok(job) => (
-            memory_text(&job, &asked.options),
-            job.ended.map_err(Rejection::from),
-        ),
-        Err(rejection) => (String::new(), Err(rejection)),
-    };
-    let refused = match &verdict {
+    let verdict = large::read(input, progress)?.and_then(|job| {
+        let text = memory_text(&job, &asked.options);
+        job.ended.map(|()| text).map_err(Rejection::from)
+    });
+    let text = match &verdict {
+        Ok(text) => text.clone(),
         Err(rejection) => format!(
             "status={}\nline={}\n",
             rejection.refusal.number(),
             rejection.line
         ),
-        Ok(()) => String::new(),
     };
-    let written = out.write_all((text + &refused).as_bytes());
+    let written = out.write_all(text.as_bytes());
     written
         .and_then(|()| out.flush())
         .map_err(Failure::Output)?;
-    Ok(verdict)
+    Ok(verdict.map(|_| ()))
 }
 
 fn memory_text(job: &Job, options: &Options) -> String {

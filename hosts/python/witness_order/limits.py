@@ -1,0 +1,22 @@
+"""Host code, not proved. Written by tools/refusals.py from crates/rules/specs/Limits.antt.
+
+The limits of the specification under the names that the definitions have; what each is stands there."""
+
+MOST_PARALLELISM = 64_999
+MOST_PLACES = 16_777_216
+MOST_IN_A_LIST = 65_535
+MOST_FLUSHES = 65_535
+LEAST_FLAGGED = 4_611_686_018_427_387_904
+LAST_SPAN_LIMIT = 4_294_967_264
+MARK_WRITTEN = 32_768
+MARK_SET = 49_152
+LOCATION_RADIX = 4_294_967_296
+AVERAGE_DIVISOR = 65_000
+LOW_COUNTS = 128
+SUMS_OF_THOUSANDS = 65
+MOST_JOB_BYTES = 65_536
+PROGRAM_LISTING_BYTES = 65_536
+REPLY_RADIX = 64
+JOB_PARALLELISM = 64
+JOB_PLACES = 512
+JOB_POOL = 4_096
