@@ -1,8 +1,8 @@
 #!/usr/bin/env python3
 """Host code, not proved: long lines of specs and proofs, broken where a reader would break them.
 
-    tools/lines.py --check      names each line of an .antt file that is longer than 200; on a finding the status is 1
-    tools/lines.py CRATE..      breaks such lines of these crates
+    tools/lines.py --check      names each line of an .antt or .rt file that is longer than 200; on a finding the status is 1
+    tools/lines.py CRATE..      breaks such lines of these crates' .antt files, and names those of their code
 
 A clause's body goes below its left side, and each `let` on a line of its own. Then what is still too long is broken: a
 record or a list in brackets by its members, a type at its arrows, a chain of equations at its `∙`, and an application
@@ -172,13 +172,18 @@ def too_long(path):
     return [(at, len(line)) for at, line in enumerate(lines, 1) if len(line) > WIDE]
 
 
+def code_of(crate="*"):
+    """The code of a crate, or of all, with its contracts: their lines are broken by hand."""
+    return sorted((ROOT / "crates").glob(f"{crate}/src/**/*.rt"))
+
+
 def check():
-    found = [f"{path.relative_to(ROOT)}:{at}: {length} characters" for path in files_of()
-             if path.relative_to(ROOT).parts[1] not in GENERATED for at, length in too_long(path)]
+    written = [path for path in files_of() if path.relative_to(ROOT).parts[1] not in GENERATED]
+    found = [f"{path.relative_to(ROOT)}:{at}: {length} characters" for path in written + code_of() for at, length in too_long(path)]
     for line in found:
         print(line)
     if found:
-        sys.exit(f"lines: {len(found)} are longer than {WIDE} (tools/lines.py CRATE breaks those of a crate)")
+        sys.exit(f"lines: {len(found)} are longer than {WIDE} (tools/lines.py CRATE breaks those of a crate's specs and proofs)")
 
 
 def main(arguments):
@@ -198,6 +203,9 @@ def main(arguments):
                 break
         for at, length in too_long(path):
             print(f"{path.relative_to(ROOT)}:{at}: {length} characters: no place to break it was found")
+    for path in (path for crate in crates for path in code_of(crate)):
+        for at, length in too_long(path):
+            print(f"{path.relative_to(ROOT)}:{at}: {length} characters: lines of code are broken by hand")
 
 
 if __name__ == "__main__":

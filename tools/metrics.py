@@ -20,7 +20,6 @@ import sources
 import unused
 
 FUNCTION = re.compile(r'(?m)^(?:pub )?(?:extern "C" )?fn (\w+)')
-CLAUSE = re.compile(r"^\s*(?:requires|ensures|decreases)\b")
 # Each layout: how it is spelled, and the crates that may.
 PLACES = r"(?:v|\(?\w+ ?\.v\)?)"
 LAYOUTS = {
@@ -47,11 +46,12 @@ def functions(crate):
                 continue
             end = next((index for index in range(at, len(lines)) if lines[index] == "}"), len(lines) - 1)
             whole = lines[at : end + 1]
-            clauses = [text.strip() for text in whole if CLAUSE.match(text)]
+            clauses = sources.CLAUSE.findall("\n".join(whole))
+            promised = sum(clause.count("\n") + 1 for clause in clauses)
             head = "\n".join(whole).split("(", 1)[1].split(")", 1)[0]
             parameters = [word for word in re.split(r",(?![^\[]*\])", head) if word.strip()]
             place = f"{path.relative_to(crate.root)}:{at + 1} {found[1]}"
-            yield Function(found[1], place, len(whole) - len(clauses), len(parameters), len(" ".join(clauses)))
+            yield Function(found[1], place, len(whole) - promised, len(parameters), len(" ".join(" ".join(clauses).split())))
 
 
 def spelled(crate):

@@ -15,6 +15,8 @@ KIT = ("check", "io", "libc", "os", "bytes")  # the toolchain's libraries that a
 MODIFIERS = ("pub", "abbrev", "unfoldable", "axiom", "opaque", "private", "instance")
 # A word of a specification, with the dots in it: `tie.close`, `.before`, `x.` after a λ.
 WORD = re.compile(r'[^\s(){};,@"«»]+')
+# A clause of a contract, which may take several lines: up to a bracket at the end of one.
+CLAUSE = re.compile(r"^ *(?:requires|ensures|decreases)\b.*?\}$", re.M | re.S)
 IMPORT = re.compile(r"^\s*(?:ghost )?use (Rattle·)?(\S+?)(?:\.\{(.*)\}| as (\S+?))?;?$")
 
 

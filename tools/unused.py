@@ -161,7 +161,7 @@ def unused_declarations(root, crates):
 
 def code_of(text):
     """A source's code: without contracts' imports, and without clauses."""
-    return re.sub(r"(?m)^\s*(ghost|requires|ensures|decreases|invariant)\b.*$", "", text)
+    return sources.CLAUSE.sub("", re.sub(r"(?m)^\s*ghost\b.*$", "", text))
 
 
 def unused_items(root, crates):

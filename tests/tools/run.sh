@@ -186,6 +186,9 @@ says 1 'crates/base/specs/Base.antt:16: ' "$toy/tools/lines.py" --check
 "$toy/tools/lines.py" base
 "$toy/tools/lines.py" --check || fail "lines: one is still too long"
 [ "$(tail -n +16 "$toy/crates/base/specs/Base.antt" | tr -s ' \n' '  ')" = "wide n = n$long " ] || fail "a broken line says something else"
+echo "// $long" >>"$toy/crates/base/src/lib.rt"
+says 1 'crates/base/src/lib.rt:7: ' "$toy/tools/lines.py" --check
+says 0 'crates/base/src/lib.rt:7: ' "$toy/tools/lines.py" base
 says 1 'crates/mid/proofs/twice' "$toy/tools/places.py" --check
 for tool in lines places; do
   says 2 "tools/$tool.py: a crate is needed" "$toy/tools/$tool.py"

@@ -4,7 +4,7 @@ ghost use mathlib.Core.Path.{_≡_};
 ghost use Prim.Native.Nat.{_+_, _≤_, _<_};
 ghost use lib.ListN.{length};
 ghost use Rattle.rules.specs.Checks.{waiting-needed};
-ghost use Rattle.session.specs.Storage.{given, before, after};
+ghost use Rattle.session.specs.Storage.{given, across};
 ghost use Rattle.session.specs.Settle.{MaySettle};
 ghost use Rattle.admitting.specs.Linking.{LinksNew};
 ghost use Rattle.admitting.specs.Admitted.{counted, Places, AsksSet, AdmitsSet, AsksAdd, AdmitsAdd};
@@ -121,7 +121,7 @@ pub fn place_admitted(
     a: Admitted,
 ) -> Session
     requires { ⌜ MaySettle (s .added) (counted s a) (given spans order tally rows marks locations waiting pool) (a .top) ⌝ }
-    ensures { λ r. ⌜ Places s a r (before spans order tally rows marks locations waiting pool) (after spans order tally rows marks locations waiting pool) ⌝ }
+    ensures { λ r. ⌜ across spans order tally rows marks locations waiting pool (λ σ τ. Places s a r σ τ) ⌝ }
 {
     let mut z = s;
     z.watermark = a.watermark;

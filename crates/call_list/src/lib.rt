@@ -2,7 +2,7 @@
 ghost use mathlib.Core.Path.{_≡_};
 ghost use Prim.Native.Nat.{_+_, _<_};
 ghost use lib.ListN.{getD};
-ghost use Rattle.session.specs.Storage.{given, before, after};
+ghost use Rattle.session.specs.Storage.{given, across};
 ghost use Rattle.admitting.specs.Promise.{Asks};
 ghost use Rattle.opening.specs.Opened.{first-session};
 ghost use Rattle.call_runs.specs.Made.{Made, Readable};
@@ -28,7 +28,7 @@ fn make_end(
 ) -> Answer
     requires { ⌜ Asks s (given spans order tally rows marks locations waiting pool) ⌝ }
     requires { ⌜ (Readable (now calls) at) × (2 < getD (now calls) at 0) ⌝ }
-    ensures { λ r. ⌜ Made (now (calls .entry)) at (r .number) (at + 1) s (r .session) (before spans order tally rows marks locations waiting pool) (after spans order tally rows marks locations waiting pool) ⌝ }
+    ensures { λ r. ⌜ across spans order tally rows marks locations waiting pool (λ σ τ. Made (now (calls .entry)) at (r .number) (at + 1) s (r .session) σ τ) ⌝ }
 {
     if calls[at] == encoding::FLUSH {
         return sorter::flush(
@@ -74,7 +74,8 @@ fn run_past(
     done: usize,
 ) -> Run
     requires { ⌜ MayPass (now calls) s (given spans order tally rows marks locations waiting pool) (now answers) at done ⌝ }
-    ensures { λ r. ⌜ Passes (now (calls .entry)) s (before spans order tally rows marks locations waiting pool) (now (answers .entry)) at done (r .session) (after spans order tally rows marks locations waiting pool) (now (answers .exit)) (r .at) (r .made) ⌝ }
+    ensures { λ r. ⌜ across spans order tally rows marks locations waiting pool
+        (λ σ τ. Passes (now (calls .entry)) s σ (now (answers .entry)) at done (r .session) τ (now (answers .exit)) (r .at) (r .made)) ⌝ }
 {
     let d = make_end(
         s,
@@ -122,7 +123,7 @@ fn run_calls(
     calls: &[u64],
 ) -> Session
     requires { ⌜ MayRun (now calls) s (given spans order tally rows marks locations waiting pool) (now answers) ⌝ }
-    ensures { λ r. ⌜ Runs (now (calls .entry)) s (before spans order tally rows marks locations waiting pool) (now (answers .entry)) r (after spans order tally rows marks locations waiting pool) (now (answers .exit)) ⌝ }
+    ensures { λ r. ⌜ across spans order tally rows marks locations waiting pool (λ σ τ. Runs (now (calls .entry)) s σ (now (answers .entry)) r τ (now (answers .exit))) ⌝ }
 {
     let mut r = call_runs::run_open(
         s,
@@ -186,7 +187,7 @@ pub fn replay(
     p: u64,
     v: u64,
 ) -> Answer
-    ensures { λ r. ⌜ Replays p v (now (calls .entry)) (r .number) (r .session) (before spans order tally rows marks locations waiting pool) (after spans order tally rows marks locations waiting pool) (now (answers .entry)) (now (answers .exit)) ⌝ }
+    ensures { λ r. ⌜ across spans order tally rows marks locations waiting pool (λ σ τ. Replays p v (now (calls .entry)) (r .number) (r .session) σ τ (now (answers .entry)) (now (answers .exit))) ⌝ }
 {
     let c = encoding::count_calls(calls);
     if !c.well {

@@ -1,5 +1,5 @@
 -- What making one call of an encoded list promises: the call is the one that the numbers say, and the numbers that follow it are found.
--- Definitions only. Assumes nothing.
+-- Assumes nothing.
 use mathlib.Core.Path.{_≡_}
 use mathlib.Core.List.{List}
 use mathlib.Core.Option.{some}
@@ -8,9 +8,9 @@ use lib.ListN.{length, drop}
 use Rattle.rules.specs.Calls.{Call}
 use Rattle.rules.specs.Encoding.{front, Front}
 use Rattle.session.specs.declared.Session.{Session}
-use Rattle.session.specs.Storage.{Storage}
+use Rattle.session.specs.Storage.{Storage, with-admitted}
 use Rattle.admitting.specs.declared.Admitted.{Admitted}
-use Rattle.admitting.specs.Promise.{Called}
+use Rattle.admitting.specs.Promise.{Asks, Called}
 use Rattle.admitting.specs.Admitted.{Admits}
 
 -- a call starts at `at`
@@ -34,3 +34,22 @@ pub record AdmitsAt (l : List ℕ) (at : ℕ) (a : Admitted) (next : ℕ) (s : S
   pub past : at < next
   pub within : next ≤ length l
   pub admits : Admits call s a σ τ
+
+-- The same of the slices that a set or an add touches before anything is placed: marks, waiting storage and pool. It is asked of some
+-- storage with these contents, and promised of every one.
+pub record AsksCall (s : Session) (m w pool : List ℕ) : Type 0 where
+  pub around : Storage
+  pub asks : Asks s (with-admitted around m w pool)
+
+abbrev pub AdmitsCall : List ℕ → ℕ → Admitted → ℕ → Session → List ℕ → List ℕ → List ℕ → List ℕ → List ℕ → List ℕ → Type 0
+AdmitsCall l at a next s m w pool m′ w′ pool′ =
+    (σ : Storage) → Asks s (with-admitted σ m w pool) → AdmitsAt l at a next s (with-admitted σ m w pool) (with-admitted σ m′ w′ pool′)
+
+-- where a whole storage is at hand
+module _ {s : Session} {σ : Storage} (q : Asks s σ) where
+  pub call-asked : AsksCall s (σ .marks) (σ .waiting) (σ .pool)
+  call-asked = record { around = σ; asks = q }
+
+  pub call-admitted : {l : List ℕ} {at next : ℕ} {a : Admitted} {m w pool : List ℕ} →
+      AdmitsCall l at a next s (σ .marks) (σ .waiting) (σ .pool) m w pool → AdmitsAt l at a next s σ (with-admitted σ m w pool)
+  call-admitted h = h σ q

@@ -1,9 +1,8 @@
 // The sets and adds of an encoded list, made one after another on a session, up to the first flush or final.
 ghost use Prim.Native.Nat.{_≤_};
 ghost use lib.ListN.{getD};
-ghost use Rattle.session.specs.Storage.{given, before, after};
-ghost use Rattle.admitting.specs.Promise.{Asks};
-ghost use Rattle.call_runs.specs.Made.{Readable, AdmitsAt};
+ghost use Rattle.session.specs.Storage.{given, across};
+ghost use Rattle.call_runs.specs.Made.{Readable, AsksCall, AdmitsCall};
 ghost use Rattle.call_runs.specs.Continuing.{MayContinue, Continues};
 use admitting::Admitted;
 use session::Session;
@@ -25,20 +24,16 @@ pub struct Run {
 // outputs, each list with its count before it.
 fn admit_call(
     s: Session,
-    spans: &[u32],
-    order: &[u32],
-    tally: &[u32],
-    rows: &[u32],
     marks: &mut [u16],
-    locations: &[u64],
     waiting: &mut [u64],
     pool: &mut [u32],
     calls: &[u64],
     at: usize,
 ) -> Admission
-    requires { ⌜ Asks s (given spans order tally rows marks locations waiting pool) ⌝ }
+    requires { ⌜ AsksCall s (now marks) (now waiting) (now pool) ⌝ }
     requires { ⌜ (Readable (now calls) at) × (getD (now calls) at 0 ≤ 2) ⌝ }
-    ensures { λ r. ⌜ AdmitsAt (now (calls .entry)) at (r .admitted) (r .next) s (before spans order tally rows marks locations waiting pool) (after spans order tally rows marks locations waiting pool) ⌝ }
+    ensures { λ r. ⌜ AdmitsCall (now (calls .entry)) at (r .admitted) (r .next) s (now (marks .entry)) (now (waiting .entry)) (now (pool .entry))
+        (now (marks .exit)) (now (waiting .exit)) (now (pool .exit)) ⌝ }
 {
     if calls[at] == encoding::SET {
         let x = calls[at + 1];
@@ -77,7 +72,8 @@ pub fn run_open(
     done: usize,
 ) -> Run
     requires { ⌜ MayContinue (now calls) s (given spans order tally rows marks locations waiting pool) (now answers) from done ⌝ }
-    ensures { λ r. ⌜ Continues (now (calls .entry)) s (before spans order tally rows marks locations waiting pool) (now (answers .entry)) from done (r .session) (after spans order tally rows marks locations waiting pool) (now (answers .exit)) (r .at) (r .made) ⌝ }
+    ensures { λ r. ⌜ across spans order tally rows marks locations waiting pool
+        (λ σ τ. Continues (now (calls .entry)) s σ (now (answers .entry)) from done (r .session) τ (now (answers .exit)) (r .at) (r .made)) ⌝ }
 {
     let mut z = s;
     let mut at = from;
@@ -86,19 +82,7 @@ pub fn run_open(
         if encoding::ADD < calls[at] {
             break;
         }
-        let d = admit_call(
-            z,
-            spans,
-            order,
-            tally,
-            rows,
-            marks,
-            locations,
-            waiting,
-            pool,
-            calls,
-            at,
-        );
+        let d = admit_call(z, marks, waiting, pool, calls, at);
         let a = d.admitted;
         answers[n] = a.number;
         if a.number == 0 {

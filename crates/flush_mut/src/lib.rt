@@ -2,7 +2,7 @@
 // the same promise. A refused call leaves session and storage as they were.
 ghost use mathlib.Core.Path.{_≡_};
 ghost use Rattle.rules.specs.Calls.{flush as flush-call};
-ghost use Rattle.session.specs.Storage.{given, before, after};
+ghost use Rattle.session.specs.Storage.{given, across};
 ghost use Rattle.summary.specs.Figured.{figured};
 ghost use Rattle.admitting.specs.Promise.{Asks, Called};
 ghost use Rattle.sorter.specs.FinalWork.{Concludes};
@@ -22,7 +22,7 @@ pub fn flush(
     pool: &mut [u32],
 ) -> u64
     requires { ⌜ Asks (now s) (given spans order tally rows marks locations waiting pool) ⌝ }
-    ensures { λ r. ⌜ Called flush-call r (now (s .entry)) (now (s .exit)) (before spans order tally rows marks locations waiting pool) (after spans order tally rows marks locations waiting pool) ⌝ }
+    ensures { λ r. ⌜ across spans order tally rows marks locations waiting pool (λ σ τ. Called flush-call r (now (s .entry)) (now (s .exit)) σ τ) ⌝ }
 {
     let a = sorter::flush(
         *s,
@@ -52,7 +52,8 @@ pub fn finish(
     pool: &mut [u32],
 ) -> Finished
     requires { ⌜ Asks (now s) (given spans order tally rows marks locations waiting pool) ⌝ }
-    ensures { λ r. ⌜ (Concludes (r .number) (now (s .entry)) (now (s .exit)) (before spans order tally rows marks locations waiting pool) (after spans order tally rows marks locations waiting pool) (figured (r .summary))) × (r .session ≡ now (s .exit)) ⌝ }
+    ensures { λ r. ⌜ (across spans order tally rows marks locations waiting pool (λ σ τ. Concludes (r .number) (now (s .entry)) (now (s .exit)) σ τ (figured (r .summary))))
+        × (r .session ≡ now (s .exit)) ⌝ }
 {
     let a = sorter::finish(
         *s,

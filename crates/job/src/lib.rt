@@ -1,6 +1,6 @@
 // A job run on a session: its head, opening, then call by call to its end.
 ghost use lib.ListN.{length};
-ghost use Rattle.session.specs.Storage.{given, before, after};
+ghost use Rattle.session.specs.Storage.{given, across};
 ghost use Rattle.job.specs.Run.{MayRun, Runs, Room, Ran};
 use jobcalls::Head;
 use jobturn::End;
@@ -23,7 +23,7 @@ fn run_calls(
     start: usize,
 ) -> End
     requires { ⌜ MayRun s (given spans order tally rows marks locations waiting pool) (now job) (length (now into)) start ⌝ }
-    ensures { λ r. ⌜ Runs s (before spans order tally rows marks locations waiting pool) (now (job .entry)) start r (after spans order tally rows marks locations waiting pool) (now (into .entry)) (now (into .exit)) ⌝ }
+    ensures { λ r. ⌜ across spans order tally rows marks locations waiting pool (λ σ τ. Runs s σ (now (job .entry)) start r τ (now (into .entry)) (now (into .exit))) ⌝ }
 {
     let mut session = s;
     let mut at = start;
@@ -73,7 +73,7 @@ pub fn run(
     job: &[u8],
 ) -> End
     requires { ⌜ Room (given spans order tally rows marks locations waiting pool) (length (now into)) ⌝ }
-    ensures { λ r. ⌜ Ran (now (job .entry)) r (before spans order tally rows marks locations waiting pool) (after spans order tally rows marks locations waiting pool) (now (into .entry)) (now (into .exit)) ⌝ }
+    ensures { λ r. ⌜ across spans order tally rows marks locations waiting pool (λ σ τ. Ran (now (job .entry)) r σ τ (now (into .entry)) (now (into .exit))) ⌝ }
 {
     if job.len() > rules::MOST_JOB_BYTES {
         let code = rules::LONG_JOB;

@@ -1,7 +1,7 @@
 // One turn of a job: its next call is read and made.
 ghost use Prim.Native.Nat.{_+_, _≤_, _<_, _^_};
 ghost use lib.ListN.{length};
-ghost use Rattle.session.specs.Storage.{given, before, after};
+ghost use Rattle.session.specs.Storage.{given, across};
 ghost use Rattle.admitting.specs.Promise.{Asks, Called};
 ghost use Rattle.jobcalls.specs.Told.{call-of, taken-by};
 ghost use Rattle.jobturn.specs.Turned.{AfterCall, AfterFinal, MayTurn, Turned};
@@ -25,7 +25,7 @@ fn make(
     call: Call,
 ) -> Answer
     requires { ⌜ (Asks s (given spans order tally rows marks locations waiting pool)) × (taken-by call ≤ length (now numbers)) ⌝ }
-    ensures { λ r. ⌜ Called (call-of call (now (numbers .entry))) (r .number) s (r .session) (before spans order tally rows marks locations waiting pool) (after spans order tally rows marks locations waiting pool) ⌝ }
+    ensures { λ r. ⌜ across spans order tally rows marks locations waiting pool (λ σ τ. Called (call-of call (now (numbers .entry))) (r .number) s (r .session) σ τ) ⌝ }
 {
     match call {
         Call::Set { place } => sorter::set(
@@ -157,7 +157,7 @@ pub fn run_call(
     line: u64,
 ) -> Turn
     requires { ⌜ MayTurn s (given spans order tally rows marks locations waiting pool) (now job) (length (now into)) at line ⌝ }
-    ensures { λ r. ⌜ Turned (now (job .entry)) at line s (r .step) (r .session) (before spans order tally rows marks locations waiting pool) (after spans order tally rows marks locations waiting pool) (now (into .entry)) (now (into .exit)) ⌝ }
+    ensures { λ r. ⌜ across spans order tally rows marks locations waiting pool (λ σ τ. Turned (now (job .entry)) at line s (r .step) (r .session) σ τ (now (into .entry)) (now (into .exit))) ⌝ }
 {
     let read = jobcalls::next_call(job, at, line, into);
     match read {

@@ -16,7 +16,8 @@ pub extern "C" fn order_append_new(
     from: usize,
     to: usize,
 ) -> u64
-    ensures { λ r. ⌜ (r ≡ check-new (length (now (order .entry))) (now (flat .entry)) from to) × (now (order .exit) ≡ unless-refused r (now (order .entry)) (copied (now (order .entry)) (now (flat .entry)) from to)) ⌝ }
+    ensures { λ r. ⌜ (r ≡ check-new (length (now (order .entry))) (now (flat .entry)) from to)
+        × (now (order .exit) ≡ unless-refused r (now (order .entry)) (copied (now (order .entry)) (now (flat .entry)) from to)) ⌝ }
 {
     let n = order_copy::check_new(order.len(), flat, from, to);
     let end = order_copy::stop_at(n, from, to);

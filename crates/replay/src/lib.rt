@@ -1,6 +1,6 @@
 // An encoded list of calls on a fresh session, for hosts: crate call_list's `replay`, by one number.
 ghost use mathlib.Core.Path.{_≡_};
-ghost use Rattle.session.specs.Storage.{before, after};
+ghost use Rattle.session.specs.Storage.{across};
 ghost use Rattle.replay.specs.Exported.{by-number, written, Exported};
 
 // 64 times a count of the session, or the number of a refusal.
@@ -31,7 +31,7 @@ pub extern "C" fn replay_calls(
     p: u64,
     v: u64,
 ) -> u64
-    ensures { λ r. ⌜ Exported written p v (now (calls .entry)) r (before spans order tally rows marks locations waiting pool) (after spans order tally rows marks locations waiting pool) (now (answers .entry)) (now (answers .exit)) ⌝ }
+    ensures { λ r. ⌜ across spans order tally rows marks locations waiting pool (λ σ τ. Exported written p v (now (calls .entry)) r σ τ (now (answers .entry)) (now (answers .exit))) ⌝ }
 {
     let a = call_list::replay(
         spans,

@@ -36,8 +36,12 @@ before sp o t rs m l w pool = given (sp .entry) (o .entry) (t .entry) (rs .entry
 abbrev pub after : Borrowed → Borrowed → Borrowed → Borrowed → Borrowed → Borrowed → Borrowed → Borrowed → Storage
 after sp o t rs m l w pool = given (sp .exit) (o .exit) (t .exit) (rs .exit) (m .exit) (l .exit) (w .exit) (pool .exit)
 
+-- what is said of the storage before and after a function: a contract so names its slices once
+abbrev pub across : Borrowed → Borrowed → Borrowed → Borrowed → Borrowed → Borrowed → Borrowed → Borrowed → (Storage → Storage → Type 0) → Type 0
+across sp o t rs m l w pool said = said (before sp o t rs m l w pool) (after sp o t rs m l w pool)
+
 -- a storage with other contents in some of its slices: the waiting storage; the rows; marks and waiting storage, as a set writes them;
--- waiting storage and pool, as an add does; spans, order, tally and rows, as a release does
+-- waiting storage and pool, as an add does; all three, as either does; spans, order, tally and rows, as a release does
 abbrev pub with-waiting : Storage → List ℕ → Storage
 with-waiting σ w = storage (σ .spans) (σ .order) (σ .tally) (σ .rows) (σ .marks) (σ .locations) w (σ .pool)
 
@@ -49,6 +53,9 @@ with-marks σ m w = storage (σ .spans) (σ .order) (σ .tally) (σ .rows) m (σ
 
 abbrev pub with-lists : Storage → List ℕ → List ℕ → Storage
 with-lists σ w pool = storage (σ .spans) (σ .order) (σ .tally) (σ .rows) (σ .marks) (σ .locations) w pool
+
+abbrev pub with-admitted : Storage → List ℕ → List ℕ → List ℕ → Storage
+with-admitted σ m w pool = storage (σ .spans) (σ .order) (σ .tally) (σ .rows) m (σ .locations) w pool
 
 abbrev pub with-order : Storage → List ℕ → List ℕ → List ℕ → List ℕ → Storage
 with-order σ sp o t rs = storage sp o t rs (σ .marks) (σ .locations) (σ .waiting) (σ .pool)

@@ -5,7 +5,7 @@ ghost use Rattle.lists.specs.Part.{part};
 ghost use Rattle.records.specs.Filling.{rows-fit};
 ghost use Rattle.session.specs.Noting.{noted};
 ghost use Rattle.session.specs.Outputs.{location, Settling, Settled};
-ghost use Rattle.session.specs.Storage.{given, before, after};
+ghost use Rattle.session.specs.Storage.{given, across};
 ghost use Rattle.session.specs.PlaceNext.{MayPlace, PlacesOne, MayPlaceNext, PlacesNext};
 ghost use Rattle.session.specs.Settle.{MaySettle, Settles};
 ghost use Rattle.session.specs.PlaceOne.{MayFind, Finds};
@@ -130,7 +130,7 @@ fn place_one(
     c: u32,
 ) -> Moved
     requires { ⌜ MayPlace c (s .guide) (s .watermark) (s .added) (s .used) (given spans order tally rows marks locations waiting pool) r ⌝ }
-    ensures { λ z. ⌜ PlacesOne c r (s .guide) (s .watermark) (s .added) (s .used) (before spans order tally rows marks locations waiting pool) (z .guide) (z .watermark) (after spans order tally rows marks locations waiting pool) ⌝ }
+    ensures { λ z. ⌜ across spans order tally rows marks locations waiting pool (λ σ τ. PlacesOne c r (s .guide) (s .watermark) (s .added) (s .used) σ (z .guide) (z .watermark) τ) ⌝ }
 {
     let v = s.guide.v;
     let n = s.guide.written;
@@ -167,7 +167,7 @@ pub fn place_next(
     c: u32,
 ) -> CascadeTurn
     requires { ⌜ MayPlaceNext c s (given spans order tally rows marks locations waiting pool) top ⌝ }
-    ensures { λ z. ⌜ PlacesNext c s (before spans order tally rows marks locations waiting pool) top (z .session) (after spans order tally rows marks locations waiting pool) (z .top) ⌝ }
+    ensures { λ z. ⌜ across spans order tally rows marks locations waiting pool (λ σ τ. PlacesNext c s σ top (z .session) τ (z .top)) ⌝ }
 {
     let v = wide(s.guide.v);
     let r = top - 1;
@@ -220,7 +220,7 @@ pub fn settle(
     c: u32,
 ) -> Session
     requires { ⌜ MaySettle c s (given spans order tally rows marks locations waiting pool) top ⌝ }
-    ensures { λ z. ⌜ Settles c s (before spans order tally rows marks locations waiting pool) top z (after spans order tally rows marks locations waiting pool) ⌝ }
+    ensures { λ z. ⌜ across spans order tally rows marks locations waiting pool (λ σ τ. Settles c s σ top z τ) ⌝ }
 {
     let mut z = s;
     let mut t = top;

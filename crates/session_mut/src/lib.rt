@@ -1,7 +1,7 @@
 // set and add on a session that its caller keeps and lends by `&mut`: thin wrappers over the calls by value of crate sorter, each with
 // the same promise. A refused call leaves session and storage as they were.
 ghost use Rattle.rules.specs.Calls.{set as set-call, add as add-call};
-ghost use Rattle.session.specs.Storage.{given, before, after};
+ghost use Rattle.session.specs.Storage.{given, across};
 ghost use Rattle.admitting.specs.Promise.{Asks, Called};
 use session::Session;
 
@@ -19,7 +19,7 @@ pub fn set(
     x: u64,
 ) -> u64
     requires { ⌜ Asks (now s) (given spans order tally rows marks locations waiting pool) ⌝ }
-    ensures { λ r. ⌜ Called (set-call x) r (now (s .entry)) (now (s .exit)) (before spans order tally rows marks locations waiting pool) (after spans order tally rows marks locations waiting pool) ⌝ }
+    ensures { λ r. ⌜ across spans order tally rows marks locations waiting pool (λ σ τ. Called (set-call x) r (now (s .entry)) (now (s .exit)) σ τ) ⌝ }
 {
     let a = sorter::set(
         *s,
@@ -52,7 +52,7 @@ pub fn add(
     outs: &[u64],
 ) -> u64
     requires { ⌜ Asks (now s) (given spans order tally rows marks locations waiting pool) ⌝ }
-    ensures { λ r. ⌜ Called (add-call (now (ins .entry)) (now (outs .entry))) r (now (s .entry)) (now (s .exit)) (before spans order tally rows marks locations waiting pool) (after spans order tally rows marks locations waiting pool) ⌝ }
+    ensures { λ r. ⌜ across spans order tally rows marks locations waiting pool (λ σ τ. Called (add-call (now (ins .entry)) (now (outs .entry))) r (now (s .entry)) (now (s .exit)) σ τ) ⌝ }
 {
     let a = sorter::add(
         *s,

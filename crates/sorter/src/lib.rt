@@ -5,7 +5,7 @@ ghost use mathlib.Core.Path.{_≡_};
 ghost use mathlib.Core.List.{[]};
 ghost use Prim.Native.Nat.{_+_};
 ghost use Rattle.rules.specs.Calls.{set as set-call, add as add-call, flush as flush-call, final as final-call};
-ghost use Rattle.session.specs.Storage.{given, before, after};
+ghost use Rattle.session.specs.Storage.{given, across};
 ghost use Rattle.admitting.specs.Promise.{Asks, Called};
 ghost use Rattle.rules.specs.Summary.{figures};
 ghost use Rattle.summary.specs.Figured.{figured};
@@ -34,7 +34,7 @@ pub fn set(
     x: u64,
 ) -> Answer
     requires { ⌜ Asks s (given spans order tally rows marks locations waiting pool) ⌝ }
-    ensures { λ r. ⌜ Called (set-call x) (r .number) s (r .session) (before spans order tally rows marks locations waiting pool) (after spans order tally rows marks locations waiting pool) ⌝ }
+    ensures { λ r. ⌜ across spans order tally rows marks locations waiting pool (λ σ τ. Called (set-call x) (r .number) s (r .session) σ τ) ⌝ }
 {
     let a = admitting::admit_set(s, marks, waiting, x);
     if a.number != 0 {
@@ -76,7 +76,7 @@ pub fn add(
     outs: &[u64],
 ) -> Answer
     requires { ⌜ Asks s (given spans order tally rows marks locations waiting pool) ⌝ }
-    ensures { λ r. ⌜ Called (add-call (now (ins .entry)) (now (outs .entry))) (r .number) s (r .session) (before spans order tally rows marks locations waiting pool) (after spans order tally rows marks locations waiting pool) ⌝ }
+    ensures { λ r. ⌜ across spans order tally rows marks locations waiting pool (λ σ τ. Called (add-call (now (ins .entry)) (now (outs .entry))) (r .number) s (r .session) σ τ) ⌝ }
 {
     let a = admitting::admit_add(s, waiting, pool, ins, outs);
     if a.number != 0 {
@@ -142,7 +142,7 @@ pub fn flush(
     pool: &mut [u32],
 ) -> Answer
     requires { ⌜ Asks s (given spans order tally rows marks locations waiting pool) ⌝ }
-    ensures { λ r. ⌜ Called flush-call (r .number) s (r .session) (before spans order tally rows marks locations waiting pool) (after spans order tally rows marks locations waiting pool) ⌝ }
+    ensures { λ r. ⌜ across spans order tally rows marks locations waiting pool (λ σ τ. Called flush-call (r .number) s (r .session) σ τ) ⌝ }
 {
     let n = checking::check_flush(s.closed, s.flushes);
     if n != 0 {
@@ -197,7 +197,7 @@ pub fn close(
     pool: &mut [u32],
 ) -> Answer
     requires { ⌜ Asks s (given spans order tally rows marks locations waiting pool) ⌝ }
-    ensures { λ r. ⌜ Called final-call (r .number) s (r .session) (before spans order tally rows marks locations waiting pool) (after spans order tally rows marks locations waiting pool) ⌝ }
+    ensures { λ r. ⌜ across spans order tally rows marks locations waiting pool (λ σ τ. Called final-call (r .number) s (r .session) σ τ) ⌝ }
 {
     let n = checking::check_final(s.closed, s.delayed);
     if n != 0 {
@@ -245,7 +245,7 @@ pub fn finish(
     pool: &mut [u32],
 ) -> Finished
     requires { ⌜ Asks s (given spans order tally rows marks locations waiting pool) ⌝ }
-    ensures { λ r. ⌜ Concludes (r .number) s (r .session) (before spans order tally rows marks locations waiting pool) (after spans order tally rows marks locations waiting pool) (figured (r .summary)) ⌝ }
+    ensures { λ r. ⌜ across spans order tally rows marks locations waiting pool (λ σ τ. Concludes (r .number) s (r .session) σ τ (figured (r .summary))) ⌝ }
 {
     let n = checking::check_final(s.closed, s.delayed);
     if n != 0 {

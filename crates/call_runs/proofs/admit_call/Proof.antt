@@ -6,10 +6,8 @@ use Rattle.call_runs.proofs.admit_call.Statement.{statement}
 use Rattle.call_runs.proofs.admit_call.Tie as tie
 
 -- the places of the code, each named once (-2, -3: the same place, seen from another)
-abbrev to-start : tie.After-shared-slice-known6 → tie.Start
-to-start c =
-    let after-slice-known = c .before .before .before .before in
-    after-slice-known .before .before .before .before .before
+abbrev to-start : tie.After-shared-slice-known → tie.Start
+to-start c = c .before .before .before .before
 
 abbrev to-start-2 : tie.After-admit-add-arg2 → tie.Start
 to-start-2 c =
@@ -38,10 +36,10 @@ shared-slice-read-x : tie.Need-shared-slice-read-x
 shared-slice-read-x c = let b = c .before in let e = to-start (b .before .before) in set-inside (e .pre .1 .0) (b .if1 .taken)
 
 admit-set-requires : tie.Need-admit-set-requires
-admit-set-requires c κs = set-asked (to-start (c .before .before .before .before .before) .pre .0)
+admit-set-requires c κs = set-asked (to-start (c .before .before .before .before .before) .pre .0 .asks)
 
-add-t23 : tie.Need-add-t23
-add-t23 c =
+add-t18 : tie.Need-add-t18
+add-t18 c =
     let then1 = to-admit-set c .before .before .before .before in
     let start = to-start (then1 .before .before) in
     omega (arith, set-inside (start .pre .1 .0) (then1 .if1 .taken), start .good)
@@ -56,7 +54,7 @@ returns : tie.Need-returns
 returns c =
     let then1 = to-admit-set c .before .before .before .before in
     let start = to-start (then1 .before .before) in
-    admits-set (start .pre .1 .0) (then1 .if1 .taken) (set-admitted (start .pre .0) (to-admit-set c .admit-set .ensures))
+    λ σ q. admits-set (start .pre .1 .0) (then1 .if1 .taken) (set-admitted q (to-admit-set c .admit-set .ensures))
 
 add-past-list : tie.Need-add-past-list
 add-past-list c = let e = to-start (c .before .before) in omega (arith, e .pre .1 .0 .inside, e .good)
@@ -138,7 +136,7 @@ part-outs-end c =
     add-inside (e .pre .1 .0) (e .pre .1 .1) (b .if1 .left) _ (l .before .past-list .ensures) _ (l .past-list2 .ensures) .1 .1
 
 admit-add-requires : tie.Need-admit-add-requires
-admit-add-requires c κs = add-asked (to-start-2 c .pre .0)
+admit-add-requires c κs = add-asked (to-start-2 c .pre .0 .asks)
 
 same-length-3 : tie.Need-same-length-3
 same-length-3 c = to-admit-add c .admit-add .kept .1 .0
@@ -152,8 +150,8 @@ returns-2 c =
     let after-past-list = after-past-list2 .before in
     let else1 = after-past-list .before in
     let start = to-start (else1 .before .before) in
-    admits-add (start .pre .1 .0) (start .pre .1 .1) (else1 .if1 .left) _ (after-past-list .past-list .ensures) _
-    (after-past-list2 .past-list2 .ensures) (add-admitted (start .pre .0) (to-admit-add c .admit-add .ensures))
+    λ σ q. admits-add (start .pre .1 .0) (start .pre .1 .1) (else1 .if1 .left) _ (after-past-list .past-list .ensures) _
+    (after-past-list2 .past-list2 .ensures) (add-admitted q (to-admit-add c .admit-add .ensures))
 
 pub admit-call-spec : {M : Type 1} → statement M
 admit-call-spec =
@@ -165,7 +163,7 @@ admit-call-spec =
     mul-x
     shared-slice-read-x
     admit-set-requires
-    add-t23
+    add-t18
     same-length
     same-length-2
     returns

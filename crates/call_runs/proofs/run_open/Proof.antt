@@ -6,6 +6,7 @@ use mathlib.Core.Logic.{⊎-elim}
 use native.Mathlib.Omega.{arith}
 use Rattle.session.specs.Storage.{storage}
 use Rattle.admitting.specs.Begun.{places, row-there}
+use Rattle.call_runs.specs.Made.{call-asked, call-admitted}
 use Rattle.call_runs.specs.Cascading.{Cascading, cascading-begins, cascading-turn, cascading-less, cascading-step, cascading-ends}
 use Rattle.call_runs.specs.Continuing.{Going, going-begins, going-asks, going-readable, going-room, going-refused, going-placed}
 use Rattle.call_runs.proofs.run_open.Statement.{statement}
@@ -36,10 +37,8 @@ to-start c =
 abbrev to-at-loop : tie.Then1 Inv-loop2 μ-loop2 Inv-loop μ-loop → tie.At-loop Inv-loop2 μ-loop2 Inv-loop μ-loop
 to-at-loop c = c .before .before .before
 
-abbrev to-else1 : tie.After-admit-call-arg8 Inv-loop2 μ-loop2 Inv-loop μ-loop → tie.Else1 Inv-loop2 μ-loop2 Inv-loop μ-loop
-to-else1 c =
-    let after-admit-call-arg4 = c .before .before .before .before in
-    after-admit-call-arg4 .before .before .before .before
+abbrev to-else1 : tie.After-admit-call-arg3 Inv-loop2 μ-loop2 Inv-loop μ-loop → tie.Else1 Inv-loop2 μ-loop2 Inv-loop μ-loop
+to-else1 c = c .before .before .before
 
 abbrev to-admit-call : tie.After-a Inv-loop2 μ-loop2 Inv-loop μ-loop → tie.After-admit-call Inv-loop2 μ-loop2 Inv-loop μ-loop
 to-admit-call c =
@@ -72,7 +71,7 @@ admit-call-requires c κs =
     let in-loop = else1 .before .before in
     let at-loop = in-loop .before in
     let g = at-loop .loop .inv in
-    (going-asks g, (going-readable g (in-loop .loop-test .taken), else1 .if1 .left))
+    (call-asked (going-asks g), (going-readable g (in-loop .loop-test .taken), else1 .if1 .left))
 
 mul-answers : tie.Need-mul-answers Inv-loop2 μ-loop2 Inv-loop μ-loop
 mul-answers c =
@@ -90,7 +89,10 @@ slice-write-answers c =
     going-room (at-loop .loop .inv) (in-loop .loop-test .taken)
 
 loop2-holds : tie.Need-loop2-holds Inv-loop2 μ-loop2 Inv-loop μ-loop
-loop2-holds c = cascading-begins (to-admit-call (c .before .before) .admit-call .ensures .admits .may (c .if2 .taken))
+loop2-holds c =
+    let after-admit-call = to-admit-call (c .before .before) in
+    let at-loop = to-else1 (after-admit-call .before) .before .before .before in
+    cascading-begins (call-admitted (going-asks (at-loop .loop .inv)) (after-admit-call .admit-call .ensures) .admits .may (c .if2 .taken))
 
 place-next-requires : tie.Need-place-next-requires Inv-loop2 μ-loop2 Inv-loop μ-loop
 place-next-requires c κs =
@@ -130,7 +132,11 @@ add-n c =
     omega (arith, going-room g h, g .kept .answers, start .good .1 .1 .1 .1 .1 .1 .1 .1 .1 .0)
 
 loop-less : tie.Need-loop-less Inv-loop2 μ-loop2 Inv-loop μ-loop
-loop-less c = let d = to-admit-call (c .before .before) .admit-call .ensures in omega (arith, d .past, d .within)
+loop-less c =
+    let after-admit-call = to-admit-call (c .before .before) in
+    let at-loop = to-else1 (after-admit-call .before) .before .before .before in
+    let d = call-admitted (going-asks (at-loop .loop .inv)) (after-admit-call .admit-call .ensures) in
+    omega (arith, d .past, d .within)
 
 loop-again : tie.Need-loop-again Inv-loop2 μ-loop2 Inv-loop μ-loop
 loop-again c =
@@ -139,7 +145,7 @@ loop-again c =
     let at-loop = in-loop .before in
     let g = at-loop .loop .inv in
     let h = in-loop .loop-test .taken in
-    let d = after-admit-call .admit-call .ensures in
+    let d = call-admitted (going-asks g) (after-admit-call .admit-call .ensures) in
     ⊎-elim
     (λ w. going-placed g h d (w .0 .taken)
     (places (at-loop .loop .z) (after-admit-call .admit-call .result .admitted) _ _ _ (cascading-ends (w .1 .inv) (w .2 .left)) _ (w .4 .ensures))
