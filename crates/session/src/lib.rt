@@ -132,7 +132,7 @@ fn place_one(
         parallelism: 0,
     };
     let d = guide::push(s.guide, spans, order, tally, a.has, a.span, a.pos, e);
-    records::fill_rows(order, n, d.guide.written - n, rows);
+    records::fill_rows(order, rows, n, d.guide.written - n);
     let loc = tracking::packed(d.span, d.pos);
     let to = settle_outputs(marks, locations, pool, a.at, a.n, loc, v, s.watermark);
     let h = d.guide;
