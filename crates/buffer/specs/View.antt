@@ -11,6 +11,10 @@ use Rattle.rules.specs.Checks.{spans-needed}
 use Rattle.rules.specs.Guide.{Item, Entry as OrderEntry, Guide as GuideModel}
 use Rattle.buffer.specs.declared.Guide.{Guide}
 
+-- where a row of p + 1 entries begins in the span storage
+abbrev pub row-start : ℕ → ℕ → ℕ
+row-start row p = row * (p + 1)
+
 -- span i of the window: its length, its number, and where it and its position j lie in the span storage
 abbrev pub length-of : Guide → ℕ → ℕ
 length-of g i = getD (g .window .lens) i 0
@@ -19,7 +23,7 @@ abbrev pub number-of : Guide → ℕ → ℕ
 number-of g i = getD (g .window .ids) i 0
 
 abbrev pub start-of : Guide → ℕ → ℕ
-start-of g i = getD (g .window .rows) i 0 * (g .p + 1)
+start-of g i = row-start (getD (g .window .rows) i 0) (g .p)
 
 abbrev pub slot : Guide → ℕ → ℕ → ℕ
 slot g i j = start-of g i + j
@@ -28,7 +32,7 @@ slot g i j = start-of g i + j
 unfoldable pub spans-of : ℕ → List ℕ → List ℕ → List ℕ → List (List Item)
 spans-of p s [] ls = []
 spans-of p s (r ∷ rs) [] = []
-spans-of p s (r ∷ rs) (l ∷ ls) = map item-of (row s (r * (p + 1)) l) ∷ spans-of p s rs ls
+spans-of p s (r ∷ rs) (l ∷ ls) = map item-of (row s (row-start r p) l) ∷ spans-of p s rs ls
 
 -- the first n entries of the order's storage
 unfoldable pub order-of : List ℕ → ℕ → List OrderEntry

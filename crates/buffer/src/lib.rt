@@ -1,6 +1,7 @@
 // The guide over its storage: spans as rows of one slice, the order as another. `release` appends span 0's entries to the order and
 // rotates the window.
 ghost use mathlib.Core.Path.{_≡_};
+ghost use Rattle.buffer.specs.View.{row-start};
 ghost use Rattle.buffer.specs.Fit.{Fit};
 ghost use Rattle.buffer.specs.Moves.{released-guide, released-order};
 use window::Window;
@@ -13,6 +14,13 @@ pub struct Guide {
     pub written: u32,
 }
 
+// Where a row of p + 1 entries begins in the span storage.
+pub fn row_start(row: u8, p: u32) -> usize
+    ensures { λ r. ⌜ r ≡ row-start row p ⌝ }
+{
+    (row as usize) * (p as usize + 1)
+}
+
 // Releases span 0: its entries are appended in the old window, each with its parallelism, and then the window is rotated.
 pub fn release(g: Guide, spans: &[u32], order: &mut [u32]) -> Guide
     requires { ⌜ Fit g (now spans) (now order) ⌝ }
@@ -20,12 +28,11 @@ pub fn release(g: Guide, spans: &[u32], order: &mut [u32]) -> Guide
     ensures appended { λ _. ⌜ now (order .exit) ≡ released-order g (now (spans .entry)) (now (order .entry)) ⌝ }
 {
     let w = g.window;
-    let row = w.rows[0] as usize;
+    let start = row_start(w.rows[0], g.p);
     let a = w.lens[0] as u32;
     let b = w.lens[1] as u32;
-    let p = g.p as usize;
     let n = g.written as usize;
-    entries::append_row(spans, order, row * (p + 1), n, g.p, a, b);
+    entries::append_row(spans, order, start, n, g.p, a, b);
     let v = window::rotate(w);
     let mut h = g;
     h.window = v;

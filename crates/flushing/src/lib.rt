@@ -18,7 +18,7 @@ pub fn release_all(
     let n = g.written;
     let h = guide::flush(g, spans, order, tally);
     let m = h.written;
-    records::fill_rows(order, n, m - n, rows);
+    records::fill_rows(order, rows, n, m - n);
     session::note_latest(rows, 0, added, m);
     h
 }

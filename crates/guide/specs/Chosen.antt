@@ -3,7 +3,7 @@ use mathlib.Core.Path.{_≡_, refl, sym, ap, _∙_}
 use mathlib.Core.List.{List, [], _∷_, map}
 use mathlib.Core.Bool.{Bool, true, false}
 use mathlib.Core.Option.{some}
-use Prim.Native.Nat.{ℕ, zero, suc, _+_, _*_, _-_}
+use Prim.Native.Nat.{ℕ, zero, suc, _+_, _-_}
 use native.Mathlib.Omega.{arith}
 use lib.Dec.{ltb, eqb}
 use lib.ListN.{length, getD, drop, length-map}
@@ -14,7 +14,7 @@ use Rattle.choice.specs.Chosen.{chosen-by}
 use Rattle.entries.specs.Entries.{row, item-of}
 use Rattle.rules.specs.Guide.{Item, Choice, existing, opened, choose, found, seek, begin}
 use Rattle.buffer.specs.declared.Guide.{Guide}
-use Rattle.buffer.specs.View.{length-of, number-of, spans-of, view, Laid}
+use Rattle.buffer.specs.View.{row-start, length-of, number-of, spans-of, view, Laid}
 use Rattle.buffer.specs.Rows.{row-length, span-length}
 use Rattle.guide.specs.Ready.{after-of}
 
@@ -41,11 +41,11 @@ seek-below p s [] (l ∷ ls) i h = absurd (omega arith)
 seek-below p s (r ∷ rs) [] i h = absurd (omega arith)
 seek-below p s (r ∷ rs) (l ∷ ls) i h = go (ltb l p) refl (seek-below p s rs ls (suc i) (omega arith))
   where
-    len : length (map item-of (row s (r * (p + 1)) l)) ≡ l
-    len = length-map (row s (r * (p + 1)) l) item-of ∙ row-length s (r * (p + 1)) l
+    len : length (map item-of (row s (row-start r p) l)) ≡ l
+    len = length-map (row s (row-start r p) l) item-of ∙ row-length s (row-start r p) l
 
     go : (t : Bool) → ltb l p ≡ t → choice-of (first-below ls (suc i) p) ≡ found (seek p (suc i) (spans-of p s rs ls))
-        → choice-of (pick-span (ltb l p) (Existing i) (first-below ls (suc i) p)) ≡ found (seek p i (map item-of (row s (r * (p + 1)) l) ∷ spans-of p s rs ls))
+        → choice-of (pick-span (ltb l p) (Existing i) (first-below ls (suc i) p)) ≡ found (seek p i (map item-of (row s (row-start r p) l) ∷ spans-of p s rs ls))
     go true e k = rw (seek, len, e)
     go false e k = rw (seek, len, e) k
 

@@ -1,7 +1,7 @@
 -- Spans opened: the new last span is empty and has the next number, and a put into it. Assumes nothing.
 use mathlib.Core.Path.{_≡_, sym, ap, _∙_}
 use mathlib.Core.List.{List, []}
-use Prim.Native.Nat.{ℕ, _+_, _*_, _≤_}
+use Prim.Native.Nat.{ℕ, _+_, _≤_}
 use native.Mathlib.Nat.{add-zero}
 use native.Mathlib.Omega.{arith}
 use lib.ListN.{length, getD, set, drop, List·getD-eq-default}
@@ -12,7 +12,7 @@ use Rattle.laws.specs.GuideInv.{len-extend, release-spans, release-first}
 use Rattle.entries.specs.declared.Entry.{Entry}
 use Rattle.entries.specs.Entries.{has-entry, with-entry, held-entry, item-of}
 use Rattle.buffer.specs.declared.Guide.{Guide}
-use Rattle.buffer.specs.View.{length-of, number-of, view, Laid}
+use Rattle.buffer.specs.View.{row-start, length-of, number-of, view, Laid}
 use Rattle.buffer.specs.Moves.{with-window, longer, put-spans, slot-fits}
 use Rattle.placing.specs.Done.{Done, done-here, done-as, done-then, put-done, view-length, len-view, number-view}
 
@@ -37,10 +37,10 @@ module _ (g h : Guide) (s o o′ t t′ : List ℕ) (n : ℕ) (k : Laid g s) (hn
   here : Done g (with-window g (h .window) (h .written)) s o t s o′ t′ b
   here = done-here g h s o t s o′ t′ b d
 
-  pub opened-slot : has-entry s (getD (h .window .rows) 31 0 * (g .p + 1))
+  pub opened-slot : has-entry s (row-start (getD (h .window .rows) 31 0) (g .p))
   opened-slot = omega (arith, slot-fits (with-window g (h .window) (h .written)) s (here .stands .laid) 31 (omega (arith, opened-empty)), opened-empty)
 
-  pub open-put : (s′ : List ℕ) (e : Entry) → s′ ≡ with-entry s (getD (h .window .rows) 31 0 * (g .p + 1)) (held-entry e)
+  pub open-put : (s′ : List ℕ) (e : Entry) → s′ ≡ with-entry s (row-start (getD (h .window .rows) 31 0) (g .p)) (held-entry e)
       → Done g (begun g h) s o t s′ o′ t′ (put 31 (item-of e) b)
   unfolding longer put-spans
   open-put s′ e es =

@@ -50,7 +50,7 @@ pub fn place_existing(
     let p = g.p;
     let at = w.ids[i];
     let q = w.lens[i] as u32;
-    let start = (w.rows[i] as usize) * (p as usize + 1);
+    let start = buffer::row_start(w.rows[i], p);
     entries::store_held(spans, start + q as usize, e);
     w.lens[i] = (q + 1) as u16;
     if p <= q + 1 {
@@ -89,7 +89,7 @@ pub fn place_opened(
     let mut w = h.window;
     let p = g.p;
     let at = w.ids[window::LAST];
-    entries::store_held(spans, (w.rows[window::LAST] as usize) * (p as usize + 1), e);
+    entries::store_held(spans, buffer::row_start(w.rows[window::LAST], p), e);
     w.lens[window::LAST] = 1;
     Pushed {
         guide: Guide {

@@ -1,7 +1,7 @@
 // Record rows, SIZE numbers each: added, accepted, written, order index, parallelism. When entries were appended to the order, the rows of
 // their registrations are filled, all but written, which is stored apart.
 ghost use mathlib.Core.Path.{_≡_};
-ghost use Prim.Native.Nat.{_+_, _<_};
+ghost use Prim.Native.Nat.{_+_, _^_, _<_};
 ghost use Rattle.entries.specs.Entries.{row, fits};
 ghost use Rattle.records.specs.Filling.{has-row, written-at, with-written, fill-one, filled, Fillable};
 use entries::Entry;
@@ -22,8 +22,8 @@ fn fill_one(rows: &mut [u32], n: u32, e: Entry)
 }
 
 // Fills the rows of the a entries of the order from index n on.
-pub fn fill_rows(order: &[u32], n: u32, a: u32, rows: &mut [u32])
-    requires { ⌜ fits (now order) (n + a) × (n + a < 4294967296) ⌝ }
+pub fn fill_rows(order: &[u32], rows: &mut [u32], n: u32, a: u32)
+    requires { ⌜ fits (now order) (n + a) × (n + a < 2 ^ 32) ⌝ }
     requires { ⌜ Fillable (now order) n a (now rows) ⌝ }
     ensures { λ _. ⌜ now (rows .exit) ≡ filled (now (rows .entry)) n (row (now (order .entry)) n a) ⌝ }
 {

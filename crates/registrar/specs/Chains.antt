@@ -10,7 +10,7 @@ use lib.ListN.{length, set, length-set}
 use lib.Seq.{getD-set-same, getD-set-other, take-set-le, drop-set-lt}
 use borrow.Author.Tests.{eq-eqb}
 use Rattle.rules.specs.Model.{push}
-use Rattle.registrar.specs.Reading.{head-at, link-at}
+use Rattle.registrar.specs.Reading.{head-at, link-at, with-link}
 use Rattle.registrar.specs.Delayed.{Chain, Linked, relinked, top-of, last-of, spliced, head-of, occurs, LinksOnly}
 
 -- r is one of a list
@@ -75,7 +75,7 @@ linked-unique w v h (r ∷ l) (r′ ∷ l′) c d =
     cc
 
 -- only links have changed: kept by a store to a link, and transitive
-pub links-set : (w : List ℕ) (v r x : ℕ) → r < v → LinksOnly w v (set w (v + r) x)
+pub links-set : (w : List ℕ) (v r x : ℕ) → r < v → LinksOnly w v (with-link w v r x)
 links-set w v r x h = record { heads = take-set-le v w (v + r) x (omega arith); aside = record { rest = drop-set-lt (2 * v) w (v + r) x (omega arith) } }
 
 pub links-refl : (w : List ℕ) (v : ℕ) → LinksOnly w v w
@@ -90,25 +90,25 @@ links-trans a b c v f g = record { heads = g .heads ∙ f .heads; aside = record
 pub chain-turn : (m w : List ℕ) (v n h t : ℕ) (l : List ℕ) → ((r : ℕ) → In r l → In r m → ⊥) → Chain w v n h l → Chain (relinked w v t m) v n h l
 chain-turn [] w v n h t l out c = c
 chain-turn (q ∷ m) w v n h t l out c =
-    chain-turn m (set w (v + q) t) v n h (suc q) l (λ r a b. out r a (inr b)) (chain-frame w v n (v + q) t h l (λ r a e. out r a (inl (omega arith))) c)
+    chain-turn m (with-link w v q t) v n h (suc q) l (λ r a b. out r a (inr b)) (chain-frame w v n (v + q) t h l (λ r a e. out r a (inl (omega arith))) c)
 
 -- heads stay
 pub head-turn : (m w : List ℕ) (v t p : ℕ) → p < v → head-at (relinked w v t m) p ≡ head-at w p
 head-turn [] w v t p h = refl
-head-turn (q ∷ m) w v t p h = head-turn m (set w (v + q) t) v (suc q) p h ∙ getD-set-other w (v + q) p t 0 (λ e. omega arith)
+head-turn (q ∷ m) w v t p h = head-turn m (with-link w v q t) v (suc q) p h ∙ getD-set-other w (v + q) p t 0 (λ e. omega arith)
 
 pub length-turn : (m w : List ℕ) (v t : ℕ) → length (relinked w v t m) ≡ length w
 length-turn [] w v t = refl
-length-turn (q ∷ m) w v t = length-turn m (set w (v + q) t) v (suc q) ∙ length-set w (v + q) t
+length-turn (q ∷ m) w v t = length-turn m (with-link w v q t) v (suc q) ∙ length-set w (v + q) t
 
 pub links-turn : (m w : List ℕ) (v t : ℕ) → ((r : ℕ) → In r m → r < v) → LinksOnly w v (relinked w v t m)
 links-turn [] w v t k = links-refl w v
 links-turn (q ∷ m) w v t k =
-    links-trans w (set w (v + q) t) (relinked (set w (v + q) t) v (suc q) m) v (links-set w v q t (k q (inl refl))) (links-turn m (set w (v + q) t) v (suc q) (λ r h. k r (inr h)))
+    links-trans w (with-link w v q t) (relinked (with-link w v q t) v (suc q) m) v (links-set w v q t (k q (inl refl))) (links-turn m (with-link w v q t) v (suc q) (λ r h. k r (inr h)))
 
 pub relinked-append : (a b w : List ℕ) (v t : ℕ) → relinked w v t (a ++ b) ≡ relinked (relinked w v t a) v (top-of t a) b
 relinked-append [] b w v t = refl
-relinked-append (q ∷ a) b w v t = relinked-append a b (set w (v + q) t) v (suc q)
+relinked-append (q ∷ a) b w v t = relinked-append a b (with-link w v q t) v (suc q)
 
 pub top-of-append : (a b : List ℕ) (t : ℕ) → top-of t (a ++ b) ≡ top-of (top-of t a) b
 top-of-append [] b t = refl
@@ -120,7 +120,7 @@ pub linked-turn : (l w : List ℕ) (v t : ℕ) (s : List ℕ) → v + v ≤ leng
 unfolding push occurs
 linked-turn [] w v t s long k f c = c
 linked-turn (r ∷ l) w v t s long k f c =
-    linked-turn l (set w (v + r) t) v (suc r) (r ∷ s) (rw (length-set w (v + r) t) long) (λ q h. k q (inr h)) (λ q. omega (arith, f q))
+    linked-turn l (with-link w v r t) v (suc r) (r ∷ s) (rw (length-set w (v + r) t) long) (λ q h. k q (inr h)) (λ q. omega (arith, f q))
     (refl, k r (inl refl), rw (getD-set-same w (v + r) t 0 (omega (arith, k r (inl refl)))) (linked-frame w v (v + r) t t s (λ q m e. fresh q m (omega arith)) c))
   where
     fresh : (q : ℕ) → In q s → q ≡ r → ⊥
@@ -140,7 +140,7 @@ last-le w v n h r [] c = omega arith
 last-le w v n h r (q ∷ l) c = omega (arith, last-le w v r (link-at w v r) q l (c .2), c .2 .1)
 
 linked-splice : (w : List ℕ) (v n h t r : ℕ) (l s : List ℕ) → n ≤ v → v + v ≤ length w → Chain w v n h (r ∷ l) → Linked w v t s → ((q : ℕ) → In q (r ∷ l) → In q s → ⊥)
-    → Linked (set w (v + last-of r l) t) v h ((r ∷ l) ++ s)
+    → Linked (with-link w v (last-of r l) t) v h ((r ∷ l) ++ s)
 linked-splice w v n h t r [] s nv long c k apart = (
   c .0,
   omega (arith, c .1),
@@ -157,7 +157,7 @@ linked-splice w v n h t r (q ∷ l) s nv long c k apart = (
 pub splice-linked : (w : List ℕ) (v h t : ℕ) (l s : List ℕ) → v + v ≤ length w → Chain w v v h l → Linked w v t s → ((q : ℕ) → In q l → In q s → ⊥)
     → Linked (spliced w v t l) v (head-of t l) (l ++ s)
 splice-linked w v h t [] s long c k apart = k
-splice-linked w v h t (r ∷ l) s long c k apart = subst (λ (x : ℕ). Linked (set w (v + last-of r l) t) v x ((r ∷ l) ++ s)) (c .0) (linked-splice w v v h t r l s (omega arith) long c k apart)
+splice-linked w v h t (r ∷ l) s long c k apart = subst (λ (x : ℕ). Linked (with-link w v (last-of r l) t) v x ((r ∷ l) ++ s)) (c .0) (linked-splice w v v h t r l s (omega arith) long c k apart)
 
 pub chain-splice : (m w : List ℕ) (v n h t : ℕ) (l : List ℕ) → ((r : ℕ) → In r l → In r m → ⊥) → Chain w v n h l → Chain (spliced w v t m) v n h l
 chain-splice [] w v n h t l out c = c

@@ -4,12 +4,12 @@ use mathlib.Core.Path.{_≡_}
 use mathlib.Core.List.{List, [], _∷_, _++_, List·Memᴰ}
 use mathlib.Core.Bool.{true, false, cond}
 use Prim.Native.Nat.{ℕ, suc, _+_, _*_, _≤_, _<_}
-use lib.ListN.{length, set, take, drop}
+use lib.ListN.{length, take, drop}
 use lib.Dec.{eqb}
 use Rattle.rules.specs.Model.{Pending, due, left, queue, push}
 use Rattle.rules.specs.Checks.{waiting-needed}
 use Rattle.laws.specs.Delaying.{Sorted}
-use Rattle.registrar.specs.Reading.{head-at, link-at}
+use Rattle.registrar.specs.Reading.{head-at, link-at, with-link}
 
 -- the registrations under place p, newest first
 unfoldable pub newest : ℕ → List Pending → List ℕ
@@ -80,7 +80,7 @@ pub record Chained (w : List ℕ) (v h : ℕ) : Type 0 where
 -- the links of l turned round onto `top`, and the link of the last of l
 abbrev pub relinked : List ℕ → ℕ → ℕ → List ℕ → List ℕ
 relinked w v top [] = w
-relinked w v top (r ∷ l) = relinked (set w (v + r) top) v (suc r) l
+relinked w v top (r ∷ l) = relinked (with-link w v r top) v (suc r) l
 
 abbrev pub top-of : ℕ → List ℕ → ℕ
 top-of top [] = top
@@ -102,7 +102,7 @@ pub record Oldest (w : List ℕ) (v h r : ℕ) : Type 0 where
 -- the oldest's link leads to `top`, and the link of the newest
 abbrev pub spliced : List ℕ → ℕ → ℕ → List ℕ → List ℕ
 spliced w v top [] = w
-spliced w v top (r ∷ l) = set w (v + last-of r l) top
+spliced w v top (r ∷ l) = with-link w v (last-of r l) top
 
 abbrev pub head-of : ℕ → List ℕ → ℕ
 head-of top [] = top

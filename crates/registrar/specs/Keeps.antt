@@ -15,7 +15,7 @@ use borrow.Author.Tests.{eq-eqb, ne-eqb}
 use Rattle.rules.specs.Model.{Pending, due, left, queue, push}
 use Rattle.rules.specs.Checks.{waiting-needed}
 use Rattle.laws.specs.Delaying.{left-sorted, left-above, queue-sorted}
-use Rattle.registrar.specs.Reading.{head-at, link-at}
+use Rattle.registrar.specs.Reading.{head-at, link-at, with-head, with-link}
 use Rattle.registrar.specs.Delayed.{newest, occurs, pends, Chain, Linked, Delayed, Later, Joins, Stacks, Aside, LinksOnly}
 use Rattle.registrar.specs.Delayed.{relinked, top-of, spliced, head-of, last-of, Chained, Oldest, Splices, Advancing, AdvancesSet, AdvancesPlaced}
 use Rattle.registrar.specs.Queue.{From, lt-or-le, eq-or-ne, push-append, push-onto, push-twice, due-none, left-all, due-split, left-split, left-in}
@@ -77,7 +77,7 @@ module _ (w : List ℕ) (v lo : ℕ) (ps : List Pending) (top : ℕ) (st : List 
   unstacked p r a b = omega (arith, d .apart r, newest-pends r p ps, in-occurs r (newest p ps) a, in-occurs r st b)
 
   -- delaying one more
-  pub delay-keeps : (p r : ℕ) → Later r ps st → lo ≤ p → p < v → r < v → Delayed (set (set w (v + r) (head-at w p)) p (r + 1)) v lo (queue (record { under = p; reg = r }) ps) top st
+  pub delay-keeps : (p r : ℕ) → Later r ps st → lo ≤ p → p < v → r < v → Delayed (with-head (with-link w v r (head-at w p)) p (r + 1)) v lo (queue (record { under = p; reg = r }) ps) top st
   unfolding occurs
   delay-keeps p r n lp pv rv =
       record {
@@ -93,7 +93,7 @@ module _ (w : List ℕ) (v lo : ℕ) (ps : List Pending) (top : ℕ) (st : List 
       x = record { under = p; reg = r }
 
       w₁ : List ℕ
-      w₁ = set w (v + r) (head-at w p)
+      w₁ = with-link w v r (head-at w p)
 
       w₂ : List ℕ
       w₂ = set w₁ p (r + 1)
@@ -132,7 +132,7 @@ module _ (w : List ℕ) (v lo : ℕ) (ps : List Pending) (top : ℕ) (st : List 
           rw (queue-others q x ps (λ e. ne (sym e)), getD-set-other w₁ p q (r + 1) 0 ne, getD-set-other w (v + r) q (head-at w p) 0 (λ e. omega arith)) (kept q l h)
 
   -- one more on the stack
-  pub stack-keeps : (r : ℕ) → r < v → pends r ps + occurs r st ≡ 0 → Delayed (set w (v + r) top) v lo ps (r + 1) (r ∷ st)
+  pub stack-keeps : (r : ℕ) → r < v → pends r ps + occurs r st ≡ 0 → Delayed (with-link w v r top) v lo ps (r + 1) (r ∷ st)
   unfolding occurs
   stack-keeps r rv none =
       record {
@@ -271,14 +271,14 @@ module _ (w : List ℕ) (v lo hi : ℕ) (ps : List Pending) (d : Delayed w v lo 
 
 -- ---- the promises of delay, stack and splice
 
-pub joins : (w : List ℕ) (v p r : ℕ) → p < v → r < v → Joins w v p r (set (set w (v + r) (head-at w p)) p (r + 1))
+pub joins : (w : List ℕ) (v p r : ℕ) → p < v → r < v → Joins w v p r (with-head (with-link w v r (head-at w p)) p (r + 1))
 joins w v p r hp hr =
     record {
       delayed = λ lo ps top st d n l. delay-keeps w v lo ps top st d p r n l hp hr;
-      aside = record { rest = drop-set-lt (2 * v) (set w (v + r) (head-at w p)) p (r + 1) (omega arith) ∙ drop-set-lt (2 * v) w (v + r) (head-at w p) (omega arith) };
+      aside = record { rest = drop-set-lt (2 * v) (with-link w v r (head-at w p)) p (r + 1) (omega arith) ∙ drop-set-lt (2 * v) w (v + r) (head-at w p) (omega arith) };
     }
 
-pub stacks : (w : List ℕ) (v r top : ℕ) → r < v → Stacks w v r top (r + 1) (set w (v + r) top)
+pub stacks : (w : List ℕ) (v r top : ℕ) → r < v → Stacks w v r top (r + 1) (with-link w v r top)
 stacks w v r top h = record { delayed = λ lo ps st d n. stack-keeps w v lo ps top st d r h n; top-is = refl; kept = links-set w v r top h }
 
 pub splices-none : (w : List ℕ) (v h onto : ℕ) → h ≡ 0 → Splices w v h onto onto w
@@ -288,12 +288,12 @@ splices-none w v h onto z = record { placed = go }
     go [] c = (refl, refl)
     go (r ∷ l) c = absurd (suc-ne-zero r (sym (c .0) ∙ z))
 
-pub splices-some : (w : List ℕ) (v h onto last : ℕ) → (h ≡ 0 → ⊥) → Oldest w v h last → Splices w v h onto h (set w (v + last) onto)
+pub splices-some : (w : List ℕ) (v h onto last : ℕ) → (h ≡ 0 → ⊥) → Oldest w v h last → Splices w v h onto h (with-link w v last onto)
 splices-some w v h onto last n o = record { placed = go }
   where
-    go : (l : List ℕ) → Chain w v v h l → (h ≡ head-of onto l) × (set w (v + last) onto ≡ spliced w v onto l)
+    go : (l : List ℕ) → Chain w v v h l → (h ≡ head-of onto l) × (with-link w v last onto ≡ spliced w v onto l)
     go [] c = absurd (n c)
-    go (r ∷ l) c = (c .0, ap (λ (x : ℕ). set w (v + x) onto) (o .found r l c))
+    go (r ∷ l) c = (c .0, ap (λ (x : ℕ). with-link w v x onto) (o .found r l c))
 
 -- the oldest is below v
 pub oldest-below : (w : List ℕ) (v h last : ℕ) → Chained w v h → (h ≡ 0 → ⊥) → Oldest w v h last → last < v

@@ -5,9 +5,9 @@ use mathlib.Core.List.{List, [], _∷_, _++_}
 use Prim.Native.Nat.{ℕ, suc, _+_, _-_, _≤_, _<_}
 use native.Mathlib.Nat.{suc-ne-zero}
 use native.Mathlib.Omega.{arith}
-use lib.ListN.{length, set, length-set}
+use lib.ListN.{length, length-set}
 use Rattle.rules.specs.Checks.{waiting-needed}
-use Rattle.registrar.specs.Reading.{head-at, link-at}
+use Rattle.registrar.specs.Reading.{head-at, link-at, with-link}
 use Rattle.registrar.specs.Delayed.{Chain, Chained, relinked, top-of, last-of, Turns, Oldest}
 use Rattle.registrar.specs.Queue.{down}
 use Rattle.registrar.specs.Chains.{In, chain-frame, chain-le, chain-below, chain-unique, chain-turn, head-turn, length-turn, relinked-append, top-of-append}
@@ -32,11 +32,11 @@ pub turn-at : (w₀ : List ℕ) (v from onto : ℕ) (w : List ℕ) (h top : ℕ)
 turn-at w₀ v from onto w h top t = omega (arith, chain-le w v (t .n) h (t .l) (t .chain), t .few)
 
 pub turn-more : (w₀ : List ℕ) (v from onto : ℕ) (w : List ℕ) (h top : ℕ) → Turning w₀ v from onto w h top → (h ≡ 0 → ⊥)
-    → Turning w₀ v from onto (set w (v + (h - 1)) top) (link-at w v (h - 1)) h × (link-at w v (h - 1) < h)
+    → Turning w₀ v from onto (with-link w v (h - 1) top) (link-at w v (h - 1)) h × (link-at w v (h - 1) < h)
 turn-more w₀ v from onto w h top t nz = go (t .l) (t .chain) (t .tops) (t .links)
   where
     go : (l : List ℕ) → Chain w v (t .n) h l → top-of top l ≡ top-of onto (t .l₀) → relinked w v top l ≡ relinked w₀ v onto (t .l₀)
-        → Turning w₀ v from onto (set w (v + (h - 1)) top) (link-at w v (h - 1)) h × (link-at w v (h - 1) < h)
+        → Turning w₀ v from onto (with-link w v (h - 1) top) (link-at w v (h - 1)) h × (link-at w v (h - 1) < h)
     go [] c tops links = absurd (nz c)
     go (r ∷ l) c tops links =
         let e : h - 1 ≡ r = omega (arith, c .0) in

@@ -1,13 +1,13 @@
 // Delayed registrations (document 01: those that wait), in a chain for each place, newest first, and the stack of those that came off.
 // The waiting storage has a head link for each place and a link for each registration; chains and stack share the registrations' links.
-// A link is 0 for none, else the registration plus 1. This crate alone knows where they lie: of the quarters of v numbers, the first
-// holds the heads, the second the links.
+// A link is 0 for none, else the registration plus 1. This crate alone knows where they lie, by `head`, `set_head`, `link`, `set_link` and
+// `clear`: of the quarters of v numbers, the first holds the heads, the second the links.
 ghost use mathlib.Core.Path.{_≡_};
 ghost use Prim.Native.Nat.{_≤_, _<_};
 ghost use lib.ListN.{length};
 ghost use Rattle.rules.specs.Checks.{waiting-needed};
 ghost use Rattle.zeros.specs.Zeros.{Cleared};
-ghost use Rattle.registrar.specs.Reading.{link-at};
+ghost use Rattle.registrar.specs.Reading.{head-at, link-at, with-head, with-link};
 ghost use Rattle.registrar.specs.Delayed.{Chained, Joins, Stacks, Turns, Splices, Oldest, Advancing, AdvancesSet, AdvancesPlaced};
 
 // Nothing waits under any place.
@@ -18,14 +18,46 @@ pub fn clear(w: &mut [u64], v: usize)
     zeros::clear64(w, 0, v);
 }
 
+// Place p's head link.
+fn head(w: &[u64], p: usize) -> u64
+    requires { ⌜ p < length (now w) ⌝ }
+    ensures { λ h. ⌜ h ≡ head-at (now (w .entry)) p ⌝ }
+{
+    w[p]
+}
+
+// Stores place p's head link.
+fn set_head(w: &mut [u64], p: usize, to: u64)
+    requires { ⌜ p < length (now w) ⌝ }
+    ensures { λ _. ⌜ now (w .exit) ≡ with-head (now (w .entry)) p to ⌝ }
+{
+    w[p] = to;
+}
+
+// Registration r's link.
+fn link(w: &[u64], v: usize, r: usize) -> u64
+    requires { ⌜ (r < v) × (waiting-needed v ≤ length (now w)) ⌝ }
+    ensures { λ h. ⌜ h ≡ link-at (now (w .entry)) v r ⌝ }
+{
+    w[v + r]
+}
+
+// Stores registration r's link.
+fn set_link(w: &mut [u64], v: usize, r: usize, to: u64)
+    requires { ⌜ (r < v) × (waiting-needed v ≤ length (now w)) ⌝ }
+    ensures { λ _. ⌜ now (w .exit) ≡ with-link (now (w .entry)) v r to ⌝ }
+{
+    w[v + r] = to;
+}
+
 // Registration r joins those that wait under place p.
 pub fn delay(w: &mut [u64], v: usize, p: usize, r: usize)
     requires { ⌜ (p < v) × (r < v) × (waiting-needed v ≤ length (now w)) ⌝ }
     ensures { λ _. ⌜ Joins (now (w .entry)) v p r (now (w .exit)) ⌝ }
 {
-    let head = w[p];
-    w[v + r] = head;
-    w[p] = (r + 1) as u64;
+    let newest = head(w, p);
+    set_link(w, v, r, newest);
+    set_head(w, p, (r + 1) as u64);
 }
 
 // Registration r is put on the stack whose top link is `top`; the new top link.
@@ -33,7 +65,7 @@ pub fn stack(w: &mut [u64], v: usize, r: usize, top: u64) -> u64
     requires { ⌜ (r < v) × (waiting-needed v ≤ length (now w)) ⌝ }
     ensures { λ t. ⌜ Stacks (now (w .entry)) v r top t (now (w .exit)) ⌝ }
 {
-    w[v + r] = top;
+    set_link(w, v, r, top);
     (r + 1) as u64
 }
 
@@ -42,7 +74,7 @@ pub fn next(w: &[u64], v: usize, r: usize) -> u64
     requires { ⌜ (r < v) × (waiting-needed v ≤ length (now w)) ⌝ }
     ensures { λ t. ⌜ t ≡ link-at (now (w .entry)) v r ⌝ }
 {
-    w[v + r]
+    link(w, v, r)
 }
 
 // Turns the chain at link `from` round onto the stack whose top link is `onto`; the new top link. Registrations descend along a chain,
@@ -54,9 +86,9 @@ fn turn_onto(w: &mut [u64], v: usize, from: u64, onto: u64) -> u64
     let mut h = from;
     let mut top = onto;
     while h != 0 {
-        let at = v + (h - 1) as usize;
-        let next = w[at];
-        w[at] = top;
+        let r = (h - 1) as usize;
+        let next = link(w, v, r);
+        set_link(w, v, r, top);
         top = h;
         h = next;
     }
@@ -73,8 +105,8 @@ pub fn advance_set(w: &mut [u64], v: usize, lo: usize, hi: usize) -> u64
     let mut top: u64 = 0;
     while p > lo {
         p -= 1;
-        let head = w[p];
-        top = turn_onto(w, v, head, top);
+        let newest = head(w, p);
+        top = turn_onto(w, v, newest, top);
     }
     top
 }
@@ -85,10 +117,10 @@ fn oldest(w: &[u64], v: usize, from: u64) -> usize
     ensures { λ r. ⌜ Oldest (now (w .entry)) v from r ⌝ }
 {
     let mut r = (from - 1) as usize;
-    let mut next = w[v + r];
+    let mut next = link(w, v, r);
     while next != 0 {
         r = (next - 1) as usize;
-        next = w[v + r];
+        next = link(w, v, r);
     }
     r
 }
@@ -102,7 +134,7 @@ fn splice(w: &mut [u64], v: usize, from: u64, onto: u64) -> u64
         return onto;
     }
     let last = oldest(w, v, from);
-    w[v + last] = onto;
+    set_link(w, v, last, onto);
     from
 }
 
@@ -115,8 +147,8 @@ pub fn advance_placed(w: &mut [u64], v: usize, lo: usize, hi: usize, top: u64) -
     let mut p = lo;
     let mut t = top;
     while p < hi {
-        let head = w[p];
-        t = splice(w, v, head, t);
+        let newest = head(w, p);
+        t = splice(w, v, newest, t);
         p += 1;
     }
     t

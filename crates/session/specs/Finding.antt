@@ -2,17 +2,16 @@
 -- Here u, i and m are V, the registration and the count of accepted ones as indices. Assumes nothing.
 use mathlib.Core.Path.{_≡_, sym, ap, _∙_, subst}
 use mathlib.Core.List.{List}
-use Prim.Native.Nat.{ℕ, _+_, _-_, _/_, _%_, _≤_, _<_}
+use Prim.Native.Nat.{ℕ, _+_, _-_, _≤_, _<_}
 use native.Mathlib.Omega.{arith}
-use native.Mathlib.Nat.{div-add-mod'}
 use lib.Dec.{ltb}
 use lib.ListN.{length}
 use Rattle.rules.specs.Model.{Reg, Model, reg-of}
 use Rattle.lists.specs.Part.{part, part-length, Listed, listed-of}
 use Rattle.pool.specs.Lists.{Lists, nth, start-of, inputs-of, end-of}
 use Rattle.pool.specs.ListLaws.{Parts, parts, reg-is}
-use Rattle.tracking.specs.Tracking.{peak}
-use Rattle.session.specs.Outputs.{location-radix}
+use Rattle.tracking.specs.Tracking.{peak, unpacked}
+use Rattle.tracking.specs.Places.{unpacked-packs}
 use Rattle.session.specs.PlaceOne.{MayFind, Finds}
 
 -- the parts of registration a as they were read
@@ -38,16 +37,16 @@ module _ (l w pool : List ℕ) (v added used r u i m start n end : ℕ) (eu : u 
       let p = read (a .k) (a .lists) (a .mine) (a .added-is) in
       (p .ordered, (p .inside, listed-of pool start n v (length l) (omega (arith, p .ordered, p .inside)) (rw (p .ins-are) (a .ins-below)) (a .long)))
 
-  pub finds : (top : ℕ) → top ≡ peak l (part pool start n) →
-      Finds l w pool v added used r (record { has = ltb 0 n; span = top / location-radix; pos = top % location-radix; at = start + n; n = end - (start + n) })
-  finds top et = record {
+  pub finds : (top span pos : ℕ) → top ≡ peak l (part pool start n) → span ≡ (unpacked top) .span → pos ≡ (unpacked top) .pos
+      → Finds l w pool v added used r (record { has = ltb 0 n; span = span; pos = pos; at = start + n; n = end - (start + n) })
+  finds top span pos et ex ey = rw (ex, ey) (record {
     found = λ k L h ea.
         let p = read k L h ea in
         record {
           has-is = ap (λ (x : ℕ). ltb 0 x) (sym (part-length pool start n (omega (arith, p .ordered, p .inside))) ∙ ap length (p .ins-are));
-          peak-is = div-add-mod' top location-radix ∙ et ∙ ap (λ (x : List ℕ). peak l x) (p .ins-are);
-          low = omega arith;
+          peak-is = unpacked-packs top .0 ∙ et ∙ ap (λ (x : List ℕ). peak l x) (p .ins-are);
+          low = unpacked-packs top .1;
           inside = omega (arith, p .ordered, p .inside);
           outs-are = p .outs-are;
         };
-  }
+  })

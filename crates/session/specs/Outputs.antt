@@ -1,7 +1,7 @@
 -- The outputs of a placed registration: what settling them asks, and what it leaves. Assumes nothing.
 use mathlib.Core.Path.{_≡_, ap, _∙_, subst}
 use mathlib.Core.List.{List}
-use Prim.Native.Nat.{ℕ, _+_, _*_, _≤_}
+use Prim.Native.Nat.{ℕ, _≤_}
 use native.Mathlib.Omega.{arith}
 use lib.ListN.{length}
 use Rattle.rules.specs.Limits.{mark-written}
@@ -9,13 +9,6 @@ use Rattle.rules.specs.Model.{run-from}
 use Rattle.lists.specs.Part.{part, Listed}
 use Rattle.tracking.specs.Tracking.{Stamped, tracked-in}
 use Rattle.tracking.specs.Places.{stamped-length, stamped-from}
-
--- a location as one number: the span times the radix, which is above every position, plus the position
-abbrev pub location-radix : ℕ
-location-radix = 4294967296
-
-abbrev pub location : ℕ → ℕ → ℕ
-location span pos = span * location-radix + pos
 
 pub record Settling (marks locations pool : List ℕ) (at n v watermark : ℕ) : Type 0 where
   pub marks-listed : Listed pool at n (length marks)

@@ -12,7 +12,7 @@ use Rattle.laws.specs.Sound.{Sound, sound-placing}
 use Rattle.laws.specs.Placeable.{Placeable, placeable, fits-of}
 use Rattle.lists.specs.Part.{part, Below}
 use Rattle.pool.specs.Lists.{Lists}
-use Rattle.tracking.specs.Tracking.{tracked-in}
+use Rattle.tracking.specs.Tracking.{packed, tracked-in}
 use Rattle.tracking.specs.Places.{stamped-beyond, stamped-length, stamped-from}
 use Rattle.entries.specs.declared.Entry.{Entry}
 use Rattle.entries.specs.Entries.{fits, row, item-of}
@@ -27,7 +27,7 @@ use Rattle.rules.specs.Record.{row-of}
 use Rattle.records.specs.Filled.{Filled, Known, RowsFrame}
 use Rattle.session.specs.declared.After.{After}
 use Rattle.session.specs.Storage.{Storage, beyond-refl, beyond-drop}
-use Rattle.session.specs.Outputs.{location, Settling, Settled}
+use Rattle.session.specs.Outputs.{Settling, Settled}
 use Rattle.session.specs.Rows.{order-registered, rows-fillable, rows-filled, rows-frame}
 use Rattle.session.specs.Rep.{Rowed, Core}
 use Rattle.session.specs.Placing.{Found, placed-storage, may-push, may-push-after, may-settle, outs-below, all-below, placed, placed-view}
@@ -167,7 +167,7 @@ module _ (c r : ℕ) (g : Guide) (watermark added used : ℕ) (σ : Storage) whe
           )
 
       pub places-one : (rs m l : List ℕ) (watermark′ : ℕ) → MayPlace c g watermark added used σ r → rs ≡ filled (σ .rows) n (row o n new)
-          → Settled (σ .marks) (σ .locations) (part (σ .pool) (f .at) (f .n)) (location span pos) (g .v) m l watermark′
+          → Settled (σ .marks) (σ .locations) (part (σ .pool) (f .at) (f .n)) (packed span pos) (g .v) m l watermark′
           → PlacesOne c r g watermark added used σ h watermark′ (placed-storage σ sp o t rs m l)
       unfolding place-one row-of
       places-one rs m l watermark′ a er Z =
@@ -188,8 +188,8 @@ module _ (c r : ℕ) (g : Guide) (watermark added used : ℕ) (σ : Storage) whe
                   (ap (λ (x : List ℕ). drop (g .v) x) (Z .stamps .marks-are) ∙ stamped-beyond (g .v) (σ .marks) xs mark-written xs-below);
               locations =
                   beyond-drop (g .v) (g .v) (σ .locations) l (omega arith)
-                  (ap length (Z .stamps .locations-are) ∙ stamped-length (σ .locations) xs (location span pos))
-                  (ap (λ (x : List ℕ). drop (g .v) x) (Z .stamps .locations-are) ∙ stamped-beyond (g .v) (σ .locations) xs (location span pos) xs-below);
+                  (ap length (Z .stamps .locations-are) ∙ stamped-length (σ .locations) xs (packed span pos))
+                  (ap (λ (x : List ℕ). drop (g .v) x) (Z .stamps .locations-are) ∙ stamped-beyond (g .v) (σ .locations) xs (packed span pos) xs-below);
               waiting = beyond-refl _ (σ .waiting);
               pool = refl;
             };

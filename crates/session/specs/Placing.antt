@@ -7,7 +7,7 @@ use native.Mathlib.Omega.{arith}
 use lib.Dec.{ltb}
 use lib.ListN.{length}
 use borrow.Author.Tests.{lt-ltb}
-use Rattle.rules.specs.Limits.{mark-written}
+use Rattle.rules.specs.Limits.{location-radix, mark-written}
 use Rattle.rules.specs.Guide.{Loc, Item, Placed, place, tally}
 use Rattle.rules.specs.Checks.{taken}
 use Rattle.rules.specs.Model.{Reg, Model, run-from, top, after, spotted, reg-of, place-one}
@@ -16,8 +16,8 @@ use Rattle.laws.specs.ModelBase.{member-in}
 use Rattle.laws.specs.Limits.{AllBelow}
 use Rattle.laws.specs.Placeable.{Placeable}
 use Rattle.lists.specs.Part.{part, Below, listed-of}
-use Rattle.tracking.specs.Tracking.{peak, stamped, tracked-in}
-use Rattle.tracking.specs.Places.{Places, top-pack, Fresh, places-stamped, run-is}
+use Rattle.tracking.specs.Tracking.{packed, peak, stamped, tracked-in}
+use Rattle.tracking.specs.Places.{Places, packed-once, top-pack, Fresh, places-stamped, run-is}
 use Rattle.entries.specs.declared.Entry.{Entry}
 use Rattle.entries.specs.Entries.{item-of}
 use Rattle.buffer.specs.declared.Guide.{Guide}
@@ -26,13 +26,13 @@ use Rattle.guide.specs.Ready.{Ready, Near, after-of}
 use Rattle.guide.specs.Pushes.{Pushes}
 use Rattle.session.specs.declared.After.{After}
 use Rattle.session.specs.Storage.{Storage}
-use Rattle.session.specs.Outputs.{location-radix, location, Settling, Settled}
+use Rattle.session.specs.Outputs.{Settling, Settled}
 use Rattle.session.specs.Rep.{Rowed, Core}
 
 -- what is read of a registration a: whether it has inputs, the greatest location of them, and where its outputs lie
 pub record Found (locations pool : List ℕ) (a : Reg) (f : After) : Type 0 where
   pub has-is : f .has ≡ ltb 0 (length (a .ins))
-  pub peak-is : location (f .span) (f .pos) ≡ peak locations (a .ins)
+  pub peak-is : packed (f .span) (f .pos) ≡ peak locations (a .ins)
   pub low : f .pos < location-radix
   pub inside : f .at + f .n ≤ length pool
   pub outs-are : part pool (f .at) (f .n) ≡ a .outs
@@ -59,12 +59,8 @@ module _ (P N : ℕ) (k : Model) (g : Guide) (watermark : ℕ) (σ : Storage) (r
     tops : (pack (top (k .located) (a .ins)) ≡ peak (σ .locations) (a .ins)) × ((top (k .located) (a .ins)) .pos < location-radix)
     tops = top-pack N (k .sets) (k .located) (σ .marks) (σ .locations) (C .tracked .places) (a .ins) (all-below N (a .ins) (M .lists .ins-below))
 
-    parts : (x y u z : ℕ) → location x y ≡ location u z → y < location-radix → z < location-radix → (x ≡ u) × (y ≡ z)
-    parts x y u z e h q = (omega arith, omega arith)
-
     top-parts : (f .span ≡ (top (k .located) (a .ins)) .span) × (f .pos ≡ (top (k .located) (a .ins)) .pos)
-    unfolding pack
-    top-parts = parts (f .span) (f .pos) ((top (k .located) (a .ins)) .span) ((top (k .located) (a .ins)) .pos) (F .peak-is ∙ sym (tops .0)) (F .low) (tops .1)
+    top-parts = packed-once (record { span = f .span; pos = f .pos }) (top (k .located) (a .ins)) (F .low) (tops .1) (F .peak-is ∙ sym (tops .0))
 
     after-is : after (k .located) (a .ins) ≡ after-of (f .has) (f .span) (f .pos)
     unfolding after after-of
@@ -118,7 +114,7 @@ module _ (P N : ℕ) (k : Model) (g : Guide) (watermark : ℕ) (σ : Storage) (r
 
       -- the session after the placing: the guide's promise, the rows filled, the outputs' stamps
       pub placed : (watermark′ : ℕ) (rs m l : List ℕ) → Rowed N (place-one P c r k) (placed-storage σ sp o t rs m l)
-          → Settled (σ .marks) (σ .locations) (part (σ .pool) (f .at) (f .n)) (location span pos) (g .v) m l watermark′
+          → Settled (σ .marks) (σ .locations) (part (σ .pool) (f .at) (f .n)) (packed span pos) (g .v) m l watermark′
           → Core P N (place-one P c r k) h watermark′ (placed-storage σ sp o t rs m l)
       unfolding place-one pack reg-of taken item pl
       placed watermark′ rs m l R Z =
@@ -132,14 +128,14 @@ module _ (P N : ℕ) (k : Model) (g : Guide) (watermark : ℕ) (σ : Storage) (r
           outs : List ℕ
           outs = a .outs
 
-          packs : location span pos ≡ pack (pl .loc)
+          packs : packed span pos ≡ pack (pl .loc)
           packs = omega (arith, U .at-span ∙ ap (λ (x : Placed). x .loc .span) pl-is, U .at-pos ∙ ap (λ (x : Placed). x .loc .pos) pl-is)
 
           m-is : stamped (σ .marks) outs mark-written ≡ m
           m-is = sym (Z .stamps .marks-are ∙ ap (λ x. stamped (σ .marks) x mark-written) (F .outs-are))
 
           l-is : stamped (σ .locations) outs (pack (pl .loc)) ≡ l
-          l-is = sym (Z .stamps .locations-are ∙ ap (λ x. stamped (σ .locations) x (location span pos)) (F .outs-are) ∙ ap (λ x. stamped (σ .locations) outs x) packs)
+          l-is = sym (Z .stamps .locations-are ∙ ap (λ x. stamped (σ .locations) x (packed span pos)) (F .outs-are) ∙ ap (λ x. stamped (σ .locations) outs x) packs)
 
           fresh : Fresh (k .sets) (k .located) outs
           fresh = record { unset = λ x y. M .unset x (member-in x outs y); unplaced = λ x y. M .unplaced x (member-in x outs y) }

@@ -1,7 +1,7 @@
 -- A session and storage that stand for a model show it. Assumes nothing.
 use mathlib.Core.Path.{_≡_, sym, ap, _∙_}
 use mathlib.Core.List.{List, [], map}
-use Prim.Native.Nat.{ℕ, _+_, _*_, _<_}
+use Prim.Native.Nat.{ℕ, _+_, _<_}
 use native.Mathlib.Omega.{arith}
 use lib.ListN.{length, getD}
 use Rattle.rules.specs.Guide.{Item, Guide as GuideModel}
@@ -9,7 +9,7 @@ use Rattle.rules.specs.Model.{Model, reg-of}
 use Rattle.rules.specs.Checks.{pooled}
 use Rattle.rules.specs.Record.{location-of}
 use Rattle.entries.specs.Entries.{entry-at}
-use Rattle.buffer.specs.View.{view, order-of, spans-of, upto}
+use Rattle.buffer.specs.View.{row-start, view, order-of, spans-of, upto}
 use Rattle.buffer.specs.Rows.{spans-lengths, spans-at}
 use Rattle.buffer.specs.Order.{order-count}
 use Rattle.registrar.specs.Unique.{pending-read}
@@ -46,7 +46,7 @@ module _ (P N : ℕ) (k : Model) (s : Session) (σ : Storage) (R : Rep P N k s �
       whole : Parts (σ .waiting) N r (length (k .adds)) (pooled (k .adds)) (σ .pool) (reg-of k r) → lists-in (σ .waiting) (σ .pool) N (length (k .adds)) (pooled (k .adds)) r ≡ reg-of k r
       whole p = rw (p .ins-are, p .outs-are)
 
-  none-assigned : (i j : ℕ) → i < 32 → j < getD (s .guide .window .lens) i 0 → (entry-at (σ .spans) (getD (s .guide .window .rows) i 0 * (P + 1) + j)) .parallelism ≡ 0
+  none-assigned : (i j : ℕ) → i < 32 → j < getD (s .guide .window .lens) i 0 → (entry-at (σ .spans) (row-start (getD (s .guide .window .rows) i 0) P + j)) .parallelism ≡ 0
   none-assigned = rw (← R .core .guided .p-is) (R .core .guided .stands .laid .unassigned)
 
   pub shows : Shows P N k s σ

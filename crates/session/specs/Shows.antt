@@ -4,14 +4,14 @@
 -- Showing. Definitions only. Assumes nothing.
 use mathlib.Core.Path.{_≡_}
 use mathlib.Core.List.{List, [], map}
-use Prim.Native.Nat.{ℕ, _+_, _-_, _*_, _<_}
+use Prim.Native.Nat.{ℕ, _+_, _-_, _<_}
 use lib.ListN.{length, getD, take}
 use Rattle.rules.specs.Guide.{Item, tally as tally-of}
 use Rattle.rules.specs.Model.{Model, Reg, reg-of, registrations as registrations-of, watermark as watermark-of}
 use Rattle.rules.specs.Record.{mark-of, location-of, row-of}
 use Rattle.window.specs.declared.Window.{Window}
 use Rattle.entries.specs.Entries.{entry-at, row, item-of}
-use Rattle.buffer.specs.View.{order-of, upto}
+use Rattle.buffer.specs.View.{row-start, order-of, upto}
 use Rattle.records.specs.Filled.{row-at}
 use Rattle.registrar.specs.Reading.{waiting-in}
 use Rattle.lists.specs.Part.{part}
@@ -21,7 +21,7 @@ use Rattle.session.specs.Storage.{Storage}
 
 -- what span i of the window holds: as many entries as its length says, from the start of its row of P + 1 on
 unfoldable pub span-in : ℕ → Window → List ℕ → ℕ → List Item
-span-in P w spans i = map item-of (row spans (getD (w .rows) i 0 * (P + 1)) (getD (w .lens) i 0))
+span-in P w spans i = map item-of (row spans (row-start (getD (w .rows) i 0) P) (getD (w .lens) i 0))
 
 -- the lists of registration r, n being accepted and `used` numbers of the pool taken: its inputs, and its outputs behind them
 unfoldable pub lists-in : List ℕ → List ℕ → ℕ → ℕ → ℕ → ℕ → Reg
@@ -47,7 +47,7 @@ pub record Shows (P N : ℕ) (k : Model) (s : Session) (σ : Storage) : Type 0 w
   pub spans : (i : ℕ) → i < 32 → span-in P (s .guide .window) (σ .spans) i ≡ getD (k .guide .spans) i []
   -- a held entry has no parallelism yet: 0 stands there
   pub unassigned : (i j : ℕ) → i < 32 → j < getD (s .guide .window .lens) i 0
-      → entry-at (σ .spans) (getD (s .guide .window .rows) i 0 * (P + 1) + j) .parallelism ≡ 0
+      → entry-at (σ .spans) (row-start (getD (s .guide .window .rows) i 0) P + j) .parallelism ≡ 0
   -- the high mark, as the watermark
   pub watermark : s .watermark ≡ watermark-of N k
   -- who waits, and how many

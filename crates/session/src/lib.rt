@@ -1,10 +1,10 @@
 // The session by value, and the placing of registrations over its lent storage.
 ghost use mathlib.Core.Path.{_≡_};
-ghost use Prim.Native.Nat.{_+_, _*_, _<_};
+ghost use Prim.Native.Nat.{_<_};
 ghost use Rattle.lists.specs.Part.{part};
 ghost use Rattle.records.specs.Filling.{rows-fit};
 ghost use Rattle.session.specs.Noting.{noted};
-ghost use Rattle.session.specs.Outputs.{location, Settling, Settled};
+ghost use Rattle.session.specs.Outputs.{Settling, Settled};
 ghost use Rattle.session.specs.Storage.{given, across};
 ghost use Rattle.session.specs.PlaceNext.{MayPlace, PlacesOne, MayPlaceNext, PlacesNext};
 ghost use Rattle.session.specs.Settle.{MaySettle, Settles};
@@ -29,9 +29,6 @@ pub struct Session {
     pub places: u32,
 }
 
-// A location is one number: the span times this, which is above every position, plus the position.
-const LOCATION_RADIX: u64 = 4294967296;
-
 // What placing a registration reads of its lists: whether it has inputs, the greatest location of them, and the n outputs, which lie in
 // the pool from `at` on.
 pub struct After {
@@ -46,13 +43,6 @@ fn wide(x: u32) -> usize
     ensures { λ r. ⌜ r ≡ x ⌝ }
 {
     x as usize
-}
-
-// A location as one number.
-fn packed(span: u32, pos: u32) -> u64
-    ensures { λ r. ⌜ r ≡ location span pos ⌝ }
-{
-    (span as u64) * LOCATION_RADIX + (pos as u64)
 }
 
 // Where the lists of registration r lie, and the greatest location of its inputs.
@@ -77,8 +67,8 @@ fn find_after(
     let at = start + n;
     After {
         has: 0 < n,
-        span: (top / LOCATION_RADIX) as u32,
-        pos: (top % LOCATION_RADIX) as u32,
+        span: tracking::span_of(top),
+        pos: tracking::position_of(top),
         at: at,
         n: end - at,
     }
@@ -142,8 +132,8 @@ fn place_one(
         parallelism: 0,
     };
     let d = guide::push(s.guide, spans, order, tally, a.has, a.span, a.pos, e);
-    records::fill_rows(order, n, d.guide.written - n, rows);
-    let loc = packed(d.span, d.pos);
+    records::fill_rows(order, rows, n, d.guide.written - n);
+    let loc = tracking::packed(d.span, d.pos);
     let to = settle_outputs(marks, locations, pool, a.at, a.n, loc, v, s.watermark);
     let h = d.guide;
     Moved {

@@ -6,18 +6,19 @@ use mathlib.Core.Bool.{Bool, true, false, _||_, cond, or-true}
 use mathlib.Core.Logic.{_⊎_, inl, inr}
 use Prim.Native.Nat.{ℕ, zero, suc, _+_, _≤_, _<_, max}
 use native.Mathlib.Omega.{arith}
+use native.Mathlib.Nat.{div-add-mod'}
 use native.Mathlib.Decide.{ℕ-discrete}
 use lib.Dec.{ltb, eqb}
 use lib.ListN.{length, getD, set, drop, length-set}
 use lib.Seq.{getD-set-same, getD-set-other, drop-set-lt}
 use borrow.Author.Tests.{ltb-true, ltb-false, eq-eqb, ne-eqb}
-use Rattle.rules.specs.Limits.{mark-written, mark-set}
+use Rattle.rules.specs.Limits.{location-radix, mark-written, mark-set}
 use Rattle.rules.specs.Guide.{Loc, origin}
 use Rattle.rules.specs.Record.{mark-by, pack}
 use Rattle.rules.specs.Model.{Located, Model, member, marked, tracked, run-from, watermark, loc-of, later, top, spotted}
 use Rattle.laws.specs.ModelBase.{bool-cases, loc-of-left, loc-of-right, marked-append}
 use Rattle.lists.specs.Part.{Below}
-use Rattle.tracking.specs.Tracking.{peak, stamped, nz, tracked-in}
+use Rattle.tracking.specs.Tracking.{unpacked, peak, stamped, nz, tracked-in}
 
 -- marks and locations of the first N places are those of the set places and of the located ones
 pub record Places (N : ℕ) (sets : List ℕ) (ls : List Located) (marks locations : List ℕ) : Type 0 where
@@ -25,14 +26,23 @@ pub record Places (N : ℕ) (sets : List ℕ) (ls : List Located) (marks locatio
   pub locations-long : N ≤ length locations
   pub at : (x : ℕ) → x < N → getD marks x 0 ≡ mark-by (member x sets) (marked x ls)
   pub place-of : (x : ℕ) → x < N → getD locations x 0 ≡ pack (loc-of ls x)
-  pub low : (x : ℕ) → (loc-of ls x) .pos < 4294967296
+  pub low : (x : ℕ) → (loc-of ls x) .pos < location-radix
 
-later-pack : (l m : Loc) → l .pos < 4294967296 → m .pos < 4294967296 → (pack (later l m) ≡ max (pack l) (pack m)) × ((later l m) .pos < 4294967296)
+-- a number stands for a location, and two locations with low positions have two numbers
+pub unpacked-packs : (n : ℕ) → (pack (unpacked n) ≡ n) × ((unpacked n) .pos < location-radix)
+unfolding pack
+unpacked-packs n = (div-add-mod' n location-radix, omega arith)
+
+pub packed-once : (l m : Loc) → l .pos < location-radix → m .pos < location-radix → pack l ≡ pack m → (l .span ≡ m .span) × (l .pos ≡ m .pos)
+unfolding pack
+packed-once l m hl hm e = (omega arith, omega arith)
+
+later-pack : (l m : Loc) → l .pos < location-radix → m .pos < location-radix → (pack (later l m) ≡ max (pack l) (pack m)) × ((later l m) .pos < location-radix)
 unfolding later pack
 later-pack l m hl hm = go (bool-cases (ltb (l .span) (m .span))) (bool-cases (ltb (m .span) (l .span))) (bool-cases (ltb (l .pos) (m .pos)))
   where
     go : (ltb (l .span) (m .span) ≡ true) ⊎ (ltb (l .span) (m .span) ≡ false) → (ltb (m .span) (l .span) ≡ true) ⊎ (ltb (m .span) (l .span) ≡ false)
-        → (ltb (l .pos) (m .pos) ≡ true) ⊎ (ltb (l .pos) (m .pos) ≡ false) → (pack (later l m) ≡ max (pack l) (pack m)) × ((later l m) .pos < 4294967296)
+        → (ltb (l .pos) (m .pos) ≡ true) ⊎ (ltb (l .pos) (m .pos) ≡ false) → (pack (later l m) ≡ max (pack l) (pack m)) × ((later l m) .pos < location-radix)
     go (inl a) b c = let x = ltb-true (l .span) (m .span) a in rw (a, later) (omega arith, hm)
     go (inr a) (inl b) c = let x = ltb-true (m .span) (l .span) b in rw (a, b, later) (omega arith, hl)
     go (inr a) (inr b) (inl c) =
@@ -48,7 +58,7 @@ later-pack l m hl hm = go (bool-cases (ltb (l .span) (m .span))) (bool-cases (lt
 
 -- the greatest number among the inputs' is the greatest location's
 pub top-pack : (N : ℕ) (sets : List ℕ) (ls : List Located) (marks locations : List ℕ) → Places N sets ls marks locations → (xs : List ℕ) → Below N xs
-    → (pack (top ls xs) ≡ peak locations xs) × ((top ls xs) .pos < 4294967296)
+    → (pack (top ls xs) ≡ peak locations xs) × ((top ls xs) .pos < location-radix)
 unfolding top peak Below pack
 top-pack N sets ls marks locations k [] h = (refl, omega arith)
 top-pack N sets ls marks locations k (x ∷ xs) h =
@@ -116,7 +126,7 @@ pub record Fresh (sets : List ℕ) (ls : List Located) (outs : List ℕ) : Type 
   pub unset : (x : ℕ) → member x outs ≡ true → member x sets ≡ false
   pub unplaced : (x : ℕ) → member x outs ≡ true → marked x ls ≡ false
 
-module _ (N : ℕ) (sets : List ℕ) (ls : List Located) (marks locations outs : List ℕ) (l : Loc) (k : Places N sets ls marks locations) (f : Fresh sets ls outs) (hl : l .pos < 4294967296) where
+module _ (N : ℕ) (sets : List ℕ) (ls : List Located) (marks locations outs : List ℕ) (l : Loc) (k : Places N sets ls marks locations) (f : Fresh sets ls outs) (hl : l .pos < location-radix) where
   abbrev ls′ : List Located
   ls′ = ls ++ spotted l outs
 
@@ -152,10 +162,10 @@ module _ (N : ℕ) (sets : List ℕ) (ls : List Located) (marks locations outs :
       go (inl e) = rw (e, loc-new x e)
       go (inr e) = rw (e, loc-old x e) (k .place-of x h)
 
-  low′ : (x : ℕ) → (loc-of ls′ x) .pos < 4294967296
+  low′ : (x : ℕ) → (loc-of ls′ x) .pos < location-radix
   low′ x = go (bool-cases (member x outs))
     where
-      go : (member x outs ≡ true) ⊎ (member x outs ≡ false) → (loc-of ls′ x) .pos < 4294967296
+      go : (member x outs ≡ true) ⊎ (member x outs ≡ false) → (loc-of ls′ x) .pos < location-radix
       go (inl e) = rw (loc-new x e) hl
       go (inr e) = rw (loc-old x e) (k .low x)
 

@@ -1,11 +1,20 @@
--- What is stored of places: a mark each (0 untracked, 32,768 written, 49,152 set) and a location each.
+-- What is stored of places: a mark each (rules/Record.mark-by, 0 where untracked) and a location each, as one number (rules/Record.pack).
 -- Definitions that the promises cite; laws are in Loops and Places. Assumes nothing.
 use mathlib.Core.Path.{_≡_}
 use mathlib.Core.List.{List, [], _∷_}
 use mathlib.Core.Bool.{Bool, true, false}
-use Prim.Native.Nat.{ℕ, zero, suc, max}
+use Prim.Native.Nat.{ℕ, zero, suc, _/_, _%_, max}
 use lib.ListN.{getD, set}
-use Rattle.rules.specs.Limits.{mark-written}
+use Rattle.rules.specs.Limits.{location-radix, mark-written}
+use Rattle.rules.specs.Guide.{Loc}
+use Rattle.rules.specs.Record.{pack}
+
+-- a span and a position as one number, and the location that a number stands for (Places.unpacked-packs)
+abbrev pub packed : ℕ → ℕ → ℕ
+packed span pos = pack (record { span = span; pos = pos })
+
+abbrev pub unpacked : ℕ → Loc
+unpacked n = record { span = n / location-radix; pos = n % location-radix }
 
 -- the greatest of the locations of the places xs
 unfoldable pub peak : List ℕ → List ℕ → ℕ

@@ -1,17 +1,38 @@
-// Marks and locations of places, and the watermark, the count of leading tracked places. A location is one number, span * 2^32 + position,
-// so that the greatest location is the greatest number.
+// Marks and locations of places, and the watermark, the count of leading tracked places. A location is one number, so that the greatest
+// location is the greatest number; this crate alone makes it of a span and a position, and takes it apart.
 ghost use mathlib.Core.Path.{_≡_};
 ghost use Prim.Native.Nat.{_<_, _≤_};
 ghost use lib.ListN.{length, set};
 ghost use Rattle.rules.specs.Limits.{mark-set};
 ghost use Rattle.rules.specs.Model.{run-from};
 ghost use Rattle.lists.specs.Part.{part, Listed};
-ghost use Rattle.tracking.specs.Tracking.{peak, Stamped, tracked-in};
+ghost use Rattle.tracking.specs.Tracking.{packed, unpacked, peak, Stamped, tracked-in};
 
 fn wide(x: u32) -> usize
     ensures { λ r. ⌜ r ≡ x ⌝ }
 {
     x as usize
+}
+
+// A location as one number.
+pub fn packed(span: u32, pos: u32) -> u64
+    ensures { λ r. ⌜ r ≡ packed span pos ⌝ }
+{
+    (span as u64) * rules::LOCATION_RADIX + (pos as u64)
+}
+
+// The span of a location.
+pub fn span_of(loc: u64) -> u32
+    ensures { λ r. ⌜ r ≡ (unpacked loc) .span ⌝ }
+{
+    (loc / rules::LOCATION_RADIX) as u32
+}
+
+// The position of a location.
+pub fn position_of(loc: u64) -> u32
+    ensures { λ r. ⌜ r ≡ (unpacked loc) .pos ⌝ }
+{
+    (loc % rules::LOCATION_RADIX) as u32
 }
 
 // The greatest location of the n places listed in the pool from `at` on, 0 where there are none.

@@ -11,16 +11,19 @@ use Rattle.buffer.proofs.release.Statement.{statement}
 use Rattle.buffer.proofs.release.Tie as tie
 
 -- the places of the code, each named once
+abbrev to-row-start : tie.After-append-row-arg → tie.After-row-start
+to-row-start c = c .before .before .before .before
+
 abbrev to-start : tie.After-append-row-arg → tie.Start
 to-start c =
-    let after-a = c .before .before .before .before in
-    after-a .before .before .before .before .before
+    let after-row-start = to-row-start c in
+    after-row-start .before .before .before .before .before
 
-element-copy-out-row : tie.Need-element-copy-out-row
-element-copy-out-row c = search needs
+element-copy-out-row-start : tie.Need-element-copy-out-row-start
+element-copy-out-row-start c = search needs
 
-cast-row : tie.Need-cast-row
-cast-row c = search needs
+row-start-requires : tie.Need-row-start-requires
+row-start-requires c κs = search needs
 
 element-copy-out-a : tie.Need-element-copy-out-a
 element-copy-out-a c = search needs
@@ -34,27 +37,18 @@ element-copy-out-b c = search needs
 cast-b : tie.Need-cast-b
 cast-b c = search needs
 
-cast-p : tie.Need-cast-p
-cast-p c = search needs
-
 cast-n : tie.Need-cast-n
 cast-n c = search needs
-
-add-append-row : tie.Need-add-append-row
-add-append-row c = search needs
 
 -- the row of span 0 ends within the span storage
 row-within : (s : tie.Start) → start-of (s .args .g) 0 + (s .args .g .p + 1) ≤ spans-needed (s .args .g .p)
 row-within s = row-ends (s .args .g .p) (getD (s .args .g .window .rows) 0 0) 32 (s .pre .in-rows)
 
-mul-append-row : tie.Need-mul-append-row
-mul-append-row c = let s = to-start c in omega (arith, row-within s, s .pre .few)
-
 append-row-requires : tie.Need-append-row-requires
 append-row-requires c κs =
     let s = to-start c in
     let fit = s .pre in
-    omega (arith, row-within s, fit .few, fit .one, fit .short, fit .lent, fit .next-short, fit .room)
+    omega (arith, to-row-start c .row-start .ensures, row-within s, fit .few, fit .one, fit .short, fit .lent, fit .next-short, fit .room)
 
 rotate-requires : tie.Need-rotate-requires
 rotate-requires c κs = search needs
@@ -69,22 +63,19 @@ returns : tie.Need-returns
 unfolding released-guide released-order
 returns c =
     let after-append-row = c .before .before .before .before in
-    (rw (c .before .rotate .ensures), after-append-row .append-row .ensures)
+    (rw (c .before .rotate .ensures), rw (to-row-start (after-append-row .before) .row-start .ensures) at (after-append-row .append-row .ensures))
 
 pub release-spec : {M : Type 1} → statement M
 release-spec =
     tie.close
     (tie.spec
-    element-copy-out-row
-    cast-row
+    element-copy-out-row-start
+    row-start-requires
     element-copy-out-a
     cast-a
     element-copy-out-b
     cast-b
-    cast-p
     cast-n
-    add-append-row
-    mul-append-row
     append-row-requires
     rotate-requires
     add-h

@@ -29,7 +29,9 @@ flush-requires c κs =
     asks-flush (a .g) (a .added) (now (a .spans)) (now (a .order)) (now (a .tally)) (now (a .rows)) (at-start .pre)
 
 sub-fill-rows : tie.Need-sub-fill-rows
-sub-fill-rows c = c .before .before .before .before .before .flush .ensures .frame .grows
+sub-fill-rows c =
+    let at-flush-1 = c .before .before .before .before .before in
+    at-flush-1 .before .flush .ensures .frame .grows
 
 fill-rows-requires : tie.Need-fill-rows-requires
 fill-rows-requires c κs =
@@ -50,7 +52,7 @@ note-latest-requires c κs =
     let at-start = at-start-1 .before .before in
     let a = at-start .args in
     asks-note (a .g) (a .added) (now (a .spans)) (now (a .order)) (now (a .tally)) (now (a .rows)) (at-flush .flush .result) (at-flush .flush .last .1 .1 .0)
-    (at-flush .flush .last .1 .1 .1 .0) (at-flush .flush .ensures) (at-fill-rows .fill-rows .last .1 .1 .1 .0) (at-fill-rows .fill-rows .ensures)
+    (at-flush .flush .last .1 .1 .1 .0) (at-flush .flush .ensures) (at-fill-rows .fill-rows .last .1 .0) (at-fill-rows .fill-rows .ensures)
     (at-start .pre)
 
 same-length : tie.Need-same-length
@@ -60,13 +62,13 @@ same-length-2 : tie.Need-same-length-2
 same-length-2 c = at-flush c .flush .kept .1 .1 .1 .0
 
 same-length-3 : tie.Need-same-length-3
-same-length-3 c = c .before .before .note-latest .kept .0 ∙ at-fill-rows c .fill-rows .kept .1 .1 .1 .0
+same-length-3 c = c .before .before .note-latest .kept .0 ∙ at-fill-rows c .fill-rows .kept .1 .0
 
 returns : tie.Need-returns
 returns c =
     let a = at-start c .args in
     releases (a .g) (a .added) (now (a .spans)) (now (a .order)) (now (a .tally)) (now (a .rows)) (at-flush c .flush .result) (at-flush c .flush .last .1 .1 .0)
-    (at-flush c .flush .last .1 .1 .1 .0) (at-flush c .flush .ensures) (at-fill-rows c .fill-rows .last .1 .1 .1 .0) (at-fill-rows c .fill-rows .ensures)
+    (at-flush c .flush .last .1 .1 .1 .0) (at-flush c .flush .ensures) (at-fill-rows c .fill-rows .last .1 .0) (at-fill-rows c .fill-rows .ensures)
     (c .before .before .note-latest .last .0) (c .before .before .note-latest .ensures) (at-start c .pre)
 
 pub release-all-spec : {M : Type 1} → statement M

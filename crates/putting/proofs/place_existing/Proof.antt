@@ -1,7 +1,7 @@
 -- `putting::place_existing` meets its contract: the slot lies within the span storage; the put, and the release where the span is full.
 -- Assumes nothing.
 use native.Mathlib.Omega.{arith}
-use mathlib.Core.Path.{refl, sym, subst}
+use mathlib.Core.Path.{_≡_, refl, sym, subst}
 use denote.Ref.{now}
 use Rattle.entries.specs.Entries.{has-entry}
 use Rattle.buffer.specs.Moves.{slot-of, longer, put-spans, slot-fits}
@@ -20,7 +20,7 @@ abbrev start : tie.After-at → tie.Start
 start c = c .before .before .before .before .before
 
 abbrev begun : tie.After-store-held-arg → tie.After-at
-begun c = c .before .before .before
+begun c = c .before .before .before .before
 
 abbrev stored : tie.After-slice-known4 → tie.After-store-held
 stored c = c .before .before
@@ -34,6 +34,12 @@ released c = c .before .before .before .before .before
 -- the entry goes into the lent spans
 slot-there : (s : tie.Start) → has-entry (now (s .args .spans)) (slot-of (s .args .g) (s .args .i))
 slot-there s = slot-fits (s .args .g) (now (s .args .spans)) (s .pre .0 .laid) (s .args .i) (s .pre .1 .1 .1 .1)
+
+put-at : (u : tie.After-store-held)
+    → let a = start (begun (u .before)) .args in
+    u .store-held .last .0 ≡ put-spans (a .g) (now (a .spans)) (a .i) (a .e)
+unfolding put-spans
+put-at u = rw (u .before .before .row-start .ensures) at (u .store-held .ensures)
 
 mul-at : tie.Need-mul-at
 mul-at c = search needs
@@ -50,20 +56,11 @@ element-copy-out-q c = search needs
 cast-q : tie.Need-cast-q
 cast-q c = search needs
 
-element-copy-out-start : tie.Need-element-copy-out-start
-element-copy-out-start c = search needs
+element-copy-out-row-start : tie.Need-element-copy-out-row-start
+element-copy-out-row-start c = search needs
 
-cast-start : tie.Need-cast-start
-cast-start c = search needs
-
-cast-start-2 : tie.Need-cast-start-2
-cast-start-2 c = search needs
-
-add-start : tie.Need-add-start
-add-start c = search needs
-
-mul-start : tie.Need-mul-start
-mul-start c = omega (arith, slot-there (start (c .before .before)))
+row-start-requires : tie.Need-row-start-requires
+row-start-requires c κs = search needs
 
 cast-store-held : tie.Need-cast-store-held
 cast-store-held c = search needs
@@ -102,7 +99,7 @@ release-one-requires c κs =
     let o = now (a .order) in
     let t = now (a .tally) in
     subst (λ (x : Guide). Stands x s′ o t × Free x) (sym (made c .guide-of .ensures)) (
-      put-is (a .g) (now (a .spans)) s′ o t (a .i) (a .e) (s .pre .0) (s .pre .1 .1) (u .store-held .ensures) .stands,
+      put-is (a .g) (now (a .spans)) s′ o t (a .i) (a .e) (s .pre .0) (s .pre .1 .1) (put-at u) .stands,
       longer-free (a .g) (a .i) (s .pre .1 .1 .0) (s .pre .1 .0),
     )
 
@@ -130,7 +127,7 @@ returns c =
     let o′ = z .last .1 .1 .0 in
     let t′ = z .last .1 .1 .1 .0 in
     let d = subst (λ (x : Guide). Done x (z .result) s′ o t s′ o′ t′ (release (x .p) 1 (view x s′ o))) (f .guide-of .ensures) (z .ensures .0) in (
-      put-gone (a .g) (now (a .spans)) s′ o t (a .i) (a .e) (s .pre .0) (s .pre .1 .1) (u .store-held .ensures) (z .result) o′ t′ (omega (arith, full .if1 .taken)) d,
+      put-gone (a .g) (now (a .spans)) s′ o t (a .i) (a .e) (s .pre .0) (s .pre .1 .1) (put-at u) (z .result) o′ t′ (omega (arith, full .if1 .taken)) d,
       (refl, refl),
     )
 
@@ -143,7 +140,7 @@ returns-2 c =
     let u = stored (c .before) in
     let s = start (begun (u .before)) in
     let a = s .args in (
-      put-kept (a .g) (now (a .spans)) (u .store-held .last .0) (now (a .order)) (now (a .tally)) (a .i) (a .e) (s .pre .0) (s .pre .1 .1) (u .store-held .ensures)
+      put-kept (a .g) (now (a .spans)) (u .store-held .last .0) (now (a .order)) (now (a .tally)) (a .i) (a .e) (s .pre .0) (s .pre .1 .1) (put-at u)
           (omega (arith, c .if1 .left)),
       (refl, refl),
     )
@@ -157,11 +154,8 @@ place-existing-spec =
     mul-q
     element-copy-out-q
     cast-q
-    element-copy-out-start
-    cast-start
-    cast-start-2
-    add-start
-    mul-start
+    element-copy-out-row-start
+    row-start-requires
     cast-store-held
     add-store-held
     store-held-requires

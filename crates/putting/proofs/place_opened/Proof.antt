@@ -1,26 +1,28 @@
 -- `putting::place_opened` meets its contract: the spans opened, and the put into the new last one. Assumes nothing.
-use Prim.Native.Nat.{_+_, _*_}
-use native.Mathlib.Omega.{arith}
 use lib.ListN.{getD}
 use mathlib.Core.Path.{refl}
 use denote.Ref.{now}
 use Rattle.entries.specs.Entries.{has-entry}
+use Rattle.buffer.specs.View.{row-start}
 use Rattle.placing.specs.Opened.{opened-number, opened-slot, open-put}
 use borrow.Author.Needs.{needs}
 use Rattle.putting.proofs.place_opened.Statement.{statement}
 use Rattle.putting.proofs.place_opened.Tie as tie
 
--- places: the start, seen from the end of the opening; that, seen from the new window
+-- places: the start, seen from the end of the opening; that, seen from the new window; that, seen from where its last row begins
 abbrev start : tie.After-open-spans-arg2 → tie.Start
 start c = c .before .before .before .before .before
 
 abbrev opened : tie.After-w → tie.After-open-spans
 opened c = c .before .before .before .before .before
 
+abbrev begun : tie.After-row-start → tie.After-w
+begun c = c .before .before .before .before
+
 -- the last span begins in the lent spans
 slot-there : (c : tie.After-open-spans)
     → let a = start (c .before .before) .args in
-    has-entry (now (a .spans)) (getD (c .open-spans .result .window .rows) 31 0 * (a .g .p + 1))
+    has-entry (now (a .spans)) (row-start (getD (c .open-spans .result .window .rows) 31 0) (a .g .p))
 slot-there c =
     let s = start (c .before .before) in
     let a = s .args in
@@ -33,23 +35,14 @@ open-spans-requires c κs = search needs
 element-copy-out-at : tie.Need-element-copy-out-at
 element-copy-out-at c = search needs
 
-element-copy-out-store-held : tie.Need-element-copy-out-store-held
-element-copy-out-store-held c = search needs
+element-copy-out-row-start : tie.Need-element-copy-out-row-start
+element-copy-out-row-start c = search needs
 
-cast-store-held : tie.Need-cast-store-held
-cast-store-held c = search needs
-
-cast-store-held-2 : tie.Need-cast-store-held-2
-cast-store-held-2 c = search needs
-
-add-store-held : tie.Need-add-store-held
-add-store-held c = search needs
-
-mul-store-held : tie.Need-mul-store-held
-mul-store-held c = omega (arith, slot-there (opened (c .before .before .before)))
+row-start-requires : tie.Need-row-start-requires
+row-start-requires c κs = search needs
 
 store-held-requires : tie.Need-store-held-requires
-store-held-requires c κs = omega (arith, slot-there (opened (c .before .before .before)))
+store-held-requires c κs = rw (c .row-start .ensures) (slot-there (opened (begun c)))
 
 element-write-w : tie.Need-element-write-w
 element-write-w c = search needs
@@ -67,13 +60,13 @@ returns : tie.Need-returns
 returns c =
     let stored = c .before .before in
     let u = stored .store-held in
-    let o = opened (stored .before .before .before .before) in
+    let o = opened (begun (stored .before)) in
     let r = o .open-spans in
     let s = start (o .before .before) in
     let a = s .args in
     let sp = now (a .spans) in (
       open-put (a .g) (r .result) sp (now (a .order)) (r .last .1 .1 .0) (now (a .tally)) (r .last .1 .1 .1 .0) (a .n) (s .pre .0 .laid) (s .pre .1 .1 .0) (r .ensures)
-          (u .last .0) (a .e) (u .ensures),
+          (u .last .0) (a .e) (rw (stored .before .row-start .ensures) at (u .ensures)),
       (
         opened-number (a .g) (r .result) sp (now (a .order)) (r .last .1 .1 .0) (now (a .tally)) (r .last .1 .1 .1 .0) (a .n) (s .pre .0 .laid) (s .pre .1 .1 .0) (r .ensures),
         refl,
@@ -86,11 +79,8 @@ place-opened-spec =
     (tie.spec
     open-spans-requires
     element-copy-out-at
-    element-copy-out-store-held
-    cast-store-held
-    cast-store-held-2
-    add-store-held
-    mul-store-held
+    element-copy-out-row-start
+    row-start-requires
     store-held-requires
     element-write-w
     same-length

@@ -11,10 +11,10 @@ use Rattle.records.proofs.fill_rows.Statement.{statement}
 use Rattle.records.proofs.fill_rows.Tie as tie
 
 abbrev Inv-loop : tie.InvT-loop
-Inv-loop order n a rows₀ q₀ rows q = (q ≤ a) × ((length rows ≡ length rows₀) × (filled rows₀ n (row order n a) ≡ to-fill order n a rows q))
+Inv-loop order rows₀ n a q₀ rows q = (q ≤ a) × ((length rows ≡ length rows₀) × (filled rows₀ n (row order n a) ≡ to-fill order n a rows q))
 
 abbrev μ-loop : tie.MeasureT-loop
-μ-loop order n a rows₀ q₀ rows q = a - q
+μ-loop order rows₀ n a q₀ rows q = a - q
 
 -- the start, seen from a turn
 abbrev start : tie.In-loop Inv-loop μ-loop → tie.Start Inv-loop μ-loop

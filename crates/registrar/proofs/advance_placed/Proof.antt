@@ -14,46 +14,46 @@ Inv-loop w₀ v lo hi top p₀ t₀ w p t = (lo ≤ p) × (p ≤ hi) × (length 
 abbrev μ-loop : tie.MeasureT-loop
 μ-loop w₀ v lo hi top p₀ t₀ w p t = hi - p
 
--- places of the code: the start, seen from the loop; the turn that takes a chain off, seen from its end
+-- places of the code: the start, seen from the loop; where a head was read, seen from where its chain was taken off; that turn
 abbrev start : tie.At-loop Inv-loop μ-loop → tie.Start Inv-loop μ-loop
 start c = c .before .before
 
-abbrev turn : tie.After-splice Inv-loop μ-loop → tie.In-loop Inv-loop μ-loop
-turn c = c .before .before .before
+abbrev read : tie.After-splice Inv-loop μ-loop → tie.After-head Inv-loop μ-loop
+read c = c .before .before
+
+abbrev turn : tie.After-head Inv-loop μ-loop → tie.In-loop Inv-loop μ-loop
+turn c = c .before .before
 
 loop-holds : tie.Need-loop-holds Inv-loop μ-loop
 loop-holds c = let a = c .before .args in (omega arith, c .before .pre .order, refl, placing-start (now (a .w)) (a .v) (a .lo) (a .top))
 
-mul-head : tie.Need-mul-head Inv-loop μ-loop
-mul-head c = let s = start (c .before) in omega (arith, s .pre .high, s .pre .delayed .long, c .before .loop .inv .2)
-
-slice-read-head : tie.Need-slice-read-head Inv-loop μ-loop
-slice-read-head c =
+head-requires : tie.Need-head-requires Inv-loop μ-loop
+head-requires c κs =
     let l = c .before .before in
     omega (arith, start l .pre .high, start l .pre .delayed .long, l .loop .inv .2)
 
 splice-requires : tie.Need-splice-requires Inv-loop μ-loop
 splice-requires c κs =
-    let t = c .before .before in
-    placing-chained (start (t .before) .pre) (t .before .loop .inv .3) (t .loop-test .taken)
+    let t = turn (c .before) in
+    rw (c .before .head .ensures) (placing-chained (start (t .before) .pre) (t .before .loop .inv .3) (t .loop-test .taken))
 
 add-p : tie.Need-add-p Inv-loop μ-loop
 add-p c =
-    let t = turn (c .before .before) in
+    let t = turn (read (c .before .before)) in
     omega (arith, start (t .before) .pre .high, t .loop-test .taken)
 
 loop-less : tie.Need-loop-less Inv-loop μ-loop
-loop-less c = omega (arith, turn (c .before .before) .loop-test .taken)
+loop-less c = omega (arith, turn (read (c .before .before)) .loop-test .taken)
 
 loop-again : tie.Need-loop-again Inv-loop μ-loop
 loop-again c =
     let s = c .before .before in
-    let t = turn s in
+    let t = turn (read s) in
     let l = t .before .loop in (
       omega arith,
       omega (arith, t .loop-test .taken),
       s .splice .kept .0 ∙ l .inv .2,
-      placing-next (start (t .before) .pre) (l .inv .3) (t .loop-test .taken) (s .splice .ensures),
+      placing-next (start (t .before) .pre) (l .inv .3) (t .loop-test .taken) (rw (read s .head .ensures) at (s .splice .ensures)),
     )
 
 same-length : tie.Need-same-length Inv-loop μ-loop
@@ -71,8 +71,7 @@ advance-placed-spec =
     Inv-loop
     μ-loop
     loop-holds
-    mul-head
-    slice-read-head
+    head-requires
     splice-requires
     add-p
     loop-less

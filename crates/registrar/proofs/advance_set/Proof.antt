@@ -19,12 +19,15 @@ Inv-loop w₀ v lo hi p₀ top₀ w p top = (lo ≤ p) × (length w ≡ length w
 abbrev μ-loop : tie.MeasureT-loop
 μ-loop w₀ v lo hi p₀ top₀ w p top = p
 
--- places of the code: the start, seen from the loop; the turn that takes a chain off, seen from its end
+-- places of the code: the start, seen from the loop; where a head was read, seen from where its chain was taken off; that turn
 abbrev start : tie.At-loop Inv-loop μ-loop → tie.Start Inv-loop μ-loop
 start c = c .before .before
 
-abbrev turn : tie.After-turn-onto Inv-loop μ-loop → tie.In-loop Inv-loop μ-loop
-turn c = c .before .before .before
+abbrev read : tie.After-turn-onto Inv-loop μ-loop → tie.After-head Inv-loop μ-loop
+read c = c .before .before
+
+abbrev turn : tie.After-head Inv-loop μ-loop → tie.In-loop Inv-loop μ-loop
+turn c = c .before .before
 
 -- in a turn: what is going on, at the chains of the caller's delayed registrations
 chains : (c : tie.In-loop Inv-loop μ-loop) → ℕ → List ℕ
@@ -49,14 +52,13 @@ loop-holds c = (c .before .pre .order, refl, λ ch s. going-start _ _ _ _ _ ch (
 sub-p : tie.Need-sub-p Inv-loop μ-loop
 sub-p c = search needs
 
-mul-head : tie.Need-mul-head Inv-loop μ-loop
-mul-head c = omega (arith, inside c, c .before .loop .inv .1)
-
-slice-read-head : tie.Need-slice-read-head Inv-loop μ-loop
-slice-read-head c = omega (arith, inside (c .before))
+head-requires : tie.Need-head-requires Inv-loop μ-loop
+head-requires c κs = omega (arith, inside (c .before))
 
 turn-onto-requires : tie.Need-turn-onto-requires Inv-loop μ-loop
-turn-onto-requires c κs = going-chained _ _ _ _ _ _ _ _ _ (going (c .before .before)) (c .before .before .loop-test .taken)
+turn-onto-requires c κs =
+    let t = turn (c .before) in
+    rw (c .before .head .ensures) (going-chained _ _ _ _ _ _ _ _ _ (going t) (t .loop-test .taken))
 
 loop-less : tie.Need-loop-less Inv-loop μ-loop
 loop-less c = search needs
@@ -64,14 +66,15 @@ loop-less c = search needs
 loop-again : tie.Need-loop-again Inv-loop μ-loop
 loop-again c =
     let o = c .before .before in
-    let t = turn o in
+    let t = turn (read o) in
     let l = t .before .loop in
-    let h = t .loop-test .taken in (
+    let h = t .loop-test .taken in
+    let turns = rw (read o .head .ensures) at (o .turn-onto .ensures) in (
       omega (arith, h),
       o .turn-onto .kept .0 ∙ l .inv .1,
       λ ch s.
           let g = l .inv .2 ch s in
-          let e = o .turn-onto .ensures .turned (ch _) (going-chain _ _ _ _ _ ch _ _ _ g h) in
+          let e = turns .turned (ch _) (going-chain _ _ _ _ _ ch _ _ _ g h) in
           going-next _ _ _ _ _ ch _ _ _ g h _ _ (e .1) (e .0),
     )
 
@@ -92,8 +95,7 @@ advance-set-spec =
     μ-loop
     loop-holds
     sub-p
-    mul-head
-    slice-read-head
+    head-requires
     turn-onto-requires
     loop-less
     loop-again

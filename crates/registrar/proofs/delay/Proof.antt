@@ -1,53 +1,48 @@
 -- Two stores: the link of r takes the old head, the head becomes r. What they do is a law of Keeps. Assumes nothing.
+use mathlib.Core.Path.{ap, sym, _∙_, subst}
+use Prim.Native.Nat.{_+_}
 use native.Mathlib.Omega.{arith}
-use lib.ListN.{length-set}
 use denote.Ref.{now}
 use borrow.Author.Needs.{needs}
+use Rattle.registrar.specs.Reading.{with-head, with-link}
+use Rattle.registrar.specs.Delayed.{Joins}
 use Rattle.registrar.specs.Keeps.{joins}
 use Rattle.registrar.proofs.delay.Statement.{statement}
 use Rattle.registrar.proofs.delay.Tie as tie
 
-mul-head : tie.Need-mul-head
-mul-head c = search needs
+-- places of the code, seen from the end
+abbrev at-set-head : tie.After-slice-known3 → tie.After-set-head
+at-set-head c = c .before .before
 
-slice-read-head : tie.Need-slice-read-head
-slice-read-head c = search needs
+abbrev at-set-link : tie.After-slice-known3 → tie.After-set-link
+at-set-link c = at-set-head c .before .before .before .before
 
-add-w : tie.Need-add-w
-add-w c = search needs
+abbrev at-head : tie.After-slice-known3 → tie.After-head
+at-head c = at-set-link c .before .before
 
-mul-w : tie.Need-mul-w
-mul-w c = search needs
+head-requires : tie.Need-head-requires
+head-requires c κs = search needs
 
-slice-write-w : tie.Need-slice-write-w
-slice-write-w c = search needs
+set-link-requires : tie.Need-set-link-requires
+set-link-requires c κs = search needs
 
-add-w-2 : tie.Need-add-w-2
-add-w-2 c = search needs
+add-set-head : tie.Need-add-set-head
+add-set-head c = search needs
 
-mul-w-2 : tie.Need-mul-w-2
-mul-w-2 c = search needs
-
-slice-write-w-2 : tie.Need-slice-write-w-2
-slice-write-w-2 c = simp length-set (omega arith)
+set-head-requires : tie.Need-set-head-requires
+set-head-requires c κs = search needs
 
 same-length : tie.Need-same-length
-same-length c = simp length-set
+same-length c = search needs
 
 returns : tie.Need-returns
-returns c = let a = c .before .args in joins (now (a .w)) (a .v) (a .p) (a .r) (omega arith) (omega arith)
+returns c =
+    let a = at-head c .before .before .before .args in
+    let links = at-set-link c .set-link .ensures ∙ ap (with-link (now (a .w)) (a .v) (a .r)) (at-head c .head .ensures) in
+    let stores = at-set-head c .set-head .ensures ∙ ap (λ w. with-head w (a .p) (a .r + 1)) links in
+    subst (Joins (now (a .w)) (a .v) (a .p) (a .r)) (sym stores) (joins (now (a .w)) (a .v) (a .p) (a .r) (omega arith) (omega arith))
 
 pub delay-spec : {M : Type 1} → statement M
 delay-spec =
     tie.close
-    (tie.spec
-    mul-head
-    slice-read-head
-    add-w
-    mul-w
-    slice-write-w
-    add-w-2
-    mul-w-2
-    slice-write-w-2
-    same-length
-    returns)
+    (tie.spec head-requires set-link-requires add-set-head set-head-requires same-length returns)

@@ -15,35 +15,28 @@ abbrev μ-loop : tie.MeasureT-loop
 sub-r : tie.Need-sub-r Inv-loop μ-loop
 sub-r c = search needs
 
-add-next : tie.Need-add-next Inv-loop μ-loop
-add-next c = let a = c .args in let s = seek-start (now (a .w)) (a .v) (a .from) (c .pre .0) (c .pre .1) in omega (arith, s .low, s .long)
-
-mul-next : tie.Need-mul-next Inv-loop μ-loop
-mul-next c = let a = c .args in let s = seek-start (now (a .w)) (a .v) (a .from) (c .pre .0) (c .pre .1) in omega (arith, s .low, s .long)
-
-shared-slice-read-next : tie.Need-shared-slice-read-next Inv-loop μ-loop
-shared-slice-read-next c = let a = c .before .args in let s = seek-start (now (a .w)) (a .v) (a .from) (c .before .pre .0) (c .before .pre .1) in omega (arith, s .low, s .long)
+link-requires : tie.Need-link-requires Inv-loop μ-loop
+link-requires c κs =
+    let a = c .before .args in
+    let s = seek-start (now (a .w)) (a .v) (a .from) (c .before .pre .0) (c .before .pre .1) in
+    (s .low, s .long)
 
 loop-holds : tie.Need-loop-holds Inv-loop μ-loop
-loop-holds c = let a = c .before .args in seek-start (now (a .w)) (a .v) (a .from) (c .before .pre .0) (c .before .pre .1)
+loop-holds c =
+    let s = c .before .before in
+    rw (c .link .ensures) (seek-start (now (s .args .w)) (s .args .v) (s .args .from) (s .pre .0) (s .pre .1))
 
 sub-r-2 : tie.Need-sub-r-2 Inv-loop μ-loop
 sub-r-2 c = omega arith
 
-add-next-2 : tie.Need-add-next-2 Inv-loop μ-loop
-add-next-2 c = let s = seek-more _ _ _ _ _ (c .before .loop .inv) (c .loop-test .taken) in omega (arith, s .2, s .0 .long)
-
-mul-next-2 : tie.Need-mul-next-2 Inv-loop μ-loop
-mul-next-2 c = let s = seek-more _ _ _ _ _ (c .before .loop .inv) (c .loop-test .taken) in omega (arith, s .2, s .0 .long)
-
-shared-slice-read-next-2 : tie.Need-shared-slice-read-next-2 Inv-loop μ-loop
-shared-slice-read-next-2 c = let s = seek-more _ _ _ _ _ (c .before .before .loop .inv) (c .before .loop-test .taken) in omega (arith, s .2, s .0 .long)
+link-requires-2 : tie.Need-link-requires-2 Inv-loop μ-loop
+link-requires-2 c κs = let s = seek-more _ _ _ _ _ (c .before .loop .inv) (c .loop-test .taken) in (s .2, s .0 .long)
 
 loop-less : tie.Need-loop-less Inv-loop μ-loop
-loop-less c = seek-more _ _ _ _ _ (c .before .before .loop .inv) (c .before .loop-test .taken) .1
+loop-less c = rw (c .link2 .ensures) (seek-more _ _ _ _ _ (c .before .before .loop .inv) (c .before .loop-test .taken) .1)
 
 loop-again : tie.Need-loop-again Inv-loop μ-loop
-loop-again c = seek-more _ _ _ _ _ (c .before .before .loop .inv) (c .before .loop-test .taken) .0
+loop-again c = rw (c .link2 .ensures) (seek-more _ _ _ _ _ (c .before .before .loop .inv) (c .before .loop-test .taken) .0)
 
 returns : tie.Need-returns Inv-loop μ-loop
 returns c = seek-end _ _ _ _ _ (c .before .loop .inv) (c .loop-test .left)
@@ -55,14 +48,10 @@ oldest-spec =
     Inv-loop
     μ-loop
     sub-r
-    add-next
-    mul-next
-    shared-slice-read-next
+    link-requires
     loop-holds
     sub-r-2
-    add-next-2
-    mul-next-2
-    shared-slice-read-next-2
+    link-requires-2
     loop-less
     loop-again
     returns)

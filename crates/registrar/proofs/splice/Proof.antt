@@ -1,5 +1,4 @@
 -- An empty chain leaves all as it is; else one store at the link of the oldest. Assumes nothing.
-use native.Mathlib.Omega.{arith}
 use Prim.Native.Nat.{_≤_, _<_}
 use lib.ListN.{length}
 use denote.Ref.{now}
@@ -24,23 +23,19 @@ returns c = let a = c .before .before .args in splices-none (now (a .w)) (a .v) 
 oldest-requires : tie.Need-oldest-requires
 oldest-requires c κs = search needs
 
-add-w : tie.Need-add-w
-add-w c = omega (arith, below c)
-
-mul-w : tie.Need-mul-w
-mul-w c = omega (arith, below c)
-
-slice-write-w : tie.Need-slice-write-w
-slice-write-w c = omega (arith, below c)
+set-link-requires : tie.Need-set-link-requires
+set-link-requires c κs = below (c .before)
 
 same-length : tie.Need-same-length
 same-length c = search needs
 
 returns-2 : tie.Need-returns-2
 returns-2 c =
-    let a = start c .args in
-    splices-some (now (a .w)) (a .v) (a .from) (a .onto) (c .oldest .result) (c .before .before .if1 .left) (c .oldest .ensures)
+    let s = c .before .before in
+    let o = s .before .before in
+    let a = start o .args in
+    rw (s .set-link .ensures) (splices-some (now (a .w)) (a .v) (a .from) (a .onto) (o .oldest .result) (o .before .before .if1 .left) (o .oldest .ensures))
 
 pub splice-spec : {M : Type 1} → statement M
 splice-spec =
-    tie.close (tie.spec returns oldest-requires add-w mul-w slice-write-w same-length returns-2)
+    tie.close (tie.spec returns oldest-requires set-link-requires same-length returns-2)

@@ -7,6 +7,9 @@ use Rattle.session.proofs.find_after.Statement.{statement}
 use Rattle.session.proofs.find_after.Tie as tie
 
 -- places of the code, seen from where they are cited
+abbrev at-top-loc : tie.After-position-of → tie.After-top-loc
+at-top-loc c = c .before .before
+
 abbrev at-list-inputs : tie.After-top-loc → tie.After-list-inputs
 at-list-inputs c = c .before .before .before
 
@@ -61,14 +64,15 @@ add-at c =
     (c .before .list-end .ensures) (at-start c .pre) in
     omega (arith, p .0, p .1 .0)
 
-cast-t18 : tie.Need-cast-t18
-cast-t18 c = search needs
+span-of-requires : tie.Need-span-of-requires
+span-of-requires c κs = search needs
 
-cast-t20 : tie.Need-cast-t20
-cast-t20 c = search needs
+position-of-requires : tie.Need-position-of-requires
+position-of-requires c κs = search needs
 
 sub-t15 : tie.Need-sub-t15
-sub-t15 c =
+sub-t15 d =
+    let c = at-top-loc d in
     let a = at-start c .args in
     asks-parts (now (a .locations)) (now (a .waiting)) (now (a .pool)) (a .v) (a .added) (a .used) (a .r) (at-wide c .wide .result) (at-wide2 c .wide2 .result)
     (c .before .before .wide3 .result) (at-list-start c .list-start .result) (at-list-inputs c .list-inputs .result) (c .before .list-end .result)
@@ -76,12 +80,13 @@ sub-t15 c =
     (c .before .list-end .ensures) (at-start c .pre) .0
 
 returns : tie.Need-returns
-returns c =
+returns d =
+    let c = at-top-loc d in
     let a = at-start c .args in
     finds (now (a .locations)) (now (a .waiting)) (now (a .pool)) (a .v) (a .added) (a .used) (a .r) (at-wide c .wide .result) (at-wide2 c .wide2 .result)
     (c .before .before .wide3 .result) (at-list-start c .list-start .result) (at-list-inputs c .list-inputs .result) (c .before .list-end .result)
     (at-wide c .wide .ensures) (at-wide2 c .wide2 .ensures) (c .before .before .wide3 .ensures) (at-list-start c .list-start .ensures) (at-list-inputs c .list-inputs .ensures)
-    (c .before .list-end .ensures) (c .top-loc .result) (c .top-loc .ensures)
+    (c .before .list-end .ensures) (c .top-loc .result) (d .before .span-of .result) (d .position-of .result) (c .top-loc .ensures) (d .before .span-of .ensures) (d .position-of .ensures)
 
 pub find-after-spec : {M : Type 1} → statement M
 find-after-spec =
@@ -95,7 +100,7 @@ find-after-spec =
     list-end-requires
     top-loc-requires
     add-at
-    cast-t18
-    cast-t20
+    span-of-requires
+    position-of-requires
     sub-t15
     returns)

@@ -50,7 +50,7 @@ push-requires c κs =
 sub-fill-rows : tie.Need-sub-fill-rows
 sub-fill-rows c =
     let at-push-1 = c .before .before .before .before .before in
-    let at-push = at-push-1 .before .before .before in
+    let at-push = at-push-1 .before .before .before .before in
     at-push .push .ensures .done .frame .grows
 
 fill-rows-requires : tie.Need-fill-rows-requires
@@ -92,7 +92,7 @@ same-length-3 : tie.Need-same-length-3
 same-length-3 c = at-push c .push .kept .1 .1 .1 .0
 
 same-length-4 : tie.Need-same-length-4
-same-length-4 c = at-fill-rows c .fill-rows .kept .1 .1 .1 .0
+same-length-4 c = at-fill-rows c .fill-rows .kept .1 .0
 
 same-length-5 : tie.Need-same-length-5
 same-length-5 c = at-settle-outputs c .settle-outputs .kept .0
@@ -107,7 +107,7 @@ returns c =
     let u = at-push c .push in
     let z = at-settle-outputs c .settle-outputs in
     places-one (a .c) (a .r) (a .s .guide) (a .s .watermark) (a .s .added) (a .s .used) σ (at-find-after c .find-after .result) (at-find-after c .find-after .ensures)
-    (u .result .guide) (u .last .1 .0) (u .last .1 .1 .0) (u .last .1 .1 .1 .0) (u .result .span) (u .result .pos) (u .ensures) (at-fill-rows c .fill-rows .last .1 .1 .1 .0)
+    (u .result .guide) (u .last .1 .0) (u .last .1 .1 .0) (u .last .1 .1 .1 .0) (u .result .span) (u .result .pos) (u .ensures) (at-fill-rows c .fill-rows .last .1 .0)
     (z .last .0) (z .last .1 .0) (z .result) (at-start c .pre) (at-fill-rows c .fill-rows .ensures) (settled-at (at-packed c .packed .ensures) (z .ensures))
 
 pub place-one-spec : {M : Type 1} → statement M
