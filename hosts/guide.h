@@ -1,6 +1,7 @@
 /* Host code, not proved: the declaration of the proved call of crate `alone_replay`.
    A whole list of requests to the guide alone, freshly opened. `tools/archives alone_replay` proves it
-   and writes target/staticlib/libalone_replay.a. docs/GUIDE.md describes requests and answers. */
+   and writes target/staticlib/libalone_replay.a; hosts/guide_example.c shows a call, docs/GUIDE.md
+   describes requests and answers. */
 #ifndef GUIDE_H
 #define GUIDE_H
 
@@ -15,13 +16,14 @@
 extern "C" {
 #endif
 
-/* Numbers of a request, and of the answer to one. */
+/* Numbers of a request, of the answer to one, and of an entry of the order. */
 #define GUIDE_REQUEST 6
 #define GUIDE_ANSWER (5 + ORDER_SPANS)
+#define GUIDE_ENTRY ORDER_ENTRY_NUMBERS
 
 /* What a guide of parallelism P (1 to 64,999) and V pushes (1 to 16,777,216) needs, in numbers. */
-#define GUIDE_SPANS(p) ((size_t)ORDER_SPANS * ORDER_ENTRY_NUMBERS * ((size_t)(p) + 1))
-#define GUIDE_ORDER(v) ((size_t)ORDER_ENTRY_NUMBERS * (size_t)(v))
+#define GUIDE_SPANS(p) ((size_t)ORDER_SPANS * GUIDE_ENTRY * ((size_t)(p) + 1))
+#define GUIDE_ORDER(v) ((size_t)GUIDE_ENTRY * (size_t)(v))
 #define GUIDE_TALLY(p) ((size_t)(p) + 1)
 #define GUIDE_ANSWERS(requests) ((size_t)GUIDE_ANSWER * (size_t)(requests))
 

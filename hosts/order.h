@@ -27,7 +27,8 @@ extern "C" {
    lies behind it untouched; or, for a refused job, 64 times the line plus the number of the refusal
    (an order_code), all of `listing` untouched.
 
-   The call works on the stack and needs less than 450 KB of it. */
+   The call works on the stack and needs less than 450 KB of it; `tests/job/run.sh` measures that, and
+   fails where it is more. */
 uint64_t order_job(const uint8_t *job, size_t job_count, uint8_t *listing, size_t listing_count);
 
 /* A returned number, taken apart. */

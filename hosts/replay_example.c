@@ -4,7 +4,8 @@
        gcc -Ihosts hosts/replay_example.c target/staticlib/libreplay.a -o replay_example
        ./replay_example
 
-   hosts/storage_example.c does the same with less to write. */
+   The exit status is 1 where the list or a call of it is refused. hosts/storage_example.c does the same with
+   less to write. */
 #include <inttypes.h>
 #include <stdio.h>
 
@@ -29,6 +30,7 @@ int main(void) {
         4,             /* final */
     };
     uint64_t answers[6];
+    int ended = 0;
 
     uint64_t returned = replay_calls(
         spans, REPLAY_SPANS(P), order, REPLAY_ORDER(V), tally, REPLAY_TALLY(P),
@@ -37,17 +39,19 @@ int main(void) {
         calls, sizeof calls / sizeof *calls, P, V);
 
     if (returned % ORDER_REPLY_RADIX != ORDER_ACCEPTED) {
-        printf("refused=%" PRIu64 ": %s\n", returned, order_code_text(returned));
+        fprintf(stderr, "the list of calls: refused with %" PRIu64 ": %s\n", returned, order_code_text(returned));
         return 1;
     }
     for (size_t i = 0; i < sizeof answers / sizeof *answers; i++)
-        if (answers[i] != 0)
-            printf("call=%zu refused=%" PRIu64 "\n", i, answers[i]);
+        if (answers[i] != ORDER_ACCEPTED) {
+            fprintf(stderr, "call %zu: refused with %" PRIu64 ": %s\n", i, answers[i], order_code_text(answers[i]));
+            ended = 1;
+        }
     for (uint64_t i = 0; i < returned / 64; i++) {
         const uint32_t *entry = order + REPLAY_ENTRY_NUMBERS * i;
         printf("order=%" PRIu64 " added=%" PRIu32 " accepted=%" PRIu32 " parallelism=%" PRIu32
                " written=%" PRIu32 "\n",
                i, entry[1], entry[2], entry[3], rows[REPLAY_ROW_NUMBERS * entry[1] + 2]);
     }
-    return 0;
+    return ended;
 }

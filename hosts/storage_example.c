@@ -3,7 +3,9 @@
        tools/archives replay summary order_entries
        gcc -Ihosts hosts/storage_example.c target/staticlib/libreplay.a \
            target/staticlib/libsummary.a target/staticlib/liborder_entries.a -o storage_example
-       ./storage_example */
+       ./storage_example
+
+   The exit status is 1 where the list or a call of it is refused. */
 #include <inttypes.h>
 #include <stdio.h>
 #include <stdlib.h>
@@ -64,7 +66,7 @@ int main(void) {
     uint64_t answers[6];
     void *memory = malloc(replay_storage_bytes(P, V, W));
     struct replay_storage storage = replay_storage_in(memory, P, V, W);
-    int ended;
+    int ended = 0;
 
     uint64_t returned = replay_run(&storage, calls, sizeof calls / sizeof *calls,
                                    answers, sizeof answers / sizeof *answers);
@@ -74,9 +76,10 @@ int main(void) {
     }
     for (size_t i = 0; i < sizeof answers / sizeof *answers; i++)
         if (answers[i] != ORDER_ACCEPTED)
-            refused("a call", answers[i]);
+            ended = refused("a call", answers[i]);
     print_order(&storage);
-    ended = print_median(&storage) || print_last_struct(&storage);
+    if (print_median(&storage) || print_last_struct(&storage))
+        ended = 1;
     free(memory);
     return ended;
 }

@@ -1,7 +1,7 @@
 #!/bin/bash
 # Host code, not proved: what stands around the proved calls for hosts in C. One source of the refusals'
 # names; headers, examples and replay_storage with every compiler that is at hand, as C99 and C++11; the
-# commands of docs/JOB.md and docs/HOSTS.md; the command order-job; an installation, and a host that is
+# commands of docs/JOB.md, docs/HOSTS.md and docs/GUIDE.md; the command order-job; an installation, and a host that is
 # built with nothing but pkg-config from it.
 set -euo pipefail
 trap 'echo "$0: line $LINENO ended with $?" >&2' ERR
@@ -115,7 +115,11 @@ for compiler in "${compilers[@]}"; do
     $strict -Ihosts -fsyntax-only "$work/header.c" || fail "$header by $compiler"
     headers=$((headers + 1))
   done
-  for program in hosts/order_example.c hosts/replay_example.c hosts/storage_example.c tests/hosts/storage.c; do
+  # J1 with a call that is refused, and a guide's list with such a request: place 3 is written twice, no entry is at 7, 7.
+  sed 's/2, 0, 1, 4,  /2, 0, 1, 3,  /' hosts/replay_example.c >"$work/replay_refused.c"
+  sed 's/2, 0, 1, 4,  /2, 0, 1, 3,  /' hosts/storage_example.c >"$work/storage_refused.c"
+  sed 's/GUIDE_PUSH_AFTER, 1, 0,/GUIDE_PUSH_AFTER, 7, 7,/' hosts/guide_example.c >"$work/guide_refused.c"
+  for program in hosts/*_example.c "$work"/*_refused.c tests/hosts/storage.c; do
     $strict -Ihosts -c "$program" -o "$work/program.o" || fail "$program by $compiler"
     ${compiler%% *} "$work/program.o" $archives -o "$work/$(basename "$program" .c)" || fail "$program with the archives"
   done
@@ -123,10 +127,28 @@ for compiler in "${compilers[@]}"; do
   diff <(grep ^order= crates/order/stdout) <("$work/replay_example") || fail "replay_example by $compiler"
   diff <(grep ^order= crates/order/stdout) <("$work/storage_example" | grep ^order=) || fail "storage_example by $compiler"
   "$work/storage" || fail "storage by $compiler"
+  diff - <("$work/guide_example") <<'TEXT' || fail "guide_example by $compiler"
+request 0: span 1, position 0
+request 1: span 2, position 0
+request 2: span 1, position 1
+request 3: span 2, position 1
+order=0 value=70 added=0 accepted=0 parallelism=2
+order=1 value=72 added=2 accepted=2 parallelism=2
+order=2 value=71 added=1 accepted=1 parallelism=2
+order=3 value=73 added=3 accepted=3 parallelism=1
+TEXT
+  refuses 1 "call 4: refused with 8: a place to be set or written is already" "$work/replay_refused"
+  refuses 1 "a call: refused with 8: a place to be set or written is already" "$work/storage_refused"
+  refuses 1 "request 1: refused with 13: the guide alone was asked to place after" "$work/guide_refused"
+  for word in x '' 1x -1 +1 ' 1' 65537 99999999999999999999999; do
+    refuses 2 "a number of listing bytes is taken, from 0 to 65536, and nothing else" "$work/order_example" "$word"
+  done
+  refuses 2 "and nothing else" "$work/order_example" 5 5
+  refuses 1 "" "$work/order_example" 65536
 done
 gcc -g -fsanitize=address,undefined -fno-sanitize-recover -Ihosts tests/hosts/storage.c $archives -o "$work/storage"
 "$work/storage" || fail "storage with the sanitizers"
-echo "hosts: $headers headers, three examples and replay_storage's test by: ${compilers[*]%% *}; and with sanitizers"
+echo "hosts: $headers headers, four examples and replay_storage's test by: ${compilers[*]%% *}; and with sanitizers"
 
 # A host with nothing but pkg-config from the installation, in a folder of its own: shared, static and C++.
 elsewhere=$(mktemp -d)
@@ -139,7 +161,7 @@ outside() (
   cp "$prefix"/share/order/examples/*.c "$elsewhere"
   cd "$elsewhere"
   [ "$(pkg-config --modversion order)" = "$(cat "$prefix/share/order/VERSION")" ]
-  for example in order replay storage; do
+  for example in order replay storage guide; do
     source=${example}_example.c
     gcc -std=c99 $(pkg-config --cflags order) $source $(pkg-config --libs order) -o $example-shared
     gcc -static $(pkg-config --cflags order) $source $(pkg-config --static --libs order) -o $example-static
@@ -150,6 +172,7 @@ outside() (
   for program in replay-* storage-*; do
     $(realpath $program) | grep ^order= | diff - <(grep ^order= "$listing")
   done
+  for program in guide-*; do $(realpath $program) | grep -c ^order= | grep -qx 4; done
   "$prints" "$prefix/lib/liborder.so" ldd order-shared
   # the prefix may be moved
   mv "$prefix" "$prefix-moved"
@@ -164,7 +187,7 @@ if command -v pkg-config >/dev/null; then
   ended=$?
   set -e
   [ $ended -eq 0 ] || fail "a host built from the installation"
-  echo "hosts: three C programs built with pkg-config alone, shared, static and as C++; the prefix may be moved"
+  echo "hosts: four C programs built with pkg-config alone, shared, static and as C++; the prefix may be moved"
 else
   echo "hosts: no pkg-config: NOTHING is built from the installation"
 fi
@@ -283,4 +306,4 @@ print(witness_order.libraries.path())' <crates/order/stdin) || fail "the module 
 echo "hosts: the module for Python as installed: J1"
 echo "hosts: order-job: listings as the program prints them, refusals and failures in words with their status"
 
-python3 .ci/transcripts.py docs/JOB.md docs/HOSTS.md
+python3 .ci/transcripts.py docs/JOB.md docs/HOSTS.md docs/GUIDE.md

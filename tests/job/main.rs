@@ -5,7 +5,7 @@
 //!   job jobs SEED COUNT     random jobs, half of them damaged, as `reference jobs` makes them
 //!   job bytes SEED COUNT    random bytes, and random bytes of a job's own alphabet
 //!   job edges               jobs at every boundary of document 01, made here
-//!   job stack               how much stack the call needs (by `job on SIZE FILE`, one call each)
+//!   job stack KB            how much stack the call needs, which must be less (by `job on SIZE FILE`, one call each)
 
 #[path = "../reference/generate.rs"]
 #[allow(dead_code)]
@@ -33,9 +33,9 @@ fn main() {
         ["jobs", seed, count] => on_thread(random_jobs(number(seed), number(count))),
         ["bytes", seed, count] => on_thread(random_bytes(number(seed), number(count))),
         ["edges"] => on_thread(edges()),
-        ["stack"] => return stack(),
+        ["stack", most] => return stack(number(most) as usize),
         ["on", size, path] => return on(number(size) as usize, path),
-        _ => fail("jobs SEED COUNT | bytes SEED COUNT | edges | stack"),
+        _ => fail("jobs SEED COUNT | bytes SEED COUNT | edges | stack KB"),
     };
     let codes: Vec<String> = done.codes.iter().map(u64::to_string).collect();
     println!(
@@ -101,8 +101,8 @@ fn compare(job: &[u8], lent: usize, done: &mut Done) {
     }
 }
 
-/// The least stack, in steps of 16 KB, on which three jobs run.
-fn stack() {
+/// The least stack, in steps of 16 KB, on which three jobs run; it must be less than so many KB.
+fn stack(most: usize) {
     let chain: String = (1..512).map(|x| format!("in={}\nout={x}\n", x - 1)).collect();
     let mut needed = 0;
     for job in [
@@ -119,9 +119,9 @@ fn stack() {
         std::fs::remove_file(&path).expect("removed");
         needed = needed.max(size);
     }
-    println!("job: stack: a thread of {} KB suffices", needed >> 10);
-    if needed > STACK / 2 {
-        println!("job: stack: more than half of a thread's 2 MB");
+    println!("job: stack: a thread of {} KB suffices for the call", needed >> 10);
+    if needed >> 10 >= most {
+        println!("job: stack: which is not less than {most} KB");
         exit(1);
     }
 }

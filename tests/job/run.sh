@@ -57,7 +57,21 @@ fi
 $work/job edges
 $work/job jobs "$seed" $((4000 * times))
 $work/job bytes "$seed" $((20000 * times))
-$work/job stack
+
+# The stack, beside the figures that host code and documents tell.
+told() { sed -n "s/.*needs less than \([0-9]*\) KB of $1.*/\1/p" "$2"; }
+call=$(told it hosts/order.h)
+[ -n "$call" ] && [ "$call" = "$(told it hosts/rust/src/job.rs)" ] || fail "hosts/order.h and hosts/rust/src/job.rs tell other stacks of the call"
+$work/job stack "$call"
+program=$(told stack docs/JOB.md)
+[ -n "$program" ] && [ "$program" -le "$(sed -n 's/^need=//p' hosts/order-job)" ] || fail "docs/JOB.md tells no stack of the program, or more than order-job gives it"
+tools/circuit.py chain 512 --parallelism 64 >$work/chain.job
+tools/circuit.py backwards 511 --parallelism 1 >$work/backwards.job
+for job in crates/order/stdin $work/chain.job $work/backwards.job; do
+  (ulimit -Ss "$program"; exec env -i $order <$job >$work/out) || fail "$job: $program KB of stack do not suffice for the program"
+  [ "$(head -n 1 $work/out)" = status=0 ] || fail "$job is not accepted"
+done
+echo "job: stack: $program KB suffice for the program"
 
 # Standard input or output that fails is said on standard error.
 said() { [ -s $work/said ] || fail "$1: nothing on standard error"; }

@@ -43,8 +43,18 @@ trap 'rm -rf "$long"' EXIT
 tools/picture.py --svg <"$long/listing" | well_formed || fail "no SVG of a long order"
 [ "$(tools/picture.py --svg <"$long/listing" | wc -c)" -lt 400000 ] || fail "the SVG of a long order is long itself"
 [ "$(tools/picture.py <"$long/listing" | wc -l)" -le 41 ] || fail "the text of a long order is long itself"
-tools/picture.py --entries 4000-4199 <"$long/listing" 2>"$long/err" | head -n 1 >/dev/null
-[ ! -s "$long/err" ] || fail "a reader that closes is not taken quietly"
+# A reader that has gone before anything is written, and one that goes after a line of a drawing that no pipe holds.
+unread() { # COMMAND..
+  python3 -c 'import os, subprocess, sys; read, write = os.pipe(); os.close(read); sys.exit(subprocess.run(sys.argv[1:], stdout=write).returncode)' "$@"
+}
+for words in '' --svg --histogram; do
+  # shellcheck disable=SC2086
+  unread tools/picture.py $words <"$long/listing" 2>"$long/err" || fail "'$words': a reader that has gone ends it with $?"
+  [ ! -s "$long/err" ] || fail "'$words': a reader that has gone is not taken quietly"
+done
+[ "$(tools/picture.py --svg <"$long/listing" | wc -c)" -gt 100000 ] || fail "a drawing that fits a pipe"
+tools/picture.py --svg <"$long/listing" 2>"$long/err" | head -n 1 >/dev/null || fail "a reader that goes ends it with a failure"
+[ ! -s "$long/err" ] || fail "a reader that goes is not taken quietly"
 
 # An order without entries.
 for words in '' --svg --histogram '--svg --histogram'; do

@@ -139,6 +139,8 @@ class Lists(unittest.TestCase):
                 self.assertRaises(ValueError, order.replay, 1, 1, order.Calls(), pool=bad)
             self.assertRaises(ValueError, order.replay, bad, 1, order.Calls())
         self.assertRaisesRegex(ValueError, "'x' is no 64-bit number", order.replay, 1, "x", order.Calls())
+        for bad in (None, [1, 0], "set=0", b"", 7):
+            self.assertRaisesRegex(TypeError, "a list of calls is a Calls, not ", order.replay, 2, 6, bad)
         for pool in (2**62, 2**63, 2**64 - 1):
             self.assertRaisesRegex(MemoryError, f"no memory for {pool} numbers of 4 bytes", order.replay, 1, 1, order.Calls(), pool=pool)
         result = order.replay(1, 1, order.Calls())

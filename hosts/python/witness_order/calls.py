@@ -97,8 +97,10 @@ class Replayed:
 def replay(parallelism, places, calls, pool=None):
     """Runs a list of calls on a fresh session. The pool has room for all lists of the calls unless given.
 
-    Raises Rejected where the parallelism or the count of places is out of range, and MemoryError where
-    there is no memory for so many places or so large a pool."""
+    Raises Rejected where the parallelism or the count of places is out of range, MemoryError where there is
+    no memory for so many places or so large a pool, and TypeError where `calls` is no list of calls."""
+    if not isinstance(calls, Calls):
+        raise TypeError(f"a list of calls is a Calls, not {calls!r:.100}")
     parallelism, places, size = numbers_of([parallelism, places, calls.pooled if pool is None else pool])
     if not layout.in_range(parallelism, places):
         raise Rejected(Refusal.OUT_OF_RANGE)

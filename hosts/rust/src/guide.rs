@@ -2,7 +2,7 @@
 //!
 //! ```
 //! use witness_order::guide::{replay, Request};
-//! use witness_order::{Location, Refusal};
+//! use witness_order::{Location, Refusal, StorageError};
 //!
 //! let push = |after| Request::Push { value: 7, added: 0, accepted: 0, after };
 //! let first = Location { span: 1, position: 0 };
@@ -15,11 +15,13 @@
 //! let wanted = [Ok(Some(first)), Ok(Some(second)), Err(Refusal::NotHeld), Ok(None)];
 //! assert_eq!(answers, wanted);
 //! assert_eq!(done.entries().map(|entry| entry.parallelism).collect::<Vec<_>>(), [1, 1]);
-//! assert_eq!(replay(0, 9, &requests).unwrap_err(), Refusal::OutOfRange);
+//! let refused = StorageError::Refused(Refusal::OutOfRange);
+//! assert_eq!(replay(0, 9, &requests).unwrap_err(), refused);
 //! ```
 
 use crate::layout::{Entry, Location, Needed, ANSWER, ENTRY, REQUEST, SPANS};
 use crate::refusal::Refusal;
+use crate::replay::{zeros, StorageError};
 use crate::sys;
 
 /// A request to the guide.
@@ -76,8 +78,9 @@ pub struct Guided {
 }
 
 /// Opens a guide of parallelism p for at most v pushes and serves the requests. A refused request
-/// changed nothing, and those after it are served. Refused as a whole where p or v is out of range.
-pub fn replay(p: u64, v: u64, requests: &[Request]) -> Result<Guided, Refusal> {
+/// changed nothing, and those after it are served. Refused as a whole where p or v is out of range; an
+/// error too where the system has not the memory.
+pub fn replay(p: u64, v: u64, requests: &[Request]) -> Result<Guided, StorageError> {
     // On no storage at all the proved call refuses p and v out of range with 1, all others with 2.
     let empty = sys::GuideSlices {
         spans: &mut [],
@@ -86,16 +89,21 @@ pub fn replay(p: u64, v: u64, requests: &[Request]) -> Result<Guided, Refusal> {
     };
     match crate::refusal(sys::guide(p, v, &[], empty, &mut []).into()) {
         Refusal::TooShort => {}
-        refusal => return Err(refusal),
+        refusal => return Err(StorageError::Refused(refusal)),
     }
     let needed = Needed::new(p as usize, v as usize);
-    let mut spans = vec![0; needed.spans];
+    let lent = needed.spans + needed.order + needed.tally;
+    let bytes = 4 * (lent + (REQUEST + ANSWER) * requests.len()) as u64;
+    let mut spans = zeros(needed.spans, bytes)?;
     let mut guided = Guided {
-        requests: requests.iter().flat_map(Request::numbers).collect(),
-        order: vec![0; needed.order],
-        tally: vec![0; needed.tally],
-        answers: vec![0; ANSWER * requests.len()],
+        requests: zeros(REQUEST * requests.len(), bytes)?,
+        order: zeros(needed.order, bytes)?,
+        tally: zeros(needed.tally, bytes)?,
+        answers: zeros(ANSWER * requests.len(), bytes)?,
     };
+    for (numbers, request) in guided.requests.chunks_exact_mut(REQUEST).zip(requests) {
+        numbers.copy_from_slice(&request.numbers());
+    }
     let slices = sys::GuideSlices {
         spans: &mut spans,
         order: &mut guided.order,
@@ -103,7 +111,7 @@ pub fn replay(p: u64, v: u64, requests: &[Request]) -> Result<Guided, Refusal> {
     };
     match sys::guide(p, v, &guided.requests, slices, &mut guided.answers) {
         0 => Ok(guided),
-        number => Err(crate::refusal(number.into())),
+        number => Err(StorageError::Refused(crate::refusal(number.into()))),
     }
 }
 

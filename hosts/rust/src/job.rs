@@ -24,7 +24,8 @@ impl fmt::Display for Rejected {
 
 impl std::error::Error for Rejected {}
 
-/// Runs a job and gives its listing. The call works on the stack and needs less than 450 KB of it.
+/// Runs a job and gives its listing. The call works on the stack and needs less than 450 KB of it;
+/// `tests/job/run.sh` measures that, and fails where it is more.
 ///
 /// ```
 /// use witness_order::{job, Refusal};

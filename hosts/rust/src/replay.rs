@@ -53,14 +53,14 @@ impl fmt::Display for StorageError {
 impl std::error::Error for StorageError {}
 
 /// Numbers whose 0 has no bit set.
-trait Number: Copy {}
+pub(crate) trait Number: Copy {}
 impl Number for u16 {}
 impl Number for u32 {}
 impl Number for u64 {}
 
 /// Zeros as the system hands them out, or an error where it has not so many. (`vec!` would end the
 /// program, and a vector that is filled afterwards would be written twice.)
-fn zeros<T: Number>(count: usize, bytes: u64) -> Result<Vec<T>, StorageError> {
+pub(crate) fn zeros<T: Number>(count: usize, bytes: u64) -> Result<Vec<T>, StorageError> {
     let none = StorageError::Memory(bytes);
     let layout = Layout::array::<T>(count).map_err(|_| none)?;
     if layout.size() == 0 {
@@ -241,9 +241,14 @@ impl<'a> Replayed<'a> {
         rows.chunks_exact(ROW).map(Row::from_numbers)
     }
 
-    /// The order's length when the add of that registration ended.
+    /// The order's length when the add of that registration ended; 0 while there is no such add.
+    ///
+    /// # Panics
+    ///
+    /// Where `added` is not below v, which no registration is.
     pub fn written(&self, added: u32) -> u32 {
-        self.storage.rows[ROW * added as usize + ROW_WRITTEN]
+        let number = self.storage.rows.get(ROW * added as usize + ROW_WRITTEN);
+        *number.unwrap_or_else(|| panic!("registration {added} of at most {}", self.storage.v))
     }
 
     /// How many entries have the parallelism 0, 1, .. p.
@@ -268,12 +273,17 @@ impl<'a> Replayed<'a> {
             .unwrap_or(marks.len())
     }
 
-    /// A place below v.
+    /// A place as the calls left it.
+    ///
+    /// # Panics
+    ///
+    /// Where `place` is not below v.
     pub fn place(&self, place: usize) -> Place {
-        match self.storage.marks[place] {
-            UNTRACKED => Place::Untracked,
-            SET => Place::Set,
-            _ => Place::Written(Location::from_number(self.storage.locations[place])),
+        match self.storage.marks.get(place) {
+            None => panic!("place {place} of {}", self.storage.v),
+            Some(&UNTRACKED) => Place::Untracked,
+            Some(&SET) => Place::Set,
+            Some(_) => Place::Written(Location::from_number(self.storage.locations[place])),
         }
     }
 

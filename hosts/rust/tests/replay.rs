@@ -1,6 +1,8 @@
 //! Host code, not proved: lists of calls, the guide alone and the order as structs, by the safe
 //! interface.
 
+use std::process::Command;
+
 use witness_order::entries::{append_new, OrderInfo};
 use witness_order::guide::{self, Request};
 use witness_order::replay::Place;
@@ -208,9 +210,50 @@ fn the_guide_alone_takes_v_pushes() {
         (1, 1 << 32 | 1),
     ] {
         let refused = guide::replay(p, v, &[]).err();
-        assert_eq!(refused, Some(Refusal::OutOfRange), "p {p}, v {v}");
+        let wanted = StorageError::Refused(Refusal::OutOfRange);
+        assert_eq!(refused, Some(wanted), "p {p}, v {v}");
     }
     assert_eq!(guide::replay(3, 3, &[]).unwrap().entries().len(), 0);
+}
+
+/// The call is made in a process of its own, which has little memory. `prlimit` is a part of util-linux.
+#[cfg(target_os = "linux")]
+#[test]
+fn a_guide_without_memory_is_an_error() {
+    if std::env::var_os("LITTLE_MEMORY").is_none() {
+        let mut child = Command::new("prlimit");
+        child.arg("--as=200000000");
+        child.arg(std::env::current_exe().unwrap());
+        child.args(["--exact", "a_guide_without_memory_is_an_error"]);
+        let output = child.env("LITTLE_MEMORY", "1").output().unwrap();
+        let said = String::from_utf8_lossy(&output.stdout);
+        assert!(
+            output.status.success() && said.contains("1 passed"),
+            "{said}"
+        );
+        return;
+    }
+    let error = guide::replay(64_999, 16_777_216, &[]).unwrap_err();
+    let bytes = 4 * (128 * 65_000 + 4 * 16_777_216 + 65_000);
+    assert_eq!(error, StorageError::Memory(bytes));
+}
+
+#[test]
+#[should_panic(expected = "place 6 of 6")]
+fn no_place_is_past_the_last() {
+    let (mut storage, calls) = (Storage::new(2, 6, 16).unwrap(), j1());
+    let done = replay(&mut storage, &calls).unwrap();
+    assert_eq!(done.place(5), Place::Untracked);
+    done.place(6);
+}
+
+#[test]
+#[should_panic(expected = "registration 6 of at most 6")]
+fn no_registration_is_past_the_last() {
+    let (mut storage, calls) = (Storage::new(2, 6, 16).unwrap(), j1());
+    let done = replay(&mut storage, &calls).unwrap();
+    assert_eq!(done.written(5), 0);
+    done.written(6);
 }
 
 #[test]
