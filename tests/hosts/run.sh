@@ -306,4 +306,4 @@ print(witness_order.libraries.path())' <crates/order/stdin) || fail "the module 
 echo "hosts: the module for Python as installed: J1"
 echo "hosts: order-job: listings as the program prints them, refusals and failures in words with their status"
 
-python3 .ci/transcripts.py docs/JOB.md docs/HOSTS.md docs/GUIDE.md
+python3 .ci/transcripts.py README.md docs/JOB.md docs/HOSTS.md docs/GUIDE.md
