@@ -196,15 +196,15 @@ pub fn replay(
         return refused(rules::MALFORMED);
     }
     let n = opening::check_open(
-        p,
-        v,
         spans.len(),
         order.len(),
+        tally.len(),
         rows.len(),
         marks.len(),
         locations.len(),
         waiting.len(),
-        tally.len(),
+        p,
+        v,
     );
     if n != 0 {
         return refused(n);

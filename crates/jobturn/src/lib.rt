@@ -10,7 +10,7 @@ use jobcalls::Next;
 use session::Session;
 use sorter::Answer;
 
-// Makes a call of a job on the session. The numbers of an add's lists stand at the start of `numbers`.
+// Makes a call of a job on the session. The numbers of an add's lists stand at the start of `into`.
 fn make(
     s: Session,
     spans: &mut [u32],
@@ -21,11 +21,11 @@ fn make(
     locations: &mut [u64],
     waiting: &mut [u64],
     pool: &mut [u32],
-    numbers: &[u64],
+    into: &[u64],
     call: Call,
 ) -> Answer
-    requires { ⌜ (Asks s (given spans order tally rows marks locations waiting pool)) × (taken-by call ≤ length (now numbers)) ⌝ }
-    ensures { λ r. ⌜ across spans order tally rows marks locations waiting pool (λ σ τ. Called (call-of call (now (numbers .entry))) (r .number) s (r .session) σ τ) ⌝ }
+    requires { ⌜ (Asks s (given spans order tally rows marks locations waiting pool)) × (taken-by call ≤ length (now into)) ⌝ }
+    ensures { λ r. ⌜ across spans order tally rows marks locations waiting pool (λ σ τ. Called (call-of call (now (into .entry))) (r .number) s (r .session) σ τ) ⌝ }
 {
     match call {
         Call::Set { place } => sorter::set(
@@ -52,8 +52,8 @@ fn make(
                 locations,
                 waiting,
                 pool,
-                &numbers[..inputs],
-                &numbers[inputs..end],
+                &into[..inputs],
+                &into[inputs..end],
             )
         }
         Call::Flush => sorter::flush(
