@@ -105,16 +105,9 @@ pub fn push(
 {
     let g = x.guide;
     let w = g.window;
-    let n = alone_checks::check_push(
-        w.ids[window::LAST],
-        w.ids[0],
-        w.lens,
-        g.v,
-        x.pushes,
-        has,
-        span,
-        pos,
-    );
+    let last = w.ids[window::LAST];
+    let first = w.ids[0];
+    let n = alone_checks::check_push(last, first, w.lens, g.v, x.pushes, has, span, pos);
     if n != 0 {
         return Answer {
             alone: x,
@@ -129,10 +122,9 @@ pub fn push(
     };
     let r = guide::push(g, spans, order, tally, has, span, pos, e);
     let h = r.guide;
-    let y = Alone {
-        guide: h,
-        pushes: x.pushes + 1,
-    };
+    let mut y = x;
+    y.guide = h;
+    y.pushes = x.pushes + 1;
     Answer {
         alone: y,
         reply: Reply::At(r.span, r.pos),

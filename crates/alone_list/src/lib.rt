@@ -49,26 +49,13 @@ fn serve(
     if kind == FLUSH {
         return alone::flush(x, spans, order, tally);
     }
-    if kind == PUSH {
-        return alone::push(
-            x,
-            spans,
-            order,
-            tally,
-            false,
-            span,
-            pos,
-            value,
-            added,
-            accepted,
-        );
-    }
+    let has = kind != PUSH;
     alone::push(
         x,
         spans,
         order,
         tally,
-        true,
+        has,
         span,
         pos,
         value,
