@@ -47,20 +47,20 @@ fn fresh(p: u32, v: u32) -> Alone
 }
 
 // The number of opening a guide over this storage: 0, or that of the refusal.
-pub fn check_open(p: u64, v: u64, spans: &[u32], order: &[u32], tally: &[u32]) -> u32
+pub fn check_open(spans: &[u32], order: &[u32], tally: &[u32], p: u64, v: u64) -> u32
     ensures { λ r. ⌜ r ≡ opening-number p v (now (spans .entry)) (now (order .entry)) (now (tally .entry)) ⌝ }
 {
     alone_checks::check_open(
-        p,
-        v,
         entries::capacity(spans),
         entries::capacity(order),
         tally.len(),
+        p,
+        v,
     )
 }
 
 // A guide just opened, its counts set to 0, where opening it is accepted.
-pub fn begin(p: u64, v: u64, tally: &mut [u32]) -> Alone
+pub fn begin(tally: &mut [u32], p: u64, v: u64) -> Alone
     requires { ⌜ Fits p v (length (now tally)) ⌝ }
     ensures { λ x. ⌜ Begins p v x (now (tally .entry)) (now (tally .exit)) ⌝ }
 {
@@ -69,10 +69,10 @@ pub fn begin(p: u64, v: u64, tally: &mut [u32]) -> Alone
 }
 
 // Opens a guide over its storage; its counts are set to 0. Refused, it is a guide of P 0 and V 0.
-pub fn open(p: u64, v: u64, spans: &[u32], order: &[u32], tally: &mut [u32]) -> Opened
+pub fn open(spans: &[u32], order: &[u32], tally: &mut [u32], p: u64, v: u64) -> Opened
     ensures { λ r. ⌜ OpensOver p v (r .number) (r .alone) spans order tally ⌝ }
 {
-    let n = check_open(p, v, spans, order, tally);
+    let n = check_open(spans, order, tally, p, v);
     if n != 0 {
         let x = fresh(0, 0);
         return Opened {
@@ -80,7 +80,7 @@ pub fn open(p: u64, v: u64, spans: &[u32], order: &[u32], tally: &mut [u32]) -> 
             alone: x,
         };
     }
-    let x = begin(p, v, tally);
+    let x = begin(tally, p, v);
     Opened {
         number: 0,
         alone: x,
@@ -105,16 +105,9 @@ pub fn push(
 {
     let g = x.guide;
     let w = g.window;
-    let n = alone_checks::check_push(
-        w.ids[window::LAST],
-        w.ids[0],
-        w.lens,
-        g.v,
-        x.pushes,
-        has,
-        span,
-        pos,
-    );
+    let last = w.ids[window::LAST];
+    let first = w.ids[0];
+    let n = alone_checks::check_push(last, first, w.lens, g.v, x.pushes, has, span, pos);
     if n != 0 {
         return Answer {
             alone: x,
@@ -129,10 +122,9 @@ pub fn push(
     };
     let r = guide::push(g, spans, order, tally, has, span, pos, e);
     let h = r.guide;
-    let y = Alone {
-        guide: h,
-        pushes: x.pushes + 1,
-    };
+    let mut y = x;
+    y.guide = h;
+    y.pushes = x.pushes + 1;
     Answer {
         alone: y,
         reply: Reply::At(r.span, r.pos),

@@ -16,7 +16,7 @@ fn outside(x: u64, most: u64) -> bool
 }
 
 // A lent length is too short: spans and order in entries, the tally in counts.
-fn short(p: u64, v: u64, spans: usize, order: usize, tally: usize) -> bool
+fn short(spans: usize, order: usize, tally: usize, p: u64, v: u64) -> bool
     requires { ⌜ p ≤ most-parallelism ⌝ }
     ensures { λ r. ⌜ r ≡ any-short p v spans order tally ⌝ }
 {
@@ -28,7 +28,7 @@ fn short(p: u64, v: u64, spans: usize, order: usize, tally: usize) -> bool
 }
 
 // Opening.
-pub fn check_open(p: u64, v: u64, spans: usize, order: usize, tally: usize) -> u32
+pub fn check_open(spans: usize, order: usize, tally: usize, p: u64, v: u64) -> u32
     ensures { λ r. ⌜ r ≡ verdict (check-alone p v spans order tally) ⌝ }
 {
     if outside(p, rules::MOST_PARALLELISM) {
@@ -37,7 +37,7 @@ pub fn check_open(p: u64, v: u64, spans: usize, order: usize, tally: usize) -> u
     if outside(v, rules::MOST_PLACES) {
         return rules::OUT_OF_RANGE as u32;
     }
-    if short(p, v, spans, order, tally) {
+    if short(spans, order, tally, p, v) {
         return rules::TOO_SHORT as u32;
     }
     0

@@ -70,13 +70,8 @@ module _ (q : List ℕ) (k : ℕ) where
   unfolding request-at request-of
   is-flush e = rw (e, request-of)
 
-  pub is-absent : getD q (request-size * k) 0 ≡ 1 → pushing false (getD q (request-size * k + 1) 0) (getD q (request-size * k + 2) 0)
-      (getD q (request-size * k + 3) 0) (getD q (request-size * k + 4) 0) (getD q (request-size * k + 5) 0) ≡ request-at q k
-  unfolding request-at request-of
-  is-absent e = rw (e, request-of, e)
-
-  pub is-after : getD q (request-size * k) 0 ≢ 0 → getD q (request-size * k) 0 ≢ 1 → pushing true (getD q (request-size * k + 1) 0)
+  pub is-push : getD q (request-size * k) 0 ≢ 0 → pushing (not (eqb (getD q (request-size * k) 0) 1)) (getD q (request-size * k + 1) 0)
       (getD q (request-size * k + 2) 0) (getD q (request-size * k + 3) 0) (getD q (request-size * k + 4) 0)
       (getD q (request-size * k + 5) 0) ≡ request-at q k
   unfolding request-at request-of
-  is-after e f = rw (ne-eqb (getD q (request-size * k) 0) 0 e, ne-eqb (getD q (request-size * k) 0) 1 f, request-of)
+  is-push e = rw (ne-eqb (getD q (request-size * k) 0) 0 e, request-of)

@@ -49,26 +49,13 @@ fn serve(
     if kind == FLUSH {
         return alone::flush(x, spans, order, tally);
     }
-    if kind == PUSH {
-        return alone::push(
-            x,
-            spans,
-            order,
-            tally,
-            false,
-            span,
-            pos,
-            value,
-            added,
-            accepted,
-        );
-    }
+    let has = kind != PUSH;
     alone::push(
         x,
         spans,
         order,
         tally,
-        true,
+        has,
         span,
         pos,
         value,
@@ -205,7 +192,7 @@ pub fn replay(
     if !well_formed(requests) {
         return rules::MALFORMED as u32;
     }
-    let number = alone::check_open(p, v, spans, order, tally);
+    let number = alone::check_open(spans, order, tally, p, v);
     if number != 0 {
         return number;
     }
@@ -213,7 +200,7 @@ pub fn replay(
     if answers.len() / ANSWER_SIZE < n {
         return rules::TOO_SHORT as u32;
     }
-    let x = alone::begin(p, v, tally);
+    let x = alone::begin(tally, p, v);
     run(x, spans, order, tally, answers, requests, n);
     0
 }

@@ -12,7 +12,7 @@ use borrow.Author.Tests.{lt-ltb, le-ltb}
 use Rattle.rules.specs.Model.{initial}
 use Rattle.rules.specs.Checks.{Check, verdict, too-short, check-open, check-range}
 use Rattle.rules.specs.Calls.{Call, run, answers}
-use Rattle.rules.specs.Encoding.{decode, decode-from, unless-empty}
+use Rattle.rules.specs.Encoding.{add-tag, decode, decode-from, unless-empty}
 use Rattle.rules.specs.Limits.{most-parallelism, most-places}
 use Rattle.rules.specs.Refusals as refusal
 use Rattle.laws.specs.Accepted.{verdict-head, verdict-first}
@@ -35,7 +35,7 @@ use Rattle.call_list.specs.Replay.{replay-number, Ran, Replays}
 pub record MayPass (l : List ℕ) (s : Session) (σ : Storage) (out : List ℕ) (at n : ℕ) : Type 0 where
   pub may : MayContinue l s σ out at n
   pub inside : at < length l
-  pub tag : 2 < getD l at 0
+  pub tag : add-tag < getD l at 0
 
 -- it is made, and so are the sets and adds that follow it
 pub record Passes (l : List ℕ) (s : Session) (σ : Storage) (out : List ℕ) (at n : ℕ) (s′ : Session) (σ′ : Storage) (out′ : List ℕ) (at′ n′ : ℕ) : Type 0 where

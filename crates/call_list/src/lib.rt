@@ -2,6 +2,7 @@
 ghost use mathlib.Core.Path.{_≡_};
 ghost use Prim.Native.Nat.{_+_, _<_};
 ghost use lib.ListN.{getD};
+ghost use Rattle.rules.specs.Encoding.{add-tag};
 ghost use Rattle.session.specs.Storage.{given, across};
 ghost use Rattle.admitting.specs.Promise.{Asks};
 ghost use Rattle.opening.specs.Opened.{first-session};
@@ -27,7 +28,7 @@ fn make_end(
     at: usize,
 ) -> Answer
     requires { ⌜ Asks s (given spans order tally rows marks locations waiting pool) ⌝ }
-    requires { ⌜ (Readable (now calls) at) × (2 < getD (now calls) at 0) ⌝ }
+    requires { ⌜ (Readable (now calls) at) × (add-tag < getD (now calls) at 0) ⌝ }
     ensures { λ r. ⌜ across spans order tally rows marks locations waiting pool (λ σ τ. Made (now (calls .entry)) at (r .number) (at + 1) s (r .session) σ τ) ⌝ }
 {
     if calls[at] == encoding::FLUSH {
@@ -159,6 +160,7 @@ fn run_calls(
     }
     r.session
 }
+
 // A refusal's answer: its number, and the fresh session of parallelism 0 and 0 places.
 fn refused(n: u64) -> Answer
     ensures number { λ r. ⌜ r .number ≡ n ⌝ }
@@ -194,15 +196,15 @@ pub fn replay(
         return refused(rules::MALFORMED);
     }
     let n = opening::check_open(
-        p,
-        v,
         spans.len(),
         order.len(),
+        tally.len(),
         rows.len(),
         marks.len(),
         locations.len(),
         waiting.len(),
-        tally.len(),
+        p,
+        v,
     );
     if n != 0 {
         return refused(n);

@@ -9,7 +9,7 @@ use native.Mathlib.Omega.{arith}
 use native.Mathlib.Decide.{ℕ-discrete}
 use lib.ListN.{length, getD, take, drop}
 use Rattle.rules.specs.Calls.{set, add, flush, final}
-use Rattle.rules.specs.Encoding.{Front, Counted, counted, add-front, add-outs, front}
+use Rattle.rules.specs.Encoding.{set-tag, add-tag, flush-tag, final-tag, Front, Counted, counted, add-front, add-outs, front}
 use Rattle.encoding.specs.Ends.{ListEnds, front-set, front-set-short, front-add, front-flush, front-final, front-other, add-whole}
 use Rattle.session.specs.declared.Session.{Session}
 use Rattle.session.specs.Storage.{Storage}
@@ -21,20 +21,20 @@ use Rattle.call_runs.specs.Made.{Made, AdmitsAt, Readable}
 never : (f : Front) (o : Option Front) → o ≡ some f → o ≡ none → ⊥
 never f o e d = let z : _≡_ {A = ℕ} 0 1 = cc in omega arith
 
--- above 2, the tag is neither a set's nor an add's
-pub end-tag : {n : ℕ} → 2 < n → (n ≡ 1 → ⊥) × (n ≡ 2 → ⊥)
+-- a tag above an add's is neither a set's nor an add's
+pub end-tag : {n : ℕ} → add-tag < n → (n ≡ set-tag → ⊥) × (n ≡ add-tag → ⊥)
 end-tag h = (λ e. omega arith, λ e. omega arith)
 
 module _ {l : List ℕ} {at : ℕ} (R : Readable l at) where
   -- a set has its place
-  pub set-inside : getD l at 0 ≡ 1 → at + 1 < length l
+  pub set-inside : getD l at 0 ≡ set-tag → at + 1 < length l
   set-inside e = go (ℕ-discrete (length l) (at + 1))
     where
       go : Dec (length l ≡ at + 1) → at + 1 < length l
       go (yes y) = absurd (never (R .read) (front (drop at l)) (R .is) (front-set-short l at (R .inside) e (omega arith)))
       go (no n) = omega (arith, R .inside, n)
 
-  pub admits-set : {a : Admitted} {s : Session} {σ τ : Storage} → getD l at 0 ≡ 1 → Admits (set (getD l (at + 1) 0)) s a σ τ → AdmitsAt l at a (at + 2) s σ τ
+  pub admits-set : {a : Admitted} {s : Session} {σ τ : Storage} → getD l at 0 ≡ set-tag → Admits (set (getD l (at + 1) 0)) s a σ τ → AdmitsAt l at a (at + 2) s σ τ
   admits-set e A =
       record {
         call = set (getD l (at + 1) 0);
@@ -45,11 +45,11 @@ module _ {l : List ℕ} {at : ℕ} (R : Readable l at) where
       }
 
   module _ {n : ℕ} {s s′ : Session} {σ σ′ : Storage} where
-    pub made-flush : getD l at 0 ≡ 3 → Called flush n s s′ σ σ′ → Made l at n (at + 1) s s′ σ σ′
+    pub made-flush : getD l at 0 ≡ flush-tag → Called flush n s s′ σ σ′ → Made l at n (at + 1) s s′ σ σ′
     made-flush e c = record { call = flush; is = front-flush l at (R .inside) e; past = omega arith; within = omega (arith, R .inside); called = c }
 
     -- no other tag is left
-    pub made-final : (getD l at 0 ≡ 1 → ⊥) → (getD l at 0 ≡ 2 → ⊥) → (getD l at 0 ≡ 3 → ⊥) → Called final n s s′ σ σ′ → Made l at n (at + 1) s s′ σ σ′
+    pub made-final : (getD l at 0 ≡ set-tag → ⊥) → (getD l at 0 ≡ add-tag → ⊥) → (getD l at 0 ≡ flush-tag → ⊥) → Called final n s s′ σ σ′ → Made l at n (at + 1) s s′ σ σ′
     made-final x y z c =
         record {
           call = final;
@@ -59,14 +59,14 @@ module _ {l : List ℕ} {at : ℕ} (R : Readable l at) where
           called = c;
         }
       where
-        tag : getD l at 0 ≡ 4
-        tag = elim (ℕ-discrete (getD l at 0) 4) [ yes e ↦ e | no w ↦ absurd (never (R .read) (front (drop at l)) (R .is) (front-other l at (R .inside) x y z w)) ]
+        tag : getD l at 0 ≡ final-tag
+        tag = elim (ℕ-discrete (getD l at 0) final-tag) [ yes e ↦ e | no w ↦ absurd (never (R .read) (front (drop at l)) (R .is) (front-other l at (R .inside) x y z w)) ]
 
-  -- a call whose tag is at most 2 and not 1 is an add, and has both lists
-  module _ (h : getD l at 0 ≤ 2) (x : getD l at 0 ≡ 1 → ⊥) where
-    tag : getD l at 0 ≡ 2
+  -- a call whose tag is at most an add's and not a set's is an add, and has both lists
+  module _ (h : getD l at 0 ≤ add-tag) (x : getD l at 0 ≡ set-tag → ⊥) where
+    tag : getD l at 0 ≡ add-tag
     tag =
-        elim (ℕ-discrete (getD l at 0) 2) [
+        elim (ℕ-discrete (getD l at 0) add-tag) [
           | yes e ↦ e
           | no y ↦ absurd (never (R .read) (front (drop at l)) (R .is) (front-other l at (R .inside) x y (λ e. omega arith) (λ e. omega arith)))
         ]

@@ -1,6 +1,7 @@
 // The sets and adds of an encoded list, made one after another on a session, up to the first flush or final.
 ghost use Prim.Native.Nat.{_≤_};
 ghost use lib.ListN.{getD};
+ghost use Rattle.rules.specs.Encoding.{add-tag};
 ghost use Rattle.session.specs.Storage.{given, across};
 ghost use Rattle.call_runs.specs.Made.{Readable, AsksCall, AdmitsCall};
 ghost use Rattle.call_runs.specs.Continuing.{MayContinue, Continues};
@@ -31,7 +32,7 @@ fn admit_call(
     at: usize,
 ) -> Admission
     requires { ⌜ AsksCall s (now marks) (now waiting) (now pool) ⌝ }
-    requires { ⌜ (Readable (now calls) at) × (getD (now calls) at 0 ≤ 2) ⌝ }
+    requires { ⌜ (Readable (now calls) at) × (getD (now calls) at 0 ≤ add-tag) ⌝ }
     ensures { λ r. ⌜ AdmitsCall (now (calls .entry)) at (r .admitted) (r .next) s (now (marks .entry)) (now (waiting .entry)) (now (pool .entry))
         (now (marks .exit)) (now (waiting .exit)) (now (pool .exit)) ⌝ }
 {

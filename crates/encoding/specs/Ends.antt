@@ -13,7 +13,7 @@ use lib.Seq.{drop-cons, drop-drop}
 use borrow.Author.Tests.{le-leb, lt-leb, ne-eqb}
 use Rattle.rules.specs.Calls.{Call, set, add, flush, final}
 use Rattle.laws.specs.History.{lt-or-le}
-use Rattle.rules.specs.Encoding.{Front, counted, set-front, add-outs, add-front, front, unless-empty, decode-from, decode}
+use Rattle.rules.specs.Encoding.{set-tag, add-tag, flush-tag, final-tag, Front, counted, set-front, add-outs, add-front, front, unless-empty, decode-from, decode}
 use Rattle.encoding.specs.Decode.{decode-none, decode-some, prefix, prefix-more, prefix-none, prefix-some}
 
 -- r is the index past the counted list at `at`, or 0 where there is none
@@ -87,47 +87,47 @@ module _ (l : List ℕ) (at : ℕ) where
     front-at = let s : at + 1 ≡ suc at = omega arith in ap front (drop-cons l at 0 h ∙ ap (λ n. getD l at 0 ∷ drop n l) (sym s))
 
     -- the call that starts at `at`, by its tag
-    pub front-set : getD l at 0 ≡ 1 → at + 1 < length l → front (drop at l) ≡ some (record { call = set (getD l (at + 1) 0); rest = drop (at + 2) l })
+    pub front-set : getD l at 0 ≡ set-tag → at + 1 < length l → front (drop at l) ≡ some (record { call = set (getD l (at + 1) 0); rest = drop (at + 2) l })
     unfolding front set-front
     front-set e k = let s : suc (at + 1) ≡ at + 2 = omega arith in front-at ∙ rw e (rw (drop-cons l (at + 1) 0 k, s))
 
-    pub front-set-short : getD l at 0 ≡ 1 → length l ≤ at + 1 → front (drop at l) ≡ none
+    pub front-set-short : getD l at 0 ≡ set-tag → length l ≤ at + 1 → front (drop at l) ≡ none
     unfolding front set-front
     front-set-short e k = front-at ∙ rw e (rw (drop-of-length-le l k))
 
-    pub front-add : getD l at 0 ≡ 2 → front (drop at l) ≡ add-front (counted (drop (at + 1) l))
+    pub front-add : getD l at 0 ≡ add-tag → front (drop at l) ≡ add-front (counted (drop (at + 1) l))
     unfolding front
     front-add e = front-at ∙ rw e refl
 
-    pub front-flush : getD l at 0 ≡ 3 → front (drop at l) ≡ some (record { call = flush; rest = drop (at + 1) l })
+    pub front-flush : getD l at 0 ≡ flush-tag → front (drop at l) ≡ some (record { call = flush; rest = drop (at + 1) l })
     unfolding front
     front-flush e = front-at ∙ rw e refl
 
-    pub front-final : getD l at 0 ≡ 4 → front (drop at l) ≡ some (record { call = final; rest = drop (at + 1) l })
+    pub front-final : getD l at 0 ≡ final-tag → front (drop at l) ≡ some (record { call = final; rest = drop (at + 1) l })
     unfolding front
     front-final e = front-at ∙ rw e refl
 
-    pub front-other : (getD l at 0 ≡ 1 → ⊥) → (getD l at 0 ≡ 2 → ⊥) → (getD l at 0 ≡ 3 → ⊥) → (getD l at 0 ≡ 4 → ⊥) → front (drop at l) ≡ none
+    pub front-other : (getD l at 0 ≡ set-tag → ⊥) → (getD l at 0 ≡ add-tag → ⊥) → (getD l at 0 ≡ flush-tag → ⊥) → (getD l at 0 ≡ final-tag → ⊥) → front (drop at l) ≡ none
     unfolding front
-    front-other a b c d = front-at ∙ rw (ne-eqb (getD l at 0) 1 a, ne-eqb (getD l at 0) 2 b, ne-eqb (getD l at 0) 3 c, ne-eqb (getD l at 0) 4 d, front)
+    front-other a b c d = front-at ∙ rw (ne-eqb (getD l at 0) set-tag a, ne-eqb (getD l at 0) add-tag b, ne-eqb (getD l at 0) flush-tag c, ne-eqb (getD l at 0) final-tag d, front)
 
-    pub call-add : (r : ℕ) → getD l at 0 ≡ 2 → Ends (add-front (counted (drop (at + 1) l))) l (at + 1) r → Ends (front (drop at l)) l at r
+    pub call-add : (r : ℕ) → getD l at 0 ≡ add-tag → Ends (add-front (counted (drop (at + 1) l))) l (at + 1) r → Ends (front (drop at l)) l at r
     call-add r e (inl x) = inl (x .0, front-add e ∙ x .1)
     call-add r e (inr x) = inr (x .0, omega (arith, x .1), x .2, front-add e ∙ x .3)
 
-    pub call-flush : getD l at 0 ≡ 3 → Ends (front (drop at l)) l at (at + 1)
+    pub call-flush : getD l at 0 ≡ flush-tag → Ends (front (drop at l)) l at (at + 1)
     call-flush e = inr (flush, omega arith, omega arith, front-flush e)
 
-    pub call-final : getD l at 0 ≡ 4 → Ends (front (drop at l)) l at (at + 1)
+    pub call-final : getD l at 0 ≡ final-tag → Ends (front (drop at l)) l at (at + 1)
     call-final e = inr (final, omega arith, omega arith, front-final e)
 
-    pub call-set : getD l at 0 ≡ 1 → at + 1 < length l → Ends (front (drop at l)) l at (at + 2)
+    pub call-set : getD l at 0 ≡ set-tag → at + 1 < length l → Ends (front (drop at l)) l at (at + 2)
     call-set e k = inr (set (getD l (at + 1) 0), omega arith, omega arith, front-set e k)
 
-    pub call-set-short : getD l at 0 ≡ 1 → length l ≤ at + 1 → Ends (front (drop at l)) l at 0
+    pub call-set-short : getD l at 0 ≡ set-tag → length l ≤ at + 1 → Ends (front (drop at l)) l at 0
     call-set-short e k = inl (refl, front-set-short e k)
 
-    pub call-other : (getD l at 0 ≡ 1 → ⊥) → (getD l at 0 ≡ 2 → ⊥) → (getD l at 0 ≡ 3 → ⊥) → (getD l at 0 ≡ 4 → ⊥) → Ends (front (drop at l)) l at 0
+    pub call-other : (getD l at 0 ≡ set-tag → ⊥) → (getD l at 0 ≡ add-tag → ⊥) → (getD l at 0 ≡ flush-tag → ⊥) → (getD l at 0 ≡ final-tag → ⊥) → Ends (front (drop at l)) l at 0
     call-other a b c d = inl (refl, front-other a b c d)
 
 -- the count at `at`: n calls were read, and the rest is still to be read

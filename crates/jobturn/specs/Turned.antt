@@ -12,12 +12,14 @@ use Rattle.rules.specs.Calls as calls
 use Rattle.rules.specs.Calls.{Call, answer, step}
 use Rattle.rules.specs.Job.{finished, rejected, lines, ragged}
 use Rattle.rules.specs.Refusals as refusal
+use Rattle.rules.specs.Summary as rule
 use Rattle.rules.specs.Summary.{median}
 use Rattle.laws.specs.Sound.{Between}
 use Rattle.session.specs.declared.Session.{Session}
 use Rattle.session.specs.Storage.{Storage, Beyond, Frame}
 use Rattle.session.specs.Rep.{Rep}
 use Rattle.admitting.specs.Promise.{Asks}
+use Rattle.sorter.specs.FinalWork.{Concludes}
 use Rattle.jobcalls.specs.Runs.{Run, reads}
 use Rattle.jobturn.specs.declared.End.the-variants as end
 use Rattle.jobturn.specs.declared.Step.{Step}
@@ -37,6 +39,13 @@ pub record AfterFinal (number m next long written places med : ℕ) (r : Step) :
   pub refused : (number ≡ 0 → ⊥) → r ≡ step′.Ended (end.Rejected m number)
   pub surplus : number ≡ 0 → (next ≡ long → ⊥) → r ≡ step′.Ended (end.Rejected (m + 1) refusal.malformed)
   pub last : number ≡ 0 → next ≡ long → r ≡ step′.Ended (end.Finished written places med)
+
+-- final was made, and what follows it
+pub record FinalMade (m next long : ℕ) (s : Session) (r : Step) (s′ : Session) (σ σ′ : Storage) : Type 0 where
+  pub number : ℕ
+  pub figures : rule.Figures
+  pub concludes : Concludes number s s′ σ σ′ figures
+  pub follows : AfterFinal number m next long (s′ .guide .written) (s′ .places) (figures .median) r
 
 -- what the rules make of the job from `at` on, which is line n, for the model k: how it ends, and the model that it reaches
 unfoldable pub remains : ℕ → ℕ → ℕ → List ℕ → ℕ → ℕ → Model → Run

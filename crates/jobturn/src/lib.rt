@@ -4,13 +4,13 @@ ghost use lib.ListN.{length};
 ghost use Rattle.session.specs.Storage.{given, across};
 ghost use Rattle.admitting.specs.Promise.{Asks, Called};
 ghost use Rattle.jobcalls.specs.Told.{call-of, taken-by};
-ghost use Rattle.jobturn.specs.Turned.{AfterCall, AfterFinal, MayTurn, Turned};
+ghost use Rattle.jobturn.specs.Turned.{AfterCall, AfterFinal, FinalMade, MayTurn, Turned};
 use jobcalls::Call;
 use jobcalls::Next;
 use session::Session;
 use sorter::Answer;
 
-// Makes a call of a job on the session. The numbers of an add's lists stand at the start of `numbers`.
+// Makes a call of a job on the session. The numbers of an add's lists stand at the start of `into`.
 fn make(
     s: Session,
     spans: &mut [u32],
@@ -21,11 +21,11 @@ fn make(
     locations: &mut [u64],
     waiting: &mut [u64],
     pool: &mut [u32],
-    numbers: &[u64],
+    into: &[u64],
     call: Call,
 ) -> Answer
-    requires { ⌜ (Asks s (given spans order tally rows marks locations waiting pool)) × (taken-by call ≤ length (now numbers)) ⌝ }
-    ensures { λ r. ⌜ across spans order tally rows marks locations waiting pool (λ σ τ. Called (call-of call (now (numbers .entry))) (r .number) s (r .session) σ τ) ⌝ }
+    requires { ⌜ (Asks s (given spans order tally rows marks locations waiting pool)) × (taken-by call ≤ length (now into)) ⌝ }
+    ensures { λ r. ⌜ across spans order tally rows marks locations waiting pool (λ σ τ. Called (call-of call (now (into .entry))) (r .number) s (r .session) σ τ) ⌝ }
 {
     match call {
         Call::Set { place } => sorter::set(
@@ -52,8 +52,8 @@ fn make(
                 locations,
                 waiting,
                 pool,
-                &numbers[..inputs],
-                &numbers[inputs..end],
+                &into[..inputs],
+                &into[inputs..end],
             )
         }
         Call::Flush => sorter::flush(
@@ -140,6 +140,50 @@ pub struct Turn {
     pub session: Session,
 }
 
+// Makes final, which stands on `line` and ends before `next` in a job of `length` bytes.
+fn make_final(
+    s: Session,
+    spans: &mut [u32],
+    order: &mut [u32],
+    tally: &mut [u32],
+    rows: &mut [u32],
+    marks: &mut [u16],
+    locations: &mut [u64],
+    waiting: &mut [u64],
+    pool: &mut [u32],
+    line: u64,
+    next: usize,
+    length: usize,
+) -> Turn
+    requires { ⌜ (Asks s (given spans order tally rows marks locations waiting pool)) × (line + 1 < 2 ^ 64) ⌝ }
+    ensures { λ r. ⌜ across spans order tally rows marks locations waiting pool (λ σ τ. FinalMade line next length s (r .step) (r .session) σ τ) ⌝ }
+{
+    let f = sorter::finish(
+        s,
+        spans,
+        order,
+        tally,
+        rows,
+        marks,
+        locations,
+        waiting,
+        pool,
+    );
+    let session = f.session;
+    let written = session.guide.written;
+    let median = f.summary.median;
+    let step = after_final(
+        f.number,
+        line,
+        next,
+        length,
+        written,
+        session.places,
+        median,
+    );
+    Turn { step, session }
+}
+
 // Reads the call at `at`, whose first line is `line`, and makes it.
 pub fn run_call(
     s: Session,
@@ -179,32 +223,20 @@ pub fn run_call(
             let session = a.session;
             Turn { step, session }
         }
-        Next::Final { line, next } => {
-            let f = sorter::finish(
-                s,
-                spans,
-                order,
-                tally,
-                rows,
-                marks,
-                locations,
-                waiting,
-                pool,
-            );
-            let session = f.session;
-            let guide = session.guide;
-            let summary = f.summary;
-            let step = after_final(
-                f.number,
-                line,
-                next,
-                job.len(),
-                guide.written,
-                session.places,
-                summary.median,
-            );
-            Turn { step, session }
-        }
+        Next::Final { line, next } => make_final(
+            s,
+            spans,
+            order,
+            tally,
+            rows,
+            marks,
+            locations,
+            waiting,
+            pool,
+            line,
+            next,
+            job.len(),
+        ),
         Next::Malformed { line } => {
             let code = rules::MALFORMED;
             let end = End::Rejected { line, code };

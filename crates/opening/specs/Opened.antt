@@ -32,11 +32,11 @@ use Rattle.session.specs.Rep.{Rep}
 
 -- lengths of storage, in entries and rows where it holds those
 abbrev pub sizes-of : ℕ → ℕ → ℕ → ℕ → ℕ → ℕ → ℕ → Sizes
-sizes-of spans order rows marks locations waiting tally =
+sizes-of spans order tally rows marks locations waiting =
     record { spans = spans / entry-size; order = order / entry-size; rows = rows / row-size; marks = marks; locations = locations; waiting = waiting; tally = tally }
 
 abbrev pub sizes : Storage → Sizes
-sizes σ = sizes-of (length (σ .spans)) (length (σ .order)) (length (σ .rows)) (length (σ .marks)) (length (σ .locations)) (length (σ .waiting)) (length (σ .tally))
+sizes σ = sizes-of (length (σ .spans)) (length (σ .order)) (length (σ .tally)) (length (σ .rows)) (length (σ .marks)) (length (σ .locations)) (length (σ .waiting))
 
 -- a session just opened
 abbrev pub first-session : ℕ → ℕ → Session

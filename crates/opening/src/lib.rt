@@ -15,18 +15,18 @@ pub struct Opened {
 
 // Whether a length of the storage is too short for parallelism p and v places.
 fn too_short(
-    p: usize,
-    v: usize,
     spans: usize,
     order: usize,
+    tally: usize,
     rows: usize,
     marks: usize,
     locations: usize,
     waiting: usize,
-    tally: usize,
+    p: usize,
+    v: usize,
 ) -> bool
     requires { ⌜ (p ≤ most-parallelism) × (v ≤ most-places) ⌝ }
-    ensures { λ r. ⌜ r ≡ too-short p v (sizes-of spans order rows marks locations waiting tally) ⌝ }
+    ensures { λ r. ⌜ r ≡ too-short p v (sizes-of spans order tally rows marks locations waiting) ⌝ }
 {
     if spans / entries::SIZE < window::SPANS * (p + 1) {
         return true;
@@ -51,17 +51,17 @@ fn too_short(
 
 // The number of the first check of opening that fails, or 0.
 pub fn check_open(
-    p: u64,
-    v: u64,
     spans: usize,
     order: usize,
+    tally: usize,
     rows: usize,
     marks: usize,
     locations: usize,
     waiting: usize,
-    tally: usize,
+    p: u64,
+    v: u64,
 ) -> u64
-    ensures { λ r. ⌜ r ≡ verdict (check-open p v (sizes-of spans order rows marks locations waiting tally)) ⌝ }
+    ensures { λ r. ⌜ r ≡ verdict (check-open p v (sizes-of spans order tally rows marks locations waiting)) ⌝ }
 {
     if p < 1 {
         return rules::OUT_OF_RANGE;
@@ -76,15 +76,15 @@ pub fn check_open(
         return rules::OUT_OF_RANGE;
     }
     if too_short(
-        p as usize,
-        v as usize,
         spans,
         order,
+        tally,
         rows,
         marks,
         locations,
         waiting,
-        tally,
+        p as usize,
+        v as usize,
     ) {
         return rules::TOO_SHORT;
     }
@@ -169,15 +169,15 @@ pub fn open(
     ensures { λ a. ⌜ OpensOver p v (a .number) (a .session) spans order tally rows marks locations waiting ⌝ }
 {
     let n = check_open(
-        p,
-        v,
         spans.len(),
         order.len(),
+        tally.len(),
         rows.len(),
         marks.len(),
         locations.len(),
         waiting.len(),
-        tally.len(),
+        p,
+        v,
     );
     if n != 0 {
         let s = fresh(0, 0);

@@ -43,7 +43,7 @@ returns-2 c =
     let k = e .before in
     let a = start k .args in
     open-served (a .p) (a .v) (k .check-open .result) (b .begin .result) (now (a .spans)) (now (a .order)) (now (a .tally)) (k .check-open .ensures)
-    (b .begin .last .1 .1 .0) (e .if1 .left) (b .begin .ensures)
+    (b .begin .last .0) (e .if1 .left) (b .begin .ensures)
 
 pub open-spec : {M : Type 1} → statement M
 open-spec = tie.close (tie.spec check-open-requires fresh-requires same-length returns begin-requires same-length-2 returns-2)

@@ -21,11 +21,11 @@ accepted c = c .before .before .before
 abbrev returned : tie.After-tally → tie.After-push
 returned c = c .before .before .before .before .before
 
-element-copy-out-check-push : tie.Need-element-copy-out-check-push
-element-copy-out-check-push c = search needs
+element-copy-out-last : tie.Need-element-copy-out-last
+element-copy-out-last c = search needs
 
-element-copy-out-check-push-2 : tie.Need-element-copy-out-check-push-2
-element-copy-out-check-push-2 c = search needs
+element-copy-out-first : tie.Need-element-copy-out-first
+element-copy-out-first c = search needs
 
 check-push-requires : tie.Need-check-push-requires
 check-push-requires c κs = search needs
@@ -51,8 +51,8 @@ push-requires c κs =
       (ready (a .x) sp o t (s .pre) (low-last (a .x) sp o t (s .pre) (a .has) (a .span) (a .pos) z), near (a .x) sp o t (s .pre) (a .has) (a .span) (a .pos) z),
     )
 
-add-t20 : tie.Need-add-t20
-add-t20 c =
+add-y : tie.Need-add-y
+add-y c =
     let e = accepted (returned (c .before .before .before) .before) in
     let k = e .before in
     let s = start (begun k) in
@@ -86,12 +86,12 @@ pub push-spec : {M : Type 1} → statement M
 push-spec =
     tie.close
     (tie.spec
-    element-copy-out-check-push
-    element-copy-out-check-push-2
+    element-copy-out-last
+    element-copy-out-first
     check-push-requires
     returns
     push-requires
-    add-t20
+    add-y
     same-length
     same-length-2
     same-length-3

@@ -121,7 +121,7 @@ returns-4 c = let ran = to-run c in
     let k = room .before .before in
     let a = to-start (to-formed k .before) .args in
     replay-ran (a .p) (a .v) (now (a .requests)) (now (a .spans)) (now (a .order)) (now (a .tally)) (now (a .answers)) (formed k) (accepted (room .before))
-    {x = b .begin .result} {t₁ = b .begin .last .1 .1 .0} (room .if3 .left) (b .begin .ensures) (ran .run .ensures)
+    {x = b .begin .result} {t₁ = b .begin .last .0} (room .if3 .left) (b .begin .ensures) (ran .run .ensures)
 
 pub replay-spec : {M : Type 1} → statement M
 replay-spec =

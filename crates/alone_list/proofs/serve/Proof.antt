@@ -1,5 +1,5 @@
 -- `alone_list::serve` meets its contract: each return is one kind of request. Assumes nothing.
-use Rattle.alone_list.specs.Requests.{is-flush, is-absent, is-after}
+use Rattle.alone_list.specs.Requests.{is-flush, is-push}
 use denote.Ref.{now}
 use borrow.Author.Needs.{needs}
 use Rattle.alone_list.proofs.serve.Statement.{statement}
@@ -15,11 +15,6 @@ abbrev to-flush : tie.After-slice-known6 → tie.After-flush
 to-flush c =
     let after-order = c .before .before .before in
     after-order .before .before .before
-
-abbrev to-push2 : tie.After-slice-known12 → tie.After-push2
-to-push2 c =
-    let after-order3 = c .before .before .before in
-    after-order3 .before .before .before
 
 abbrev to-push : tie.After-slice-known9 → tie.After-push
 to-push c =
@@ -115,31 +110,10 @@ same-length-6 c = search needs
 returns-2 : tie.Need-returns-2
 returns-2 c =
     let after-push = to-push c in
-    let then2 = after-push .before .before .before .before in
-    let start = to-start (then2 .before .before) in
-    let a = start .args in
-    rw (← is-absent (now (a .requests)) (a .k) (then2 .if2 .taken)) (after-push .push .ensures)
-
-push-requires-2 : tie.Need-push-requires-2
-push-requires-2 c κs = search needs
-
-same-length-7 : tie.Need-same-length-7
-same-length-7 c = search needs
-
-same-length-8 : tie.Need-same-length-8
-same-length-8 c = search needs
-
-same-length-9 : tie.Need-same-length-9
-same-length-9 c = search needs
-
-returns-3 : tie.Need-returns-3
-returns-3 c =
-    let after-push2 = to-push2 c in
-    let else2 = after-push2 .before .before .before .before in
-    let else1 = else2 .before in
+    let else1 = after-push .before .before .before .before in
     let start = to-start (else1 .before) in
     let a = start .args in
-    rw (← is-after (now (a .requests)) (a .k) (else1 .if1 .left) (else2 .if2 .left)) (after-push2 .push2 .ensures)
+    rw (← is-push (now (a .requests)) (a .k) (else1 .if1 .left)) (after-push .push .ensures)
 
 pub serve-spec : {M : Type 1} → statement M
 serve-spec =
@@ -172,9 +146,4 @@ serve-spec =
     same-length-4
     same-length-5
     same-length-6
-    returns-2
-    push-requires-2
-    same-length-7
-    same-length-8
-    same-length-9
-    returns-3)
+    returns-2)

@@ -1,4 +1,4 @@
--- `call_list::make_end` meets its contract: the tag is 3 or 4.
+-- `call_list::make_end` meets its contract: the tag is a flush's or a final's.
 use native.Mathlib.Omega.{arith}
 use Rattle.call_runs.specs.Making.{end-tag, made-flush, made-final}
 use Rattle.call_list.proofs.make_end.Statement.{statement}

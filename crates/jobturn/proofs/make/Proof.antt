@@ -124,7 +124,7 @@ returns : tie.Need-returns
 returns c =
     let made = made-set c in
     let told = told-set (made .before) in
-    called-as (start (told .before .before) .args .numbers .now) (told .call .given .1) (made .set .ensures)
+    called-as (start (told .before .before) .args .into .now) (told .call .given .1) (made .set .ensures)
 
 same-length-9 : tie.Need-same-length-9
 same-length-9 c = made-lists c .add .kept .1 .0
@@ -155,7 +155,7 @@ returns-2 c =
     let made = made-lists c in
     let told = told-lists (made .before .before) in
     let lists = told .call2 .given .0 in
-    let numbers = start (told .before .before) .args .numbers .now in
+    let numbers = start (told .before .before) .args .into .now in
     called-as numbers (told .call2 .given .1) (made-add (lists .0) (lists .1 .0) numbers (made .add .ensures))
 
 same-length-17 : tie.Need-same-length-17
@@ -186,7 +186,7 @@ returns-3 : tie.Need-returns-3
 returns-3 c =
     let made = made-flush c in
     let told = told-flush (made .before) in
-    called-as (start (told .before .before) .args .numbers .now) (told .enum-told .given .1) (made .flush .ensures)
+    called-as (start (told .before .before) .args .into .now) (told .enum-told .given .1) (made .flush .ensures)
 
 pub make-spec : {M : Type 1} → statement M
 make-spec =

@@ -27,20 +27,17 @@ made c =
     let after-slice-known12 = after-slice-known14 .before .before .before .before in
     after-slice-known12 .before .before .before .before
 
-abbrev told-final : tie.After-finish-arg8 → tie.After-read2
+abbrev told-final : tie.After-make-final-arg8 → tie.After-read2
 told-final c =
-    let after-finish-arg4 = c .before .before .before .before in
-    after-finish-arg4 .before .before .before .before .before
+    let after-make-final-arg4 = c .before .before .before .before in
+    after-make-final-arg4 .before .before .before .before .before
 
-abbrev done : tie.After-summary → tie.After-finish
-done c =
-    let after-pool2 = c .before .before .before .before in
-    let after-slice-known23 = after-pool2 .before .before .before .before .before in
-    let after-tally2 = after-slice-known23 .before .before .before .before .before in
-    after-tally2 .before .before .before .before .before
-
-abbrev finished : tie.After-after-final → tie.After-finish
-finished c = done (c .before)
+abbrev finished : tie.After-slice-known26 → tie.After-make-final
+finished c =
+    let after-slice-known24 = c .before .before .before .before in
+    let after-slice-known22 = after-slice-known24 .before .before .before .before in
+    let after-slice-known20 = after-slice-known22 .before .before .before .before in
+    after-slice-known20 .before .before .before .before
 
 next-call-requires : tie.Need-next-call-requires
 next-call-requires c κs = search needs
@@ -63,14 +60,11 @@ after-call-requires c κs =
 enum-known-read-2 : tie.Need-enum-known-read-2
 enum-known-read-2 c = search needs
 
-finish-requires : tie.Need-finish-requires
-finish-requires c κs = start (read (told-final c .before .before)) .pre .asks
-
-after-final-requires : tie.Need-after-final-requires
-after-final-requires c κs =
-    let told = told-final (done c .before) in
+make-final-requires : tie.Need-make-final-requires
+make-final-requires c κs =
+    let told = told-final c in
     let read = read (told .before .before) in
-    omega (arith, near (read-as (read .next-call .ensures) (told .read2 .given .1)), start read .pre .low)
+    (start read .pre .asks, omega (arith, near (read-as (read .next-call .ensures) (told .read2 .given .1)), start read .pre .low))
 
 enum-known-read-3 : tie.Need-enum-known-read-3
 enum-known-read-3 c = search needs
@@ -111,39 +105,39 @@ returns c =
     (c .before .after-call .ensures)
 
 same-length-10 : tie.Need-same-length-10
-same-length-10 c = finished c .finish .kept .1 .0
+same-length-10 c = finished c .make-final .kept .1 .0
 
 same-length-11 : tie.Need-same-length-11
-same-length-11 c = finished c .finish .kept .1 .1 .0
+same-length-11 c = finished c .make-final .kept .1 .1 .0
 
 same-length-12 : tie.Need-same-length-12
-same-length-12 c = finished c .finish .kept .1 .1 .1 .0
+same-length-12 c = finished c .make-final .kept .1 .1 .1 .0
 
 same-length-13 : tie.Need-same-length-13
-same-length-13 c = finished c .finish .kept .1 .1 .1 .1 .0
+same-length-13 c = finished c .make-final .kept .1 .1 .1 .1 .0
 
 same-length-14 : tie.Need-same-length-14
-same-length-14 c = finished c .finish .kept .1 .1 .1 .1 .1 .0
+same-length-14 c = finished c .make-final .kept .1 .1 .1 .1 .1 .0
 
 same-length-15 : tie.Need-same-length-15
-same-length-15 c = finished c .finish .kept .1 .1 .1 .1 .1 .1 .0
+same-length-15 c = finished c .make-final .kept .1 .1 .1 .1 .1 .1 .0
 
 same-length-16 : tie.Need-same-length-16
-same-length-16 c = finished c .finish .kept .1 .1 .1 .1 .1 .1 .1 .0
+same-length-16 c = finished c .make-final .kept .1 .1 .1 .1 .1 .1 .1 .0
 
 same-length-17 : tie.Need-same-length-17
-same-length-17 c = finished c .finish .kept .1 .1 .1 .1 .1 .1 .1 .1 .0
+same-length-17 c = finished c .make-final .kept .1 .1 .1 .1 .1 .1 .1 .1 .0
 
 same-length-18 : tie.Need-same-length-18
 same-length-18 c = read (told-final (finished c .before) .before .before) .next-call .kept .1 .1 .1 .0
 
 returns-2 : tie.Need-returns-2
 returns-2 c =
-    let finish = finished c in
-    let told = told-final (finish .before) in
+    let made = finished c .make-final .ensures in
+    let told = told-final (finished c .before) in
     let read = read (told .before .before) in
-    turn-final _ _ (read .next-call .kept .1 .1 .1 .0) _ _ (read-as (read .next-call .ensures) (told .read2 .given .1)) (finish .finish .ensures) (start read .pre .asks)
-    (c .after-final .ensures)
+    turn-final _ _ (read .next-call .kept .1 .1 .1 .0) _ _ (read-as (read .next-call .ensures) (told .read2 .given .1)) (made .concludes) (start read .pre .asks)
+    (made .follows)
 
 same-length-19 : tie.Need-same-length-19
 same-length-19 c =
@@ -165,8 +159,7 @@ run-call-spec =
     make-requires
     after-call-requires
     enum-known-read-2
-    finish-requires
-    after-final-requires
+    make-final-requires
     enum-known-read-3
     same-length
     same-length-2
