@@ -1,5 +1,5 @@
 // Runs lists of requests to the guide alone and writes the answers, the order and the tally. Standard input has the lists as 32-bit
-// numbers, low byte first: P, V, the count of requests, and six numbers a request as `guide_replay` takes them. P is at most 64, V 512.
+// numbers, low byte first: P, V, the count of requests, and six numbers a request as `guide_replay` takes them. P and V are within a job's.
 // The file stdin holds the worked placements G1 to G5 and W1 to W6 and kept lists, stdout the Rust's answers to them.
 ghost use mathlib.Core.Path.{_≡_};
 ghost use Prim.Native.Nat.{_+_, _*_, _^_, _≤_, _<_};
