@@ -1,8 +1,8 @@
 // Runs lists of requests to the guide alone and writes the answers, the order and the tally. Standard input has the lists as 32-bit
-// numbers, low byte first: P, V, the count of requests, and six numbers a request as `guide_replay` takes them. P is at most 64, V 512.
+// numbers, low byte first: P, V, the count of requests, and six numbers a request as `guide_replay` takes them. P and V are within a job's.
 // The file stdin holds the worked placements G1 to G5 and W1 to W6 and kept lists, stdout the Rust's answers to them.
 ghost use mathlib.Core.Path.{_≡_};
-ghost use Prim.Native.Nat.{_+_, _*_, _≤_, _<_};
+ghost use Prim.Native.Nat.{_+_, _*_, _^_, _≤_, _<_};
 
 // How many numbers are read, and how many requests a list may have.
 const WORDS: usize = 65536;
@@ -40,11 +40,14 @@ fn byte(input: &[u8], i: usize) -> u32
     0
 }
 
+// The bytes of a number.
+const NUMBER_BYTES: usize = 4;
+
 // The number at index k.
 fn number(input: &[u8], k: usize) -> u32
     requires { ⌜ k < 65536 ⌝ }
 {
-    let i = 4 * k;
+    let i = NUMBER_BYTES * k;
     let low = byte(input, i) + 256 * byte(input, i + 1);
     let high = 65536 * byte(input, i + 2) + 16777216 * byte(input, i + 3);
     low + high
@@ -56,33 +59,39 @@ fn show(n: u32, after: &[u8]) {
     io::write_all(1, after);
 }
 
-// A line of the four numbers from i on.
-fn show_line(s: &[u32], i: usize)
-    requires { ⌜ i < 4294967296 ⌝ }
+// A line of four numbers.
+fn show_line(a: u32, b: u32, c: u32, d: u32) {
+    show(a, b" ");
+    show(b, b" ");
+    show(c, b" ");
+    show(d, b"\n");
+}
+
+// The line of the answer from i on: the number, the location, the order's length.
+fn show_answer(answers: &[u32], i: usize)
+    requires { ⌜ i < 2 ^ 32 ⌝ }
 {
-    if i + 4 <= s.len() {
-        show(s[i], b" ");
-        show(s[i + 1], b" ");
-        show(s[i + 2], b" ");
-        show(s[i + 3], b"\n");
+    if i + 4 <= answers.len() {
+        show_line(answers[i], answers[i + 1], answers[i + 2], answers[i + 3]);
     }
 }
 
-// A line for each of n answers: the number, the location, the order's length.
+// A line for each of n answers.
 fn show_answers(answers: &[u32], n: usize)
     requires { ⌜ n < 65536 ⌝ }
 {
     for k in 0..n {
-        show_line(answers, alone_list::ANSWER_SIZE * k);
+        show_answer(answers, alone_list::ANSWER_SIZE * k);
     }
 }
 
 // A line for each of n entries: value, added, accepted, parallelism.
-fn show_order(order: &[u32], n: usize)
-    requires { ⌜ n < 65536 ⌝ }
-{
+fn show_order(order: &[u32], n: usize) {
     for k in 0..n {
-        show_line(order, entries::SIZE * k);
+        if k < entries::capacity(order) {
+            let e = entries::load(order, k);
+            show_line(e.value, e.added, e.accepted, e.parallelism);
+        }
     }
 }
 

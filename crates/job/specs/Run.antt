@@ -90,7 +90,7 @@ pub record Runs (s : Session) (σ : Storage) (job : List ℕ) (start : ℕ) (e :
   pub low : Low e
   pub into : Beyond (length job / 2) a b
 
--- storage for P ≤ 64, V ≤ 512 and W = 4,096, and room for the numbers of a job's lists
+-- storage for the greatest P and V and the W of a job (rules/Limits), and room for the numbers of a job's lists
 pub record Room (σ : Storage) (numbers : ℕ) : Type 0 where
   pub spans : length (σ .spans) ≡ extent (spans-needed job-parallelism)
   pub order : length (σ .order) ≡ extent job-places

@@ -59,7 +59,7 @@ fn run_calls(
     }
 }
 
-// Runs a job of any length on storage for P ≤ 64, V ≤ 512 and W = 4,096.
+// Runs a job of any length on storage for the greatest P and V and the W of a job (`rules::JOB_PARALLELISM`, `JOB_PLACES`, `JOB_POOL`).
 pub fn run(
     spans: &mut [u32],
     order: &mut [u32],

@@ -1,4 +1,4 @@
-// The answer to a job: job bytes in, listing bytes out, on storage of its own for P ≤ 64, V ≤ 512 and W = 4,096.
+// The answer to a job: job bytes in, listing bytes out, on storage of its own for the greatest P and V and the W of a job (crate rules).
 ghost use mathlib.Core.Path.{_≡_};
 ghost use lib.ListN.{length};
 ghost use Rattle.rules.specs.Limits.{program-listing-bytes};

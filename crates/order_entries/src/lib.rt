@@ -1,4 +1,4 @@
-// The order as a lent slice of entry structs. The session keeps its order as a flat slice, four numbers an entry; a caller that wants
+// The order as a lent slice of entry structs. The session keeps its order as a flat slice of numbers (crate entries); a caller that wants
 // structs lends a slice of them beside it and after each call has the new entries copied there.
 ghost use mathlib.Core.Path.{_≡_};
 ghost use lib.ListN.{length};

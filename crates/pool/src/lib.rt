@@ -23,36 +23,36 @@ pub fn store_list(pool: &mut [u32], at: usize, xs: &[u64])
 }
 
 // Notes where registration r's lists start in the pool, and how many inputs it has.
-pub fn set_cell(w: &mut [u64], v: usize, r: usize, start: usize, inputs: usize)
-    requires { ⌜ (r < v) × (waiting-needed v ≤ length (now w)) × (start ≤ most-pooled) × (inputs < radix) ⌝ }
-    ensures { λ _. ⌜ now (w .exit) ≡ with-cell (now (w .entry)) v r start inputs ⌝ }
+pub fn set_cell(waiting: &mut [u64], v: usize, r: usize, start: usize, inputs: usize)
+    requires { ⌜ (r < v) × (waiting-needed v ≤ length (now waiting)) × (start ≤ most-pooled) × (inputs < radix) ⌝ }
+    ensures { λ _. ⌜ now (waiting .exit) ≡ with-cell (now (waiting .entry)) v r start inputs ⌝ }
 {
-    w[2 * v + r] = (start * RADIX as usize + inputs) as u64;
+    waiting[2 * v + r] = (start * RADIX as usize + inputs) as u64;
 }
 
 // Where registration r's lists start in the pool.
-pub fn list_start(w: &[u64], v: usize, r: usize) -> usize
-    requires { ⌜ (r < v) × (waiting-needed v ≤ length (now w)) ⌝ }
-    ensures { λ s. ⌜ s ≡ start-of (now (w .entry)) v r ⌝ }
+pub fn list_start(waiting: &[u64], v: usize, r: usize) -> usize
+    requires { ⌜ (r < v) × (waiting-needed v ≤ length (now waiting)) ⌝ }
+    ensures { λ s. ⌜ s ≡ start-of (now (waiting .entry)) v r ⌝ }
 {
-    (w[2 * v + r] / RADIX) as usize
+    (waiting[2 * v + r] / RADIX) as usize
 }
 
 // How many inputs registration r has.
-pub fn list_inputs(w: &[u64], v: usize, r: usize) -> usize
-    requires { ⌜ (r < v) × (waiting-needed v ≤ length (now w)) ⌝ }
-    ensures { λ n. ⌜ n ≡ inputs-of (now (w .entry)) v r ⌝ }
+pub fn list_inputs(waiting: &[u64], v: usize, r: usize) -> usize
+    requires { ⌜ (r < v) × (waiting-needed v ≤ length (now waiting)) ⌝ }
+    ensures { λ n. ⌜ n ≡ inputs-of (now (waiting .entry)) v r ⌝ }
 {
-    (w[2 * v + r] % RADIX) as usize
+    (waiting[2 * v + r] % RADIX) as usize
 }
 
 // Where the lists of registration r, of n in all, end in the pool, of which `used` numbers are used.
-pub fn list_end(w: &[u64], v: usize, r: usize, n: usize, used: usize) -> usize
-    requires { ⌜ (r < n) × (n ≤ v) × (waiting-needed v ≤ length (now w)) ⌝ }
-    ensures { λ e. ⌜ e ≡ end-of (now (w .entry)) v r n used ⌝ }
+pub fn list_end(waiting: &[u64], v: usize, r: usize, n: usize, used: usize) -> usize
+    requires { ⌜ (r < n) × (n ≤ v) × (waiting-needed v ≤ length (now waiting)) ⌝ }
+    ensures { λ e. ⌜ e ≡ end-of (now (waiting .entry)) v r n used ⌝ }
 {
     if r + 1 < n {
-        return list_start(w, v, r + 1);
+        return list_start(waiting, v, r + 1);
     }
     used
 }

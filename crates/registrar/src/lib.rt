@@ -11,84 +11,84 @@ ghost use Rattle.registrar.specs.Reading.{head-at, link-at, with-head, w
 ghost use Rattle.registrar.specs.Delayed.{Chained, Joins, Stacks, Turns, Splices, Oldest, Advancing, AdvancesSet, AdvancesPlaced};
 
 // Nothing waits under any place.
-pub fn clear(w: &mut [u64], v: usize)
-    requires { ⌜ waiting-needed v ≤ length (now w) ⌝ }
-    ensures { λ _. ⌜ Cleared 0 v (now (w .entry)) (now (w .exit)) ⌝ }
+pub fn clear(waiting: &mut [u64], v: usize)
+    requires { ⌜ waiting-needed v ≤ length (now waiting) ⌝ }
+    ensures { λ _. ⌜ Cleared 0 v (now (waiting .entry)) (now (waiting .exit)) ⌝ }
 {
-    zeros::clear64(w, 0, v);
+    zeros::clear64(waiting, 0, v);
 }
 
 // Place p's head link.
-fn head(w: &[u64], p: usize) -> u64
-    requires { ⌜ p < length (now w) ⌝ }
-    ensures { λ h. ⌜ h ≡ head-at (now (w .entry)) p ⌝ }
+fn head(waiting: &[u64], p: usize) -> u64
+    requires { ⌜ p < length (now waiting) ⌝ }
+    ensures { λ h. ⌜ h ≡ head-at (now (waiting .entry)) p ⌝ }
 {
-    w[p]
+    waiting[p]
 }
 
 // Stores place p's head link.
-fn set_head(w: &mut [u64], p: usize, to: u64)
-    requires { ⌜ p < length (now w) ⌝ }
-    ensures { λ _. ⌜ now (w .exit) ≡ with-head (now (w .entry)) p to ⌝ }
+fn set_head(waiting: &mut [u64], p: usize, to: u64)
+    requires { ⌜ p < length (now waiting) ⌝ }
+    ensures { λ _. ⌜ now (waiting .exit) ≡ with-head (now (waiting .entry)) p to ⌝ }
 {
-    w[p] = to;
+    waiting[p] = to;
 }
 
 // Registration r's link.
-fn link(w: &[u64], v: usize, r: usize) -> u64
-    requires { ⌜ (r < v) × (waiting-needed v ≤ length (now w)) ⌝ }
-    ensures { λ h. ⌜ h ≡ link-at (now (w .entry)) v r ⌝ }
+fn link(waiting: &[u64], v: usize, r: usize) -> u64
+    requires { ⌜ (r < v) × (waiting-needed v ≤ length (now waiting)) ⌝ }
+    ensures { λ h. ⌜ h ≡ link-at (now (waiting .entry)) v r ⌝ }
 {
-    w[v + r]
+    waiting[v + r]
 }
 
 // Stores registration r's link.
-fn set_link(w: &mut [u64], v: usize, r: usize, to: u64)
-    requires { ⌜ (r < v) × (waiting-needed v ≤ length (now w)) ⌝ }
-    ensures { λ _. ⌜ now (w .exit) ≡ with-link (now (w .entry)) v r to ⌝ }
+fn set_link(waiting: &mut [u64], v: usize, r: usize, to: u64)
+    requires { ⌜ (r < v) × (waiting-needed v ≤ length (now waiting)) ⌝ }
+    ensures { λ _. ⌜ now (waiting .exit) ≡ with-link (now (waiting .entry)) v r to ⌝ }
 {
-    w[v + r] = to;
+    waiting[v + r] = to;
 }
 
 // Registration r joins those that wait under place p.
-pub fn delay(w: &mut [u64], v: usize, p: usize, r: usize)
-    requires { ⌜ (p < v) × (r < v) × (waiting-needed v ≤ length (now w)) ⌝ }
-    ensures { λ _. ⌜ Joins (now (w .entry)) v p r (now (w .exit)) ⌝ }
+pub fn delay(waiting: &mut [u64], v: usize, p: usize, r: usize)
+    requires { ⌜ (p < v) × (r < v) × (waiting-needed v ≤ length (now waiting)) ⌝ }
+    ensures { λ _. ⌜ Joins (now (waiting .entry)) v p r (now (waiting .exit)) ⌝ }
 {
-    let newest = head(w, p);
-    set_link(w, v, r, newest);
-    set_head(w, p, (r + 1) as u64);
+    let newest = head(waiting, p);
+    set_link(waiting, v, r, newest);
+    set_head(waiting, p, (r + 1) as u64);
 }
 
 // Registration r is put on the stack whose top link is `top`; the new top link.
-pub fn stack(w: &mut [u64], v: usize, r: usize, top: u64) -> u64
-    requires { ⌜ (r < v) × (waiting-needed v ≤ length (now w)) ⌝ }
-    ensures { λ t. ⌜ Stacks (now (w .entry)) v r top t (now (w .exit)) ⌝ }
+pub fn stack(waiting: &mut [u64], v: usize, r: usize, top: u64) -> u64
+    requires { ⌜ (r < v) × (waiting-needed v ≤ length (now waiting)) ⌝ }
+    ensures { λ t. ⌜ Stacks (now (waiting .entry)) v r top t (now (waiting .exit)) ⌝ }
 {
-    set_link(w, v, r, top);
+    set_link(waiting, v, r, top);
     (r + 1) as u64
 }
 
 // The link under registration r: the stack's top link once r is taken off it.
-pub fn next(w: &[u64], v: usize, r: usize) -> u64
-    requires { ⌜ (r < v) × (waiting-needed v ≤ length (now w)) ⌝ }
-    ensures { λ t. ⌜ t ≡ link-at (now (w .entry)) v r ⌝ }
+pub fn next(waiting: &[u64], v: usize, r: usize) -> u64
+    requires { ⌜ (r < v) × (waiting-needed v ≤ length (now waiting)) ⌝ }
+    ensures { λ t. ⌜ t ≡ link-at (now (waiting .entry)) v r ⌝ }
 {
-    link(w, v, r)
+    link(waiting, v, r)
 }
 
 // Turns the chain at link `from` round onto the stack whose top link is `onto`; the new top link. Registrations descend along a chain,
 // so the loop ends.
-fn turn_onto(w: &mut [u64], v: usize, from: u64, onto: u64) -> u64
-    requires { ⌜ Chained (now w) v from ⌝ }
-    ensures { λ r. ⌜ Turns (now (w .entry)) v from onto r (now (w .exit)) ⌝ }
+fn turn_onto(waiting: &mut [u64], v: usize, from: u64, onto: u64) -> u64
+    requires { ⌜ Chained (now waiting) v from ⌝ }
+    ensures { λ r. ⌜ Turns (now (waiting .entry)) v from onto r (now (waiting .exit)) ⌝ }
 {
     let mut h = from;
     let mut top = onto;
     while h != 0 {
         let r = (h - 1) as usize;
-        let next = link(w, v, r);
-        set_link(w, v, r, top);
+        let next = link(waiting, v, r);
+        set_link(waiting, v, r, top);
         top = h;
         h = next;
     }
@@ -97,58 +97,58 @@ fn turn_onto(w: &mut [u64], v: usize, from: u64, onto: u64) -> u64
 
 // Takes the chains of the places from lo to hi off, onto an empty stack, so that the lowest place's oldest is on top: the order after a
 // set. The places are walked downward.
-pub fn advance_set(w: &mut [u64], v: usize, lo: usize, hi: usize) -> u64
-    requires { ⌜ Advancing (now w) v lo hi 0 ⌝ }
-    ensures { λ r. ⌜ AdvancesSet (now (w .entry)) v lo hi r (now (w .exit)) ⌝ }
+pub fn advance_set(waiting: &mut [u64], v: usize, lo: usize, hi: usize) -> u64
+    requires { ⌜ Advancing (now waiting) v lo hi 0 ⌝ }
+    ensures { λ r. ⌜ AdvancesSet (now (waiting .entry)) v lo hi r (now (waiting .exit)) ⌝ }
 {
     let mut p = hi;
     let mut top: u64 = 0;
     while p > lo {
         p -= 1;
-        let newest = head(w, p);
-        top = turn_onto(w, v, newest, top);
+        let newest = head(waiting, p);
+        top = turn_onto(waiting, v, newest, top);
     }
     top
 }
 
 // The oldest registration of the chain at link `from`, which is not empty.
-fn oldest(w: &[u64], v: usize, from: u64) -> usize
-    requires { ⌜ (Chained (now w) v from) × (0 < from) ⌝ }
-    ensures { λ r. ⌜ Oldest (now (w .entry)) v from r ⌝ }
+fn oldest(waiting: &[u64], v: usize, from: u64) -> usize
+    requires { ⌜ (Chained (now waiting) v from) × (0 < from) ⌝ }
+    ensures { λ r. ⌜ Oldest (now (waiting .entry)) v from r ⌝ }
 {
     let mut r = (from - 1) as usize;
-    let mut next = link(w, v, r);
+    let mut next = link(waiting, v, r);
     while next != 0 {
         r = (next - 1) as usize;
-        next = link(w, v, r);
+        next = link(waiting, v, r);
     }
     r
 }
 
 // Puts the chain at link `from` as it is on the stack whose top link is `onto`; the new top link.
-fn splice(w: &mut [u64], v: usize, from: u64, onto: u64) -> u64
-    requires { ⌜ Chained (now w) v from ⌝ }
-    ensures { λ r. ⌜ Splices (now (w .entry)) v from onto r (now (w .exit)) ⌝ }
+fn splice(waiting: &mut [u64], v: usize, from: u64, onto: u64) -> u64
+    requires { ⌜ Chained (now waiting) v from ⌝ }
+    ensures { λ r. ⌜ Splices (now (waiting .entry)) v from onto r (now (waiting .exit)) ⌝ }
 {
     if from == 0 {
         return onto;
     }
-    let last = oldest(w, v, from);
-    set_link(w, v, last, onto);
+    let last = oldest(waiting, v, from);
+    set_link(waiting, v, last, onto);
     from
 }
 
 // Takes the chains of the places from lo to hi off, onto the stack whose top link is `top`, so that the highest place's newest is on top:
 // the order after a placing. The places are walked upward.
-pub fn advance_placed(w: &mut [u64], v: usize, lo: usize, hi: usize, top: u64) -> u64
-    requires { ⌜ Advancing (now w) v lo hi top ⌝ }
-    ensures { λ r. ⌜ AdvancesPlaced (now (w .entry)) v lo hi top r (now (w .exit)) ⌝ }
+pub fn advance_placed(waiting: &mut [u64], v: usize, lo: usize, hi: usize, top: u64) -> u64
+    requires { ⌜ Advancing (now waiting) v lo hi top ⌝ }
+    ensures { λ r. ⌜ AdvancesPlaced (now (waiting .entry)) v lo hi top r (now (waiting .exit)) ⌝ }
 {
     let mut p = lo;
     let mut t = top;
     while p < hi {
-        let newest = head(w, p);
-        t = splice(w, v, newest, t);
+        let newest = head(waiting, p);
+        t = splice(waiting, v, newest, t);
         p += 1;
     }
     t

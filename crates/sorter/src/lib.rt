@@ -1,7 +1,7 @@
 // The calls of a session over the storage that its caller provides: set, add, flush and final. Each works out its number first, from
-// session and storage, and changes nothing where that is not 0. The storage goes along in eight slices: spans and order with 4 numbers
-// an entry, tally, rows of 5 numbers, marks and locations of places, the waiting storage, and the pool of lists. Flush and final touch the
-// first four only and take all eight: a caller makes every call on one storage, and each promises that all of it stands for the model.
+// session and storage, and changes nothing where that is not 0. The storage goes along in eight slices: spans and order of entries, the
+// tally, rows, marks and locations of places, the waiting storage, and the pool of lists. Flush and final touch the first four only and
+// take all eight: a caller makes every call on one storage, and each promises that all of it stands for the model.
 ghost use mathlib.Core.Path.{_≡_};
 ghost use mathlib.Core.List.{[]};
 ghost use Prim.Native.Nat.{_+_};

@@ -9,10 +9,10 @@ ghost use Rattle.waiting.specs.Cleared.{Emptied};
 pub const SIZE: usize = 4;
 
 // Nothing waits and no place is taken.
-pub fn clear(w: &mut [u64], v: usize)
-    requires { ⌜ waiting-needed v ≤ length (now w) ⌝ }
-    ensures { λ _. ⌜ Emptied v (now (w .entry)) (now (w .exit)) ⌝ }
+pub fn clear(waiting: &mut [u64], v: usize)
+    requires { ⌜ waiting-needed v ≤ length (now waiting) ⌝ }
+    ensures { λ _. ⌜ Emptied v (now (waiting .entry)) (now (waiting .exit)) ⌝ }
 {
-    registrar::clear(w, v);
-    taken::clear(w, v);
+    registrar::clear(waiting, v);
+    taken::clear(waiting, v);
 }

@@ -13,11 +13,11 @@ abbrev μ-loop : tie.MeasureT-loop
 loop-holds : tie.Need-loop-holds Inv-loop μ-loop
 loop-holds c = search needs
 
-mul-show-line : tie.Need-mul-show-line Inv-loop μ-loop
-mul-show-line c = search needs
+mul-show-answer : tie.Need-mul-show-answer Inv-loop μ-loop
+mul-show-answer c = search needs
 
-show-line-requires : tie.Need-show-line-requires Inv-loop μ-loop
-show-line-requires c κs = search needs
+show-answer-requires : tie.Need-show-answer-requires Inv-loop μ-loop
+show-answer-requires c κs = search needs
 
 add-k : tie.Need-add-k Inv-loop μ-loop
 add-k c = search needs
@@ -38,8 +38,8 @@ show-answers-spec =
     Inv-loop
     μ-loop
     loop-holds
-    mul-show-line
-    show-line-requires
+    mul-show-answer
+    show-answer-requires
     add-k
     loop-less
     loop-again

@@ -1,6 +1,9 @@
--- `guide_vectors::show_order` is safe and ends: one line a turn. Assumes nothing.
-use Prim.Native.Nat.{_-_, _≤_}
+-- `guide_vectors::show_order` is safe and ends: one line a turn, of an entry for which there is room. Assumes nothing.
+use Prim.Native.Nat.{_+_, _-_, _≤_}
+use native.Mathlib.Omega.{arith}
+use denote.Ref.{now}
 use borrow.Author.Needs.{needs}
+use Rattle.entries.specs.Stored.{capacity-fits}
 use Rattle.guide_vectors.proofs.show_order.Statement.{statement}
 use Rattle.guide_vectors.proofs.show_order.Tie as tie
 
@@ -13,8 +16,14 @@ abbrev μ-loop : tie.MeasureT-loop
 loop-holds : tie.Need-loop-holds Inv-loop μ-loop
 loop-holds c = search needs
 
-mul-show-line : tie.Need-mul-show-line Inv-loop μ-loop
-mul-show-line c = search needs
+capacity-requires : tie.Need-capacity-requires Inv-loop μ-loop
+capacity-requires c κs = search needs
+
+load-requires : tie.Need-load-requires Inv-loop μ-loop
+load-requires c κs =
+    let room = c .before in
+    let loop = room .before .before in
+    omega (arith, capacity-fits (now (loop .before .before .args .order)) (loop .loop .k + 1) (omega (arith, room .capacity .ensures)))
 
 show-line-requires : tie.Need-show-line-requires Inv-loop μ-loop
 show-line-requires c κs = search needs
@@ -38,7 +47,8 @@ show-order-spec =
     Inv-loop
     μ-loop
     loop-holds
-    mul-show-line
+    capacity-requires
+    load-requires
     show-line-requires
     add-k
     loop-less

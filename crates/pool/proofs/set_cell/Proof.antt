@@ -4,23 +4,23 @@ use Rattle.pool.specs.Lists.{cell, with-cell}
 use Rattle.pool.proofs.set_cell.Statement.{statement}
 use Rattle.pool.proofs.set_cell.Tie as tie
 
-mul-w : tie.Need-mul-w
-mul-w c = search needs
+mul-waiting : tie.Need-mul-waiting
+mul-waiting c = search needs
 
-add-w : tie.Need-add-w
-add-w c = search needs
+add-waiting : tie.Need-add-waiting
+add-waiting c = search needs
 
-mul-w-2 : tie.Need-mul-w-2
-mul-w-2 c = search needs
+mul-waiting-2 : tie.Need-mul-waiting-2
+mul-waiting-2 c = search needs
 
-add-w-2 : tie.Need-add-w-2
-add-w-2 c = search needs
+add-waiting-2 : tie.Need-add-waiting-2
+add-waiting-2 c = search needs
 
-mul-w-3 : tie.Need-mul-w-3
-mul-w-3 c = search needs
+mul-waiting-3 : tie.Need-mul-waiting-3
+mul-waiting-3 c = search needs
 
-slice-write-w : tie.Need-slice-write-w
-slice-write-w c = search needs
+slice-write-waiting : tie.Need-slice-write-waiting
+slice-write-waiting c = search needs
 
 same-length : tie.Need-same-length
 same-length c = search needs
@@ -31,4 +31,4 @@ returns c = search needs
 
 pub set-cell-spec : {M : Type 1} → statement M
 set-cell-spec =
-    tie.close (tie.spec mul-w add-w mul-w-2 add-w-2 mul-w-3 slice-write-w same-length returns)
+    tie.close (tie.spec mul-waiting add-waiting mul-waiting-2 add-waiting-2 mul-waiting-3 slice-write-waiting same-length returns)

@@ -25,7 +25,7 @@ abbrev turn : tie.After-head Inv-loop μ-loop → tie.In-loop Inv-loop μ-loop
 turn c = c .before .before
 
 loop-holds : tie.Need-loop-holds Inv-loop μ-loop
-loop-holds c = let a = c .before .args in (omega arith, c .before .pre .order, refl, placing-start (now (a .w)) (a .v) (a .lo) (a .top))
+loop-holds c = let a = c .before .args in (omega arith, c .before .pre .order, refl, placing-start (now (a .waiting)) (a .v) (a .lo) (a .top))
 
 head-requires : tie.Need-head-requires Inv-loop μ-loop
 head-requires c κs =

@@ -36,14 +36,14 @@ chains c = λ q. newest q (start (c .before) .pre .ps)
 going : (c : tie.In-loop Inv-loop μ-loop)
     → let a = start (c .before) .args in
     let l = c .before .loop in
-    Going (now (a .w)) (a .v) (a .lo) (a .hi) 0 (chains c) (l .w) (l .p) (l .top)
+    Going (now (a .waiting)) (a .v) (a .lo) (a .hi) 0 (chains c) (l .waiting) (l .p) (l .top)
 unfolding chains
 going c =
     let s = start (c .before) in
     let a = s .args in
-    c .before .loop .inv .2 (chains c) (advancing-places (now (a .w)) (a .v) (a .lo) (a .hi) 0 (s .pre))
+    c .before .loop .inv .2 (chains c) (advancing-places (now (a .waiting)) (a .v) (a .lo) (a .hi) 0 (s .pre))
 
-inside : (c : tie.In-loop Inv-loop μ-loop) → (c .before .loop .p ≤ start (c .before) .args .v) × (waiting-needed (start (c .before) .args .v) ≤ length (c .before .loop .w))
+inside : (c : tie.In-loop Inv-loop μ-loop) → (c .before .loop .p ≤ start (c .before) .args .v) × (waiting-needed (start (c .before) .args .v) ≤ length (c .before .loop .waiting))
 inside c = (going-in _ _ _ _ _ _ _ _ _ (going c) (c .loop-test .taken), going-long _ _ _ _ _ _ _ _ _ (going c) (c .loop-test .taken))
 
 loop-holds : tie.Need-loop-holds Inv-loop μ-loop
@@ -85,7 +85,7 @@ returns : tie.Need-returns Inv-loop μ-loop
 returns c =
     let s = start (c .before) in
     let a = s .args in
-    set-advances (now (a .w)) (a .v) (a .lo) (a .hi) (s .pre) _ _ (λ ch p. going-end _ _ _ _ _ ch _ _ _ (c .before .loop .inv .2 ch p) (c .loop-test .left))
+    set-advances (now (a .waiting)) (a .v) (a .lo) (a .hi) (s .pre) _ _ (λ ch p. going-end _ _ _ _ _ ch _ _ _ (c .before .loop .inv .2 ch p) (c .loop-test .left))
 
 pub advance-set-spec : {M : Type 1} → statement M
 advance-set-spec =

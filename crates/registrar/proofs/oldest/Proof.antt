@@ -18,13 +18,13 @@ sub-r c = search needs
 link-requires : tie.Need-link-requires Inv-loop μ-loop
 link-requires c κs =
     let a = c .before .args in
-    let s = seek-start (now (a .w)) (a .v) (a .from) (c .before .pre .0) (c .before .pre .1) in
+    let s = seek-start (now (a .waiting)) (a .v) (a .from) (c .before .pre .0) (c .before .pre .1) in
     (s .low, s .long)
 
 loop-holds : tie.Need-loop-holds Inv-loop μ-loop
 loop-holds c =
     let s = c .before .before in
-    rw (c .link .ensures) (seek-start (now (s .args .w)) (s .args .v) (s .args .from) (s .pre .0) (s .pre .1))
+    rw (c .link .ensures) (seek-start (now (s .args .waiting)) (s .args .v) (s .args .from) (s .pre .0) (s .pre .1))
 
 sub-r-2 : tie.Need-sub-r-2 Inv-loop μ-loop
 sub-r-2 c = omega arith

@@ -12,13 +12,13 @@ use Rattle.registrar.proofs.splice.Tie as tie
 abbrev start : tie.After-oldest → tie.Start
 start c = c .before .before .before .before
 
-below : (c : tie.After-oldest) → (c .oldest .result < start c .args .v) × (waiting-needed (start c .args .v) ≤ length (now (start c .args .w)))
+below : (c : tie.After-oldest) → (c .oldest .result < start c .args .v) × (waiting-needed (start c .args .v) ≤ length (now (start c .args .waiting)))
 below c =
     let s = start c in
-    (oldest-below (now (s .args .w)) (s .args .v) (s .args .from) (c .oldest .result) (s .pre) (c .before .before .if1 .left) (c .oldest .ensures), s .pre .long)
+    (oldest-below (now (s .args .waiting)) (s .args .v) (s .args .from) (c .oldest .result) (s .pre) (c .before .before .if1 .left) (c .oldest .ensures), s .pre .long)
 
 returns : tie.Need-returns
-returns c = let a = c .before .before .args in splices-none (now (a .w)) (a .v) (a .from) (a .onto) (c .if1 .taken)
+returns c = let a = c .before .before .args in splices-none (now (a .waiting)) (a .v) (a .from) (a .onto) (c .if1 .taken)
 
 oldest-requires : tie.Need-oldest-requires
 oldest-requires c κs = search needs
@@ -34,7 +34,7 @@ returns-2 c =
     let s = c .before .before in
     let o = s .before .before in
     let a = start o .args in
-    rw (s .set-link .ensures) (splices-some (now (a .w)) (a .v) (a .from) (a .onto) (o .oldest .result) (o .before .before .if1 .left) (o .oldest .ensures))
+    rw (s .set-link .ensures) (splices-some (now (a .waiting)) (a .v) (a .from) (a .onto) (o .oldest .result) (o .before .before .if1 .left) (o .oldest .ensures))
 
 pub splice-spec : {M : Type 1} → statement M
 splice-spec =

@@ -19,7 +19,7 @@ returns : tie.Need-returns
 returns c =
     let s = c .before .before in
     let a = s .before .before .before .args in
-    rw (s .set-link .ensures) (stacks (now (a .w)) (a .v) (a .r) (a .top) (omega arith))
+    rw (s .set-link .ensures) (stacks (now (a .waiting)) (a .v) (a .r) (a .top) (omega arith))
 
 pub stack-spec : {M : Type 1} → statement M
 stack-spec = tie.close (tie.spec set-link-requires add-result same-length returns)

@@ -22,7 +22,7 @@ abbrev read : tie.After-slice-known2 Inv-loop μ-loop → tie.After-link Inv-loo
 read c = c .before .before .before .before
 
 -- in a turn: the link is that of a registration, and its link is in the storage
-bound : (c : tie.In-loop Inv-loop μ-loop) → (c .before .loop .h - 1 < c .before .before .before .args .v) × (waiting-needed (c .before .before .before .args .v) ≤ length (c .before .loop .w))
+bound : (c : tie.In-loop Inv-loop μ-loop) → (c .before .loop .h - 1 < c .before .before .before .args .v) × (waiting-needed (c .before .before .before .args .v) ≤ length (c .before .loop .waiting))
 bound c = (omega (arith, turn-at _ _ _ _ _ _ _ (c .before .loop .inv .0)), c .before .loop .inv .0 .long)
 
 loop-holds : tie.Need-loop-holds Inv-loop μ-loop

@@ -44,7 +44,7 @@ returns c =
     let l = turn (c .before) in
     let a = start (l .before) .args in
     sym (l .before .loop .inv .1
-    ∙ any-found (taken-at (now (a .w)) (a .v)) (now (a .outs)) (l .before .loop .i) (l .loop-test .taken) (sym (c .before .is-taken .ensures) ∙ c .if1 .taken))
+    ∙ any-found (taken-at (now (a .waiting)) (a .v)) (now (a .outs)) (l .before .loop .i) (l .loop-test .taken) (sym (c .before .is-taken .ensures) ∙ c .if1 .taken))
 
 add-i : tie.Need-add-i Inv-loop μ-loop
 add-i c = search needs
@@ -58,13 +58,13 @@ loop-again c =
     let a = start (l .before) .args in (
       omega arith,
       l .before .loop .inv .1
-          ∙ any-next (taken-at (now (a .w)) (a .v)) (now (a .outs)) (l .before .loop .i) (l .loop-test .taken) (sym (c .before .is-taken .ensures) ∙ c .if1 .left),
+          ∙ any-next (taken-at (now (a .waiting)) (a .v)) (now (a .outs)) (l .before .loop .i) (l .loop-test .taken) (sym (c .before .is-taken .ensures) ∙ c .if1 .left),
     )
 
 returns-2 : tie.Need-returns-2 Inv-loop μ-loop
 returns-2 c =
     let a = start (c .before) .args in
-    sym (c .before .loop .inv .1 ∙ any-none (taken-at (now (a .w)) (a .v)) (now (a .outs)) (c .before .loop .i) (c .loop-test .left))
+    sym (c .before .loop .inv .1 ∙ any-none (taken-at (now (a .waiting)) (a .v)) (now (a .outs)) (c .before .loop .i) (c .loop-test .left))
 
 pub any-taken-spec : {M : Type 1} → statement M
 any-taken-spec =

@@ -33,11 +33,11 @@ abbrev found : tie.After-set-flag Inv-loop μ-loop → tie.After-flag Inv-loop �
 found c = c .before .before .before
 
 inside : (c : tie.In-loop Inv-loop μ-loop)
-    → (getD (now (start (c .before) .args .outs)) (c .before .loop .i) 0 < start (c .before) .args .v) × (waiting-needed (start (c .before) .args .v) ≤ length (c .before .loop .w))
+    → (getD (now (start (c .before) .args .outs)) (c .before .loop .i) 0 < start (c .before) .args .v) × (waiting-needed (start (c .before) .args .v) ≤ length (c .before .loop .waiting))
 inside c = claim-in (start (c .before) .pre) (c .before .loop .inv) (c .loop-test .taken)
 
 loop-holds : tie.Need-loop-holds Inv-loop μ-loop
-loop-holds c = let a = c .before .before .args in claim-start (now (a .w)) (a .v) (now (a .outs))
+loop-holds c = let a = c .before .before .args in claim-start (now (a .waiting)) (a .v) (now (a .outs))
 
 mul-x : tie.Need-mul-x Inv-loop μ-loop
 mul-x c = search needs
@@ -51,7 +51,7 @@ flag-requires c κs = inside (c .before .before)
 unclaim-requires : tie.Need-unclaim-requires Inv-loop μ-loop
 unclaim-requires c κs =
     let l = turn (c .before .before) .before in
-    record { before = now (start l .args .w); flagged = start l .pre; claiming = l .loop .inv }
+    record { before = now (start l .args .waiting); flagged = start l .pre; claiming = l .loop .inv }
 
 same-length : tie.Need-same-length Inv-loop μ-loop
 same-length c = let u = c .before .before in u .unclaim .kept .1 .0 ∙ claim-length (turn (met u) .before .loop .inv)
@@ -61,9 +61,9 @@ returns c =
     let u = c .before .before in
     let l = turn (met u) in
     let p = start (l .before) .pre in
-    let f : flag-at (l .before .loop .w) (start (l .before) .args .v) (getD (now (start (l .before) .args .outs)) (l .before .loop .i) 0) ≡ 0 → ⊥ =
+    let f : flag-at (l .before .loop .waiting) (start (l .before) .args .v) (getD (now (start (l .before) .args .outs)) (l .before .loop .i) 0) ≡ 0 → ⊥ =
     λ z. u .before .before .if1 .taken (met u .flag .ensures ∙ z) in
-    claim-refused (claim-met p (l .before .loop .inv) (l .loop-test .taken) f) (u .unclaim .ensures .back (now (start (l .before) .args .w)) p (l .before .loop .inv))
+    claim-refused (claim-met p (l .before .loop .inv) (l .loop-test .taken) f) (u .unclaim .ensures .back (now (start (l .before) .args .waiting)) p (l .before .loop .inv))
 
 set-flag-requires : tie.Need-set-flag-requires Inv-loop μ-loop
 set-flag-requires c κs = inside (turn (c .before .before))

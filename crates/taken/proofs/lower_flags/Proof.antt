@@ -32,8 +32,8 @@ read c = c .before .before
 inside : (c : tie.In-loop Inv-loop μ-loop)
     → (c .before .loop .i - 1 < length (now (start (c .before) .args .outs)))
     × (getD (now (start (c .before) .args .outs)) (c .before .loop .i - 1) 0 < start (c .before) .args .v)
-    × (waiting-needed (start (c .before) .args .v) ≤ length (c .before .loop .w))
-    × (2 ≤ flag-at (c .before .loop .w) (start (c .before) .args .v) (getD (now (start (c .before) .args .outs)) (c .before .loop .i - 1) 0))
+    × (waiting-needed (start (c .before) .args .v) ≤ length (c .before .loop .waiting))
+    × (2 ≤ flag-at (c .before .loop .waiting) (start (c .before) .args .v) (getD (now (start (c .before) .args .outs)) (c .before .loop .i - 1) 0))
 inside c =
     let p = start (c .before) .pre in
     lower-in (p .flagged) (c .before .loop .inv .1 (p .before) (p .flagged) (p .raises)) (c .loop-test .taken)

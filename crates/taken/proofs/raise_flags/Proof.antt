@@ -26,11 +26,11 @@ abbrev read : tie.After-set-flag Inv-loop μ-loop → tie.After-flag Inv-loop μ
 read c = c .before .before .before
 
 inside : (c : tie.In-loop Inv-loop μ-loop)
-    → (getD (now (start (c .before) .args .outs)) (c .before .loop .i) 0 < start (c .before) .args .v) × (waiting-needed (start (c .before) .args .v) ≤ length (c .before .loop .w))
+    → (getD (now (start (c .before) .args .outs)) (c .before .loop .i) 0 < start (c .before) .args .v) × (waiting-needed (start (c .before) .args .v) ≤ length (c .before .loop .waiting))
 inside c = raise-in (start (c .before) .pre) (c .before .loop .inv) (c .loop-test .taken)
 
 loop-holds : tie.Need-loop-holds Inv-loop μ-loop
-loop-holds c = let a = c .before .before .args in raise-start (now (a .w)) (a .v) (now (a .outs))
+loop-holds c = let a = c .before .before .args in raise-start (now (a .waiting)) (a .v) (now (a .outs))
 
 mul-x : tie.Need-mul-x Inv-loop μ-loop
 mul-x c = search needs

@@ -23,7 +23,7 @@ raise-flags-requires c κs = search needs
 lower-flags-requires : tie.Need-lower-flags-requires
 lower-flags-requires c κs =
     let r = raising c in
-    record { before = now (start r .args .w); flagged = start r .pre; raises = r .raise-flags .ensures }
+    record { before = now (start r .args .waiting); flagged = start r .pre; raises = r .raise-flags .ensures }
 
 same-length : tie.Need-same-length
 same-length c = search needs
@@ -32,7 +32,7 @@ returns-2 : tie.Need-returns-2
 returns-2 c =
     let l = c .before .before in
     let r = raising (l .before) in
-    record { answer = repeats-is (r .raise-flags .ensures); same = l .lower-flags .ensures .back (now (start r .args .w)) (start r .pre) (r .raise-flags .ensures) }
+    record { answer = repeats-is (r .raise-flags .ensures); same = l .lower-flags .ensures .back (now (start r .args .waiting)) (start r .pre) (r .raise-flags .ensures) }
 
 pub repeats-spec : {M : Type 1} → statement M
 repeats-spec =

@@ -4,17 +4,17 @@ use Rattle.taken.specs.Flag.{with-flag}
 use Rattle.taken.proofs.set_flag.Statement.{statement}
 use Rattle.taken.proofs.set_flag.Tie as tie
 
-mul-w : tie.Need-mul-w
-mul-w c = search needs
+mul-waiting : tie.Need-mul-waiting
+mul-waiting c = search needs
 
-add-w : tie.Need-add-w
-add-w c = search needs
+add-waiting : tie.Need-add-waiting
+add-waiting c = search needs
 
-mul-w-2 : tie.Need-mul-w-2
-mul-w-2 c = search needs
+mul-waiting-2 : tie.Need-mul-waiting-2
+mul-waiting-2 c = search needs
 
-slice-write-w : tie.Need-slice-write-w
-slice-write-w c = search needs
+slice-write-waiting : tie.Need-slice-write-waiting
+slice-write-waiting c = search needs
 
 same-length : tie.Need-same-length
 same-length c = search needs
@@ -24,4 +24,4 @@ unfolding with-flag
 returns c = search needs
 
 pub set-flag-spec : {M : Type 1} → statement M
-set-flag-spec = tie.close (tie.spec mul-w add-w mul-w-2 slice-write-w same-length returns)
+set-flag-spec = tie.close (tie.spec mul-waiting add-waiting mul-waiting-2 slice-write-waiting same-length returns)

@@ -28,7 +28,7 @@ turn c = c .before .before .before
 inside : (c : tie.In-loop Inv-loop μ-loop)
     → (c .before .loop .i - 1 < length (now (start (c .before) .args .outs)))
     × (getD (now (start (c .before) .args .outs)) (c .before .loop .i - 1) 0 < start (c .before) .args .v)
-    × (waiting-needed (start (c .before) .args .v) ≤ length (c .before .loop .w))
+    × (waiting-needed (start (c .before) .args .v) ≤ length (c .before .loop .waiting))
 inside c =
     let p = start (c .before) .pre in
     unclaim-in (p .flagged) (c .before .loop .inv .1 (p .before) (p .flagged) (p .claiming)) (c .loop-test .taken)
