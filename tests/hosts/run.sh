@@ -190,6 +190,12 @@ if command -v pkg-config >/dev/null; then
 else
   echo "hosts: no pkg-config: NOTHING is built from the installation"
 fi
+# The crate for Rust over the installed library, in a folder of its own.
+cp -r hosts/rust "$elsewhere/rust"
+ORDER_LIBS=$prefix/lib CARGO_TARGET_DIR=$elsewhere/cargo cargo build --offline --quiet --manifest-path "$elsewhere/rust/Cargo.toml" ||
+  fail "the crate for Rust does not link the installed library"
+diff crates/order/stdout <("$elsewhere/cargo/debug/order-large" crates/order/stdin) || fail "order-large over the installed library"
+echo "hosts: the crate for Rust over the installed library: J1"
 exported=$(nm -D --defined-only "$prefix/lib/liborder.so" | awk '$2 == "T" {print $3}' | sort | paste -sd' ')
 wanted=$(sed -n 's/^pub extern "C" fn \([a-z_]*\).*/\1/p' crates/*/src/lib.rt | sort | paste -sd' ')
 [ "$exported" = "$wanted" ] || fail "liborder.so exports '$exported', not '$wanted'"
