@@ -1,13 +1,17 @@
 //! Host code, not proved: finds the proved archives, or has them built, and links them.
 //!
-//! They are looked for in the folder that ORDER_LIBS names (an absolute path), else in target/staticlib
-//! of the repository, where `tools/archives` builds those that are missing or older than a crate.
+//! They are looked for in the folder that ORDER_LIBS names (an absolute path): each crate's archive, or
+//! liborder.a, which has all calls, as tools/install puts it into PREFIX/lib. Else they are those in
+//! target/staticlib of the repository, where `tools/archives` builds what is missing or older than a
+//! crate.
 
 use std::path::{Path, PathBuf};
 use std::process::{exit, Command, Output};
 
 /// Each crate with an exported call. An archive has that one symbol, so that all go into one program.
 const CRATES: [&str; 5] = ["host", "replay", "alone_replay", "order_entries", "summary"];
+/// The library of an installation, with the calls of all of them.
+const INSTALLED: [&str; 1] = ["order"];
 
 fn main() {
     let root = Path::new(&variable("CARGO_MANIFEST_DIR")).join("../..");
@@ -19,17 +23,19 @@ fn main() {
         Some(named) => named,
         None => built(&root),
     };
-    let missing = missing(&folder);
-    if !missing.is_empty() {
-        fail(&format!(
-            "no {} in {}: build them by tools/archives, or name their folder in ORDER_LIBS",
-            missing.join(", "),
+    let absent = missing(&folder, &CRATES);
+    let libraries: &[&str] = match absent.is_empty() {
+        true => &CRATES,
+        false if missing(&folder, &INSTALLED).is_empty() => &INSTALLED,
+        false => fail(&format!(
+            "no {} in {}: build them by tools/archives, or name in ORDER_LIBS their folder, or PREFIX/lib of an installation",
+            absent.join(", "),
             folder.display()
-        ));
-    }
+        )),
+    };
     let folder = folder.canonicalize().unwrap_or(folder);
     println!("cargo:rustc-link-search=native={}", folder.display());
-    for name in CRATES {
+    for name in libraries {
         println!("cargo:rustc-link-lib=static={name}");
         println!(
             "cargo:rerun-if-changed={}",
@@ -52,9 +58,9 @@ fn archive(folder: &Path, name: &str) -> PathBuf {
     folder.join(format!("lib{name}.a"))
 }
 
-/// The names of the archives that are not in the folder.
-fn missing(folder: &Path) -> Vec<String> {
-    let absent = CRATES
+/// The file names of these libraries that are not in the folder.
+fn missing(folder: &Path, libraries: &[&str]) -> Vec<String> {
+    let absent = libraries
         .iter()
         .filter(|name| !archive(folder, name).is_file());
     absent.map(|name| format!("lib{name}.a")).collect()

@@ -1,6 +1,6 @@
 #!/bin/bash
 # Every job of examples/ gives the listing that is kept beside it, the generated ones are what their
-# commands write, and the answers in examples/README.md are those of the refused ones. Needs
+# commands write, and examples/README.md tells the answers of the refused ones, one for every number. Needs
 # target/bin/order, which the proofs' step builds.
 set -euo pipefail
 trap 'echo "$0: line $LINENO ended with $?" >&2' ERR
@@ -29,6 +29,11 @@ while IFS='|' read -r name status line; do
 done < <(sed -n 's/^| \[\([a-z-]*\)\](refused.*| status=\([0-9]*\), line=\([0-9]*\) |.*/\1|\2|\3/p' examples/README.md)
 [ "$told" -eq "$(ls examples/refused/*.job | wc -l)" ] || { echo "tests/examples: README leaves out a refused job" >&2; failed=1; }
 [ $failed = 0 ] || exit 1
+python3 .ci/transcripts.py examples/README.md
+
+# Of every number that a job can be refused with by `order` there is an example there.
+answers=$(sed -n 's/.*status=\([1-9][0-9]*\).*/\1/p' examples/README.md | sort -nu | paste -sd' ')
+[ "$answers" = "1 2 4 5 6 8 9 10 12 15 16" ] || { echo "tests/examples: README has examples of $answers" >&2; exit 1; }
 
 for words in 'poseidon' 'poseidon 0' 'tower 3' 'chain 4 --parallelism x' 'chain ³'; do
   status=0

@@ -191,6 +191,12 @@ if command -v pkg-config >/dev/null; then
 else
   echo "hosts: no pkg-config: NOTHING is built from the installation"
 fi
+# The crate for Rust over the installed library, in a folder of its own.
+cp -r hosts/rust "$elsewhere/rust"
+ORDER_LIBS=$prefix/lib CARGO_TARGET_DIR=$elsewhere/cargo cargo build --offline --quiet --manifest-path "$elsewhere/rust/Cargo.toml" ||
+  fail "the crate for Rust does not link the installed library"
+diff crates/order/stdout <("$elsewhere/cargo/debug/order-large" crates/order/stdin) || fail "order-large over the installed library"
+echo "hosts: the crate for Rust over the installed library: J1"
 exported=$(nm -D --defined-only "$prefix/lib/liborder.so" | awk '$2 == "T" {print $3}' | sort | paste -sd' ')
 wanted=$(sed -n 's/^pub extern "C" fn \([a-z_]*\).*/\1/p' crates/*/src/lib.rt | sort | paste -sd' ')
 [ "$exported" = "$wanted" ] || fail "liborder.so exports '$exported', not '$wanted'"
@@ -270,15 +276,20 @@ diff crates/order/stdout <("$command" crates/order/stdin) || fail "order-job FIL
 diff crates/order/stdout <("$command" --words <crates/order/stdin) || fail "order-job on standard input"
 printf '%s\n' parallelism=2 places=3 set=0 set=0 final=1 >"$work/refused.job"
 refuses 1 "4 | set=0" "$command" --words "$work/refused.job"
-refuses 1 "refused with 8 (taken_place) on line 4: a place to be set" "$command" --words "$work/refused.job"
+refuses 1 "order-job: line 4: refused with 8 (taken_place): a place to be set" "$command" --words "$work/refused.job"
 diff <(printf '%s\n' status=8 line=4) "$work/out" || fail "order-job prints something else for a refused job"
+refuses 1 "order-job: line 4: refused with 8" "$command" "$work/refused.job" --words
+refuses 1 "order-job: line 4: refused with 8" "$command" --words -- "$work/refused.job"
+refuses 2 "--words: there is no such file" "$command" -- --words
 refuses 1 "" "$command" "$work/refused.job"
 [ ! -s "$work/said" ] || fail "order-job without --words is not silent"
-refuses 1 "there is no such line" "$command" --words /dev/null
+refuses 1 "     1 | (the job ends before this line)" "$command" --words /dev/null
 refuses 2 "there is no such file" "$command" "$work/nothing"
 refuses 2 "is a directory" "$command" docs
 refuses 2 "unknown option --nothing" "$command" --nothing
 refuses 2 "one file at most" "$command" a b
+refuses 2 "one file at most" "$command" a --words b
+refuses 2 "unknown option --nothing" "$command" "$work/refused.job" --nothing
 refuses 2 "cannot be printed" bash -c "'$command' crates/order/stdin >/dev/full"
 refuses 2 "cannot be printed" bash -c "'$command' crates/order/stdin >&-"
 refuses 2 "cannot be read" bash -c "'$command' <&-"
@@ -297,6 +308,25 @@ diff -r examples "$prefix/share/order/examples" >"$work/examples" || true
 ! grep -v '^Only in .*_example\.c$\|^diff .*README\.md\|^[<>0-9-]' "$work/examples" || fail "the installed examples are others"
 diff crates/order/stdout <("$prefix/bin/order-large" crates/order/stdin) || fail "order-large as installed"
 [ "$("$prefix/bin/order-large" --version)" = "order-large $(cat VERSION)" ] || fail "order-large --version"
+# A refusal in words is the same by order-job and by order-large, but for the name: jobs that both refuse for the same.
+jobs=("$work/refused.job" /dev/null)
+for job in examples/refused/*.job; do
+  case $job in */too-many-places.job | */full-pool.job) ;; *) jobs+=("$job") ;; esac
+done
+head='parallelism=2\nplaces=6\n' long=$(seq -s, 100)
+for text in 'parallelism=2' '\n' 'parallelism=2\nplaces=x\n' 'parallelism=2\nplaces=0\n' "$head" "${head}in=1" "${head}in=1,\n" \
+  "${head}in=1\n" "${head}in=1\nin=2\n" "${head}in=1\nout=2" "${head}in=\nout=1,1\n" "${head}in=$long\nout=9\n" "${head}in=$long,\n" \
+  "${head}in=$long," "${head}set=$long\n" "${head}set=\t\e[2J\r\0\377\\\n" "${head}final=1\nfinal=1\n" "${head}final=1" "${head}\n"; do
+  printf "$text" >"$work/words.${#jobs[@]}.job"
+  jobs+=("$work/words.${#jobs[@]}.job")
+done
+for job in "${jobs[@]}"; do
+  refuses 1 "order-job: " "$command" --words "$job"
+  { cat "$work/out"; sed 's/^order-job: /order-large: /' "$work/said"; } >"$work/wanted"
+  refuses 1 "order-large: " "$prefix/bin/order-large" --words "$job"
+  cat "$work/out" "$work/said" | tests/same.sh - "$work/wanted" || fail "$job: other words by order-large than by order-job"
+done
+echo "hosts: ${#jobs[@]} refusals in words, the same by order-job and order-large"
 # The module for Python, as installed: J1 by the installed library.
 diff <(cat crates/order/stdout && echo "$prefix/lib/liborder.so") <(
   env -u ORDER_LIBS PYTHONDONTWRITEBYTECODE=1 PYTHONPATH="$prefix/share/order/python" python3 -c '

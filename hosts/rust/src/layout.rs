@@ -34,6 +34,10 @@ pub const WRITTEN: u16 = limits::MARK_WRITTEN as u16;
 /// The mark of a place that is set.
 pub const SET: u16 = limits::MARK_SET as u16;
 
+/// The most inputs of a registration, and the most outputs; a longer list is refused with 3, whatever
+/// stands in it.
+pub const MOST_LISTED: usize = 65_535;
+
 /// The greatest job and listing of `order_job`, in bytes.
 pub const JOB_BYTES: usize = limits::MOST_JOB_BYTES as usize;
 

@@ -63,9 +63,9 @@
 //!
 //! # Linking
 //!
-//! build.rs looks for the archives in the folder that ORDER_LIBS names (an absolute path), else in
-//! target/staticlib of the repository, where `tools/archives` builds those that are missing or older
-//! than a crate.
+//! build.rs looks for the archives in the folder that ORDER_LIBS names (an absolute path; that of an
+//! installation is PREFIX/lib), else in target/staticlib of the repository, where `tools/archives` builds
+//! those that are missing or older than a crate.
 
 #![warn(missing_debug_implementations)]
 

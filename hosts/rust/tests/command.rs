@@ -343,6 +343,37 @@ fn a_dry_run_says_the_memory_and_places_nothing() {
     assert!(status == 0 && text.starts_with("parallelism=1\n"), "{text}");
 }
 
+/// A line that does not end, or not soon, takes no more memory than another.
+#[cfg(target_os = "linux")]
+#[test]
+fn lines_without_an_end() {
+    let start = "parallelism=2\\nplaces=6\\n";
+    for (line, wanted) in [
+        (
+            "printf 'set='; tr '\\0' 1 </dev/zero",
+            "status=15\nline=3\n",
+        ),
+        ("tr '\\0' x </dev/zero", "status=15\nline=3\n"),
+        ("cat /dev/zero", "status=15\nline=3\n"),
+        (
+            "printf 'in=1,'; tr '\\0' , </dev/zero",
+            "status=15\nline=3\n",
+        ),
+        ("printf 'in='; tr '\\0' 1 </dev/zero", "status=15\nline=3\n"),
+        (
+            "printf 'in='; yes 1, | head -n 40000000 | tr -d '\\n'; printf '1\\nout=0\\n'",
+            "status=3\nline=4\n",
+        ),
+    ] {
+        let job = format!("{{ printf '{start}'; {line}; }} 2>/dev/null");
+        for words in ["", "--words"] {
+            let limited = "prlimit --as=60000000 \"$0\"";
+            let (status, printed, said) = shell(&format!("{job} | {limited} {words}"));
+            assert_eq!((status, printed.as_str()), (1, wanted), "{line}: {said}");
+        }
+    }
+}
+
 /// With less memory than a job needs it says so. `prlimit` is a part of util-linux.
 #[cfg(target_os = "linux")]
 #[test]

@@ -131,6 +131,43 @@ fn random_bytes() {
     compare_all("random bytes", only_jobs(made::random_bytes(seed, count)));
 }
 
+/// `large` reads the start of a line first, and the rest of a list after it: lines of every length around
+/// that.
+#[test]
+fn lines_of_every_length() {
+    let list = |bytes: usize| {
+        let zeros = vec!["0"; bytes / 2].join(",");
+        if bytes % 2 == 0 {
+            zeros.replacen('0', "10", 1)
+        } else {
+            zeros + ",0"
+        }
+    };
+    let sets: String = (0..11).map(|place| format!("set={place}\n")).collect();
+    let mut all = Vec::new();
+    for bytes in 90..160 {
+        for end in ["", ",", ",,", "x", " ", "0", "\0"] {
+            let places = list(bytes) + end;
+            for rest in [
+                format!("in={places}\nout=11\nfinal=1\n"),
+                format!("in=0\nout={places}\nfinal=1\n"),
+                format!("in={places}"),
+                format!("in={places}\nout={places}"),
+                format!("set={places}\nfinal=1\n"),
+                format!("set={}{end}\nfinal=1\n", "1".repeat(bytes)),
+                format!("{places}\nfinal=1\n"),
+                format!("final=1\n{places}\n"),
+            ] {
+                all.push((head(2, 12) + &sets + &rest).into_bytes());
+            }
+        }
+        all.push(format!("parallelism={}\n", "1".repeat(bytes)).into_bytes());
+        all.push(format!("parallelism=1\nplaces={}\n", "1".repeat(bytes)).into_bytes());
+    }
+    let seen = compare_all("lines of every length", all);
+    assert!([0, 6, 15].iter().all(|code| seen.contains_key(code)));
+}
+
 // ---- What only `large` runs
 
 fn status(job: &str, pool: Option<u64>) -> String {
@@ -192,10 +229,32 @@ fn the_pool_has_room_for_all_lists_unless_said() {
 #[test]
 fn lists_and_flushes_have_their_limits() {
     let list = |count: usize| vec!["0"; count].join(",");
-    for (count, wanted) in [(65_535, "status=0 entries=1"), (65_536, "status=3 line=5")] {
-        let job = head(2, 6) + &format!("set=0\nin={}\nout=1\nfinal=1\n", list(count));
-        assert_eq!(status(&job, None), wanted, "{count} inputs");
+    for (count, wanted) in [
+        (65_535, "status=0 entries=1"),
+        (65_536, "status=3 line=5"),
+        (300_000, "status=3 line=5"),
+    ] {
+        let list = list(count);
+        let job = |rest: &str| head(2, 6) + &format!("set=0\nin={list}{rest}");
+        assert_eq!(
+            status(&job("\nout=1\nfinal=1\n"), None),
+            wanted,
+            "{count} inputs"
+        );
+        assert_eq!(status(&job("\nfinal=1\n"), None), "status=15 line=5");
+        assert_eq!(
+            status(&job(",\nout=1\nfinal=1\n"), None),
+            "status=15 line=4"
+        );
+        // What stands in a list that is too long does not matter, and an earlier refusal comes first.
+        let flagged = job(",9223372036854775808\nout=1\nfinal=1\n");
+        let wanted = ["status=4 line=5", "status=3 line=5"][usize::from(count > 65_534)];
+        assert_eq!(status(&flagged, None), wanted);
+        let earlier = job("\nout=1\nfinal=1\n").replacen("set=0", "set=6", 1);
+        assert_eq!(status(&earlier, None), "status=5 line=3");
     }
+    let outputs = head(2, 6) + &format!("in=\nout={}\nfinal=1\n", list(300_000));
+    assert_eq!(status(&outputs, None), "status=3 line=4");
     let flushes = |count: usize| head(2, 6) + &"flush=1\n".repeat(count) + "final=1\n";
     assert_eq!(status(&flushes(65_535), None), "status=0 entries=0");
     assert_eq!(status(&flushes(65_536), None), "status=11 line=65538");

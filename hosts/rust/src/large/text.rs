@@ -1,11 +1,15 @@
 //! Host code, not proved: a job's text read line by line into a list of calls. The grammar is that of
 //! crates/rules/specs/Job.antt.
+//!
+//! No line is kept whole: a list that is long is read in pieces, any other long line is malformed, and
+//! at the first malformed number or line the reading ends. So a line without an end takes no more
+//! memory than another.
 
 use std::io::{self, BufRead};
 
 use super::{Failure, Progress};
 use crate::calls::{Call, Calls};
-use crate::layout::{TAG_ADD, TAG_FINAL, TAG_FLUSH, TAG_SET};
+use crate::layout::{MOST_LISTED, TAG_ADD, TAG_FINAL, TAG_FLUSH, TAG_SET};
 
 /// What stands on a line that is quoted.
 #[derive(Clone, Debug, PartialEq, Eq)]
@@ -30,6 +34,14 @@ pub struct Malformed {
 
 /// How many bytes of a line are kept for quoting.
 const QUOTED_BYTES: usize = 120;
+/// So many bytes of a line are read at first: more than a line has that is no list, and than is quoted.
+const START_BYTES: usize = QUOTED_BYTES + 1;
+/// The most digits of a number.
+const NUMBER_BYTES: usize = 20;
+/// So many bytes of the rest of a list are read at a time.
+const PIECE_BYTES: usize = 1 << 12;
+/// So many numbers of a list are kept: with one more than it may have it is refused all the same.
+const KEPT_NUMBERS: usize = MOST_LISTED + 1;
 
 fn shortened(line: &[u8]) -> (Vec<u8>, bool) {
     let kept = line.len().min(QUOTED_BYTES);
@@ -39,16 +51,29 @@ fn shortened(line: &[u8]) -> (Vec<u8>, bool) {
 /// What the next line turned out to be.
 #[derive(Clone, Copy, PartialEq, Eq)]
 enum Next {
+    /// All of it is read.
     Line,
+    /// It has more than the bytes that are read at first.
+    Long,
     NotEnded,
     Missing,
+}
+
+/// What ends a piece of a line.
+enum End {
+    /// Byte 10.
+    Line,
+    /// Nothing: the line may go on.
+    Piece,
+    /// The job ends, and the piece has no bytes.
+    Job,
 }
 
 /// Reads a job: first its head, then its calls.
 #[derive(Debug)]
 pub struct Reader<R> {
     input: R,
-    /// The line last read, without its byte 10.
+    /// The line last read, without its byte 10, or the start of a long one.
     line: Vec<u8>,
     /// The number of that line.
     number: u64,
@@ -106,24 +131,25 @@ impl<R: BufRead> Reader<R> {
     fn call(&mut self, calls: &mut Calls) -> Result<Part<bool>, Failure> {
         const CALL: &str = "`set=N`, `in=LIST` followed by `out=LIST`, `flush=1` or `final=1`";
         let next = self.next()?;
-        if next != Next::Line {
-            return Ok(Err(self.malformed(next, CALL)));
-        }
-        self.make_room(calls)?;
-        let numbers = &mut calls.numbers;
-        let line = &self.line[..];
-        let mut last = false;
-        if let Some(places) = line.strip_prefix(b"in=") {
-            let start = numbers.len();
-            numbers.push(TAG_ADD);
-            if !put_list(places, numbers) {
-                numbers.truncate(start);
+        let start = calls.numbers.len();
+        make_room(calls, self.line.len())?;
+        if self.line.starts_with(b"in=") && matches!(next, Next::Line | Next::Long) {
+            calls.numbers.push(TAG_ADD);
+            if !self.list(next, b"in=".len(), calls)? {
+                calls.numbers.truncate(start);
                 return Ok(Err(
                     self.malformed(next, "`in=LIST` with numbers and single commas")
                 ));
             }
             return self.outputs(calls, start);
-        } else if let Some(place) = line.strip_prefix(b"set=").and_then(number) {
+        }
+        if next != Next::Line {
+            return Ok(Err(self.malformed(next, CALL)));
+        }
+        let numbers = &mut calls.numbers;
+        let line = &self.line[..];
+        let mut last = false;
+        if let Some(place) = line.strip_prefix(b"set=").and_then(number) {
             numbers.extend([TAG_SET, place]);
         } else if line == b"flush=1" {
             numbers.push(TAG_FLUSH);
@@ -140,12 +166,10 @@ impl<R: BufRead> Reader<R> {
     /// The `out=` line of the add whose numbers start there; without it there is no such add.
     fn outputs(&mut self, calls: &mut Calls, start: usize) -> Result<Part<bool>, Failure> {
         let next = self.next()?;
-        self.make_room(calls)?;
-        let numbers = &mut calls.numbers;
-        let places = self.line.strip_prefix(b"out=");
-        let put = places.is_some_and(|places| put_list(places, numbers));
-        if next != Next::Line || !put {
-            numbers.truncate(start);
+        make_room(calls, self.line.len())?;
+        let list = self.line.starts_with(b"out=") && matches!(next, Next::Line | Next::Long);
+        if !list || !self.list(next, b"out=".len(), calls)? {
+            calls.numbers.truncate(start);
             return Ok(Err(self.malformed(next, "`out=LIST`, after `in=LIST`")));
         }
         calls.count += 1;
@@ -162,47 +186,87 @@ impl<R: BufRead> Reader<R> {
         })
     }
 
-    /// Room for the numbers of the line, so that putting them does not fail.
-    fn make_room(&mut self, calls: &mut Calls) -> Result<(), Failure> {
-        let most = self.line.len() / 2 + 4;
-        let bytes = 8 * (calls.numbers.len() + most) as u64;
-        calls
-            .numbers
-            .try_reserve(most)
-            .map_err(|_| Failure::Memory(bytes))
+    /// The list of the line last read, behind its key: its count and its numbers are put at the end of
+    /// the calls. Says whether it is well formed.
+    fn list(&mut self, next: Next, key: usize, calls: &mut Calls) -> Result<bool, Failure> {
+        let start = calls.numbers.len();
+        calls.numbers.push(0);
+        let list = &self.line[key..];
+        let well_formed = match next {
+            Next::Line => list.is_empty() || put_numbers(list, &mut calls.numbers, start),
+            _ => self.long_list(list.to_vec(), calls, start)?,
+        };
+        calls.numbers[start] = (calls.numbers.len() - start - 1) as u64;
+        Ok(well_formed)
     }
 
-    /// Reads the next line.
+    /// The numbers of a list whose text goes on behind what is read of it.
+    fn long_list(
+        &mut self,
+        mut text: Vec<u8>,
+        calls: &mut Calls,
+        start: usize,
+    ) -> Result<bool, Failure> {
+        loop {
+            // The last number may go on, too.
+            match text.iter().rposition(|byte| *byte == b',') {
+                Some(comma) if put_numbers(&text[..comma], &mut calls.numbers, start) => {
+                    text.drain(..=comma);
+                }
+                None if text.len() <= NUMBER_BYTES => {}
+                _ => return Ok(false),
+            }
+            make_room(calls, NUMBER_BYTES + PIECE_BYTES)?;
+            match self.piece(PIECE_BYTES, |piece| text.extend_from_slice(piece))? {
+                End::Line => return Ok(put_numbers(&text, &mut calls.numbers, start)),
+                End::Piece => {}
+                End::Job => return Ok(false),
+            }
+        }
+    }
+
+    /// Reads the next line, or the start of a long one.
     fn next(&mut self) -> Result<Next, Failure> {
-        self.line.clear();
         self.number += 1;
+        let mut line = std::mem::take(&mut self.line);
+        line.clear();
+        let next = loop {
+            let room = START_BYTES - line.len();
+            if room == 0 {
+                break Next::Long;
+            }
+            match self.piece(room, |piece| line.extend_from_slice(piece))? {
+                End::Line => break Next::Line,
+                End::Piece => {}
+                End::Job if line.is_empty() => break Next::Missing,
+                End::Job => break Next::NotEnded,
+            }
+        };
+        self.line = line;
+        Ok(next)
+    }
+
+    /// Hands over the next bytes of a line, at most so many, and says what ended them.
+    fn piece(&mut self, most: usize, take: impl FnOnce(&[u8])) -> Result<End, Failure> {
         loop {
             let available = match self.input.fill_buf() {
                 Ok(available) => available,
                 Err(error) if error.kind() == io::ErrorKind::Interrupted => continue,
                 Err(error) => return Err(Failure::Input(error)),
             };
-            if available.is_empty() {
-                let nothing = self.line.is_empty();
-                return Ok(if nothing {
-                    Next::Missing
-                } else {
-                    Next::NotEnded
-                });
+            let piece = &available[..available.len().min(most)];
+            if piece.is_empty() {
+                return Ok(End::Job);
             }
-            let end = available.iter().position(|byte| *byte == b'\n');
-            let taken = &available[..end.unwrap_or(available.len())];
-            let bytes = (self.line.len() + taken.len()) as u64;
-            self.line
-                .try_reserve(taken.len())
-                .map_err(|_| Failure::Memory(bytes))?;
-            self.line.extend_from_slice(taken);
-            let used = taken.len() + usize::from(end.is_some());
+            let end = piece.iter().position(|byte| *byte == b'\n');
+            take(&piece[..end.unwrap_or(piece.len())]);
+            let used = end.map_or(piece.len(), |end| end + 1);
             self.input.consume(used);
             self.bytes += used as u64;
-            if end.is_some() {
-                return Ok(Next::Line);
-            }
+            return Ok(match end {
+                Some(_) => End::Line,
+                None => End::Piece,
+            });
         }
     }
 
@@ -212,7 +276,7 @@ impl<R: BufRead> Reader<R> {
             line: self.number,
             expected,
             quoted: match next {
-                Next::Line => Quoted::Line { start, more },
+                Next::Line | Next::Long => Quoted::Line { start, more },
                 Next::NotEnded => Quoted::NotEnded { start, more },
                 Next::Missing => Quoted::Missing,
             },
@@ -223,7 +287,7 @@ impl<R: BufRead> Reader<R> {
 /// A number: 1 to 20 digits, no leading zero but 0 itself, 64 bits.
 fn number(digits: &[u8]) -> Option<u64> {
     let leading_zero = digits.len() > 1 && digits[0] == b'0';
-    if digits.is_empty() || digits.len() > 20 || leading_zero {
+    if digits.is_empty() || digits.len() > NUMBER_BYTES || leading_zero {
         return None;
     }
     digits.iter().try_fold(0u64, |value, digit| match digit {
@@ -232,19 +296,25 @@ fn number(digits: &[u8]) -> Option<u64> {
     })
 }
 
-/// Puts a list's count and its numbers at the end; says whether it is well formed.
-fn put_list(text: &[u8], numbers: &mut Vec<u64>) -> bool {
-    let start = numbers.len();
-    numbers.push(0);
-    if !text.is_empty() {
-        for field in text.split(|byte| *byte == b',') {
-            match number(field) {
-                Some(number) => numbers.push(number),
-                None => return false,
-            }
+/// Room for the numbers of so many bytes of a list, with what stands around them, so that putting them
+/// does not fail.
+fn make_room(calls: &mut Calls, bytes: usize) -> Result<(), Failure> {
+    let count = bytes / 2 + 4;
+    let needed = 8 * (calls.numbers.len() + count) as u64;
+    let room = calls.numbers.try_reserve(count);
+    room.map_err(|_| Failure::Memory(needed))
+}
+
+/// Puts the numbers of a list, or of a part of it, at the end, where the list's count stands at
+/// `start`; says whether all are well formed. Past one more than a list may have they are not kept.
+fn put_numbers(text: &[u8], numbers: &mut Vec<u64>, start: usize) -> bool {
+    for field in text.split(|byte| *byte == b',') {
+        match number(field) {
+            Some(number) if numbers.len() - start <= KEPT_NUMBERS => numbers.push(number),
+            Some(_) => {}
+            None => return false,
         }
     }
-    numbers[start] = (numbers.len() - start - 1) as u64;
     true
 }
 
@@ -281,14 +351,25 @@ fn list_start(list: &[u64]) -> String {
 mod tests {
     use super::*;
 
+    /// The numbers that the line `in=TEXT` puts, a 9 standing before them, read so many bytes at a time.
+    fn listed(text: &str, size: usize) -> Option<Vec<u64>> {
+        let line = format!("in={text}\n");
+        let mut reader = Reader::new(io::BufReader::with_capacity(size, line.as_bytes()));
+        let mut calls = Calls::new();
+        calls.numbers.push(9);
+        let next = reader.next().unwrap();
+        make_room(&mut calls, reader.line.len()).unwrap();
+        let well_formed = reader.list(next, 3, &mut calls).unwrap();
+        well_formed.then_some(calls.numbers)
+    }
+
     #[test]
     fn numbers_have_one_form() {
         let right = ["0", "7", "10", "18446744073709551615"];
         for text in right {
-            assert_eq!(
-                number(text.as_bytes()).map(|n| n.to_string()),
-                Some(text.to_owned())
-            );
+            let value = text.parse().unwrap();
+            assert_eq!(number(text.as_bytes()), Some(value));
+            assert_eq!(listed(text, 3), Some(vec![9, 1, value]));
         }
         let wrong = [
             "",
@@ -305,33 +386,50 @@ mod tests {
         ];
         for text in wrong {
             assert_eq!(number(text.as_bytes()), None, "{text}");
+            assert_eq!(listed(&format!("1,{text}"), 3), None, "{text}");
         }
     }
 
     #[test]
     fn lists_use_single_commas() {
-        let read = |text: &str| {
-            let mut numbers = vec![9];
-            put_list(text.as_bytes(), &mut numbers).then_some(numbers)
-        };
-        assert_eq!(read(""), Some(vec![9, 0]));
-        assert_eq!(read("5"), Some(vec![9, 1, 5]));
-        assert_eq!(read("5,0,5"), Some(vec![9, 3, 5, 0, 5]));
-        for text in [",", "1,", ",1", "1,,2", "1, 2", "a"] {
-            assert_eq!(read(text), None, "{text}");
+        for size in 1..6 {
+            assert_eq!(listed("", size), Some(vec![9, 0]));
+            assert_eq!(listed("5", size), Some(vec![9, 1, 5]));
+            assert_eq!(listed("5,0,15", size), Some(vec![9, 3, 5, 0, 15]));
+            for text in [",", "1,", ",1", "1,,2", "1, 2", "a"] {
+                assert_eq!(listed(text, size), None, "{text}");
+                let long = vec!["3"; 100].join(",");
+                for text in [format!("{long},{text}"), format!("{text},{long}")] {
+                    assert_eq!(listed(&text, size), None, "{text}");
+                }
+            }
+        }
+    }
+
+    #[test]
+    fn a_list_is_kept_up_to_one_number_too_many() {
+        for count in [65_534, 65_535, 65_536, 65_537, 200_000] {
+            let list = vec!["12"; count].join(",");
+            let kept = count.min(65_536);
+            let numbers = listed(&list, 1000).unwrap();
+            assert_eq!((numbers[1], numbers.len()), (kept as u64, 2 + kept));
+            assert!(numbers[2..].iter().all(|number| *number == 12));
+            assert_eq!(listed(&(list + ","), 1000), None, "{count} numbers");
         }
     }
 
     #[test]
     fn a_line_may_be_read_in_any_pieces() {
-        let job = b"parallelism=2\nplaces=6\nset=0\nin=0\nout=1,2\nflush=1\nfinal=1\n";
-        let whole = read_in_pieces(job, 1 << 16);
-        assert_eq!(
-            whole,
-            Calls::new().set(0).add(&[0], &[1, 2]).flush().finish()
+        let long = vec!["10"; 9000].join(",");
+        let job = format!(
+            "parallelism=2\nplaces=6\nset=0\nin=0\nout=1,2\nin={long}\nout=3\nflush=1\nfinal=1\n"
         );
-        for size in 1..70 {
-            assert_eq!(read_in_pieces(job, size), whole, "{size} bytes at a time");
+        let whole = read_in_pieces(job.as_bytes(), 1 << 16);
+        let calls = Calls::new().set(0).add(&[0], &[1, 2]);
+        assert_eq!(whole, calls.add(&[10; 9000], &[3]).flush().finish());
+        for size in (1..70).chain([115, 121, 122, 4095, 4096, 4097]) {
+            let read = read_in_pieces(job.as_bytes(), size);
+            assert_eq!(read, whole, "{size} bytes at a time");
         }
     }
 
