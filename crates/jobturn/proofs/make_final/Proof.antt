@@ -1,5 +1,4 @@
 -- `jobturn::make_final` meets its contract: what final concludes, and what follows it. Assumes nothing.
-use native.Mathlib.Omega.{arith}
 use Rattle.jobturn.proofs.make_final.Statement.{statement}
 use Rattle.jobturn.proofs.make_final.Tie as tie
 
