@@ -36,7 +36,7 @@ pub const SET: u16 = limits::MARK_SET as u16;
 
 /// The most inputs of a registration, and the most outputs; a longer list is refused with 3, whatever
 /// stands in it.
-pub const MOST_LISTED: usize = 65_535;
+pub const MOST_LISTED: usize = limits::MOST_IN_A_LIST as usize;
 
 /// The greatest job and listing of `order_job`, in bytes.
 pub const JOB_BYTES: usize = limits::MOST_JOB_BYTES as usize;
