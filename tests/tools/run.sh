@@ -230,6 +230,19 @@ says 1 'tools/antt.py: its first line does not say' first_lines
 says 1 'tools/rooms.py: its first line does not say' first_lines
 rm -rf "$toy/.git"
 
+# The reading list: what a promise is made of and is not listed is said, and so are what none is made of and a wrong count.
+fresh && mkdir -p "$toy/.ci" && cp .ci/reading.py "$toy/.ci/" && cp README.md "$toy/" && cp -r crates "$toy/"
+says 0 'every definition that a promise is made of stands in one' "$toy/.ci/reading.py"
+sed -i 's#laws/Order\.nth, ##' "$toy/README.md"
+says 1 'README.md leaves out laws/Order.nth, which a promise is made of' "$toy/.ci/reading.py"
+cp README.md "$toy/" && sed -i 's#laws/Tally\.having#laws/Tally.having, laws/Tally.nothing#' "$toy/README.md"
+says 1 'README.md names laws/Tally.nothing, and there is none' "$toy/.ci/reading.py"
+cp README.md "$toy/" && sed -i 's#laws/Demand |#laws/Demand, laws/Kept |#' "$toy/README.md"
+says 1 'README.md names laws/Kept, and no promise needs it' "$toy/.ci/reading.py"
+cp README.md "$toy/" && echo >>"$toy/crates/laws/specs/Demand.antt"
+says 1 'lines are said' "$toy/.ci/reading.py"
+grep -q "^## $(cat VERSION)$" CHANGELOG.md || fail "CHANGELOG.md has no heading for version $(cat VERSION)"
+
 # Words: every command of tools/ has its help on standard output, and an unknown option gets a sentence and nothing else. What
 # is no command there is data, or a module without the mode and the first line of one.
 commands=0
