@@ -3,6 +3,8 @@
 
     tools/metrics.py                a line for each count
     tools/metrics.py --names        and below it where: crates, functions, files
+    tools/metrics.py --check        says where a contract has more than 400 characters or a crate spells a layout out
+                                    which is another's; the status is then 1
     --root FOLDER                   of another repository than the one that this tool stands in
 
 Counted are contracts of more than 400 characters; chains of `.before` in proofs and specifications; lines of
@@ -28,6 +30,7 @@ LAYOUTS = {
     "waiting storage": (re.compile(rf"(?<![\w.])[234] \* {PLACES}(?!\w)"), {"registrar", "lists", "taken", "pool"}),
 }
 DEFINING = {"rules", "laws", "vectors"}
+NONE = ("contracts over", "crates that spell")  # counts that are to be 0
 
 
 class Function:
@@ -107,7 +110,7 @@ def counts(root):
 
 
 def main():
-    words, root, names = sys.argv[1:], sources.own_repository(), False
+    words, root, names, check = sys.argv[1:], sources.own_repository(), False, False
     while words:
         word = words.pop(0)
         if word == "--help":
@@ -115,11 +118,17 @@ def main():
             return
         if word == "--names":
             names = True
+        elif word == "--check":
+            check = True
         elif word == "--root" and words:
             root = pathlib.Path(words.pop(0))
         else:
-            sys.exit("usage: tools/metrics.py [--names] [--root FOLDER]")
+            sys.exit("usage: tools/metrics.py [--names] [--check] [--root FOLDER]")
     try:
+        if check:
+            wrong = [f"{what}: {line}" for what, _, where in counts(root) if what.startswith(NONE) for line in where]
+            print("\n".join(wrong) or "no long contract, no layout outside its crate")
+            sys.exit(1 if wrong else 0)
         for what, count, where in counts(root):
             print(f"{count:7,}  {what}")
             for line in where if names else []:

@@ -177,6 +177,7 @@ for count in '0  contracts over 400' '6  words .before' '1  chains of .before ov
 done
 says 0 'crates/mid/src/lib.rt:8 twice 9' "$toy/tools/metrics.py" --names
 says 0 'contracts over 400' tools/metrics.py --root "$toy"
+says 1 'crates that spell a layout out: entry, in code: mid 2' "$toy/tools/metrics.py" --check
 
 # Long lines are broken, and say what they said; a chain of `.before` that is too long is named.
 fresh
