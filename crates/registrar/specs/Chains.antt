@@ -10,8 +10,8 @@ use lib.ListN.{length, set, length-set}
 use lib.Seq.{getD-set-same, getD-set-other, take-set-le, drop-set-lt}
 use borrow.Author.Tests.{eq-eqb}
 use Rattle.rules.specs.Model.{push}
-use Rattle.registrar.specs.Reading.{head-at, link-at, with-link}
-use Rattle.registrar.specs.Delayed.{Chain, Linked, relinked, top-of, last-of, spliced, head-of, occurs, LinksOnly}
+use Rattle.registrar.specs.Reading.{head-at, link-at}
+use Rattle.registrar.specs.Delayed.{with-link, Chain, Linked, relinked, top-of, last-of, spliced, head-of, occurs, LinksOnly}
 
 -- r is one of a list
 abbrev pub In : ℕ → List ℕ → Type 0

@@ -4,12 +4,19 @@ use mathlib.Core.Path.{_≡_}
 use mathlib.Core.List.{List, [], _∷_, _++_, List·Memᴰ}
 use mathlib.Core.Bool.{true, false, cond}
 use Prim.Native.Nat.{ℕ, suc, _+_, _*_, _≤_, _<_}
-use lib.ListN.{length, take, drop}
+use lib.ListN.{length, set, take, drop}
 use lib.Dec.{eqb}
 use Rattle.rules.specs.Model.{Pending, due, left, queue, push}
 use Rattle.rules.specs.Checks.{waiting-needed}
 use Rattle.laws.specs.Delaying.{Sorted}
-use Rattle.registrar.specs.Reading.{head-at, link-at, with-link}
+use Rattle.registrar.specs.Reading.{head-at, link-at}
+
+-- the storage with another head link of place p, and with another link of registration r
+abbrev pub with-head : List ℕ → ℕ → ℕ → List ℕ
+with-head w p h = set w p h
+
+abbrev pub with-link : List ℕ → ℕ → ℕ → ℕ → List ℕ
+with-link w v r h = set w (v + r) h
 
 -- the registrations under place p, newest first
 unfoldable pub newest : ℕ → List Pending → List ℕ

@@ -15,8 +15,8 @@ use borrow.Author.Tests.{eq-eqb, ne-eqb}
 use Rattle.rules.specs.Model.{Pending, due, left, queue, push}
 use Rattle.rules.specs.Checks.{waiting-needed}
 use Rattle.laws.specs.Delaying.{left-sorted, left-above, queue-sorted}
-use Rattle.registrar.specs.Reading.{head-at, link-at, with-head, with-link}
-use Rattle.registrar.specs.Delayed.{newest, occurs, pends, Chain, Linked, Delayed, Later, Joins, Stacks, Aside, LinksOnly}
+use Rattle.registrar.specs.Reading.{head-at, link-at}
+use Rattle.registrar.specs.Delayed.{with-head, with-link, newest, occurs, pends, Chain, Linked, Delayed, Later, Joins, Stacks, Aside, LinksOnly}
 use Rattle.registrar.specs.Delayed.{relinked, top-of, spliced, head-of, last-of, Chained, Oldest, Splices, Advancing, AdvancesSet, AdvancesPlaced}
 use Rattle.registrar.specs.Queue.{From, lt-or-le, eq-or-ne, push-append, push-onto, push-twice, due-none, left-all, due-split, left-split, left-in}
 use Rattle.registrar.specs.Queue.{newest-left, newest-due, down, down-due, occurs-push, pends-split, newest-pends, newest-apart, queue-in, queue-pends, queue-newest, queue-others, pends-none}

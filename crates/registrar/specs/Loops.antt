@@ -7,8 +7,8 @@ use native.Mathlib.Nat.{suc-ne-zero}
 use native.Mathlib.Omega.{arith}
 use lib.ListN.{length, length-set}
 use Rattle.rules.specs.Checks.{waiting-needed}
-use Rattle.registrar.specs.Reading.{head-at, link-at, with-link}
-use Rattle.registrar.specs.Delayed.{Chain, Chained, relinked, top-of, last-of, Turns, Oldest}
+use Rattle.registrar.specs.Reading.{head-at, link-at}
+use Rattle.registrar.specs.Delayed.{with-link, Chain, Chained, relinked, top-of, last-of, Turns, Oldest}
 use Rattle.registrar.specs.Queue.{down}
 use Rattle.registrar.specs.Chains.{In, chain-frame, chain-le, chain-below, chain-unique, chain-turn, head-turn, length-turn, relinked-append, top-of-append}
 

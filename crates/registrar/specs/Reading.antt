@@ -3,7 +3,7 @@
 -- the model's is in Unique. Assumes nothing.
 use mathlib.Core.List.{List, [], _∷_}
 use Prim.Native.Nat.{ℕ, zero, suc, _+_, _-_}
-use lib.ListN.{getD, set}
+use lib.ListN.{getD}
 use Rattle.rules.specs.Model.{Pending}
 
 -- place p's head link, and registration r's link
@@ -12,13 +12,6 @@ head-at w p = getD w p 0
 
 abbrev pub link-at : List ℕ → ℕ → ℕ → ℕ
 link-at w v r = getD w (v + r) 0
-
--- the storage with another head link of place p, and with another link of registration r
-abbrev pub with-head : List ℕ → ℕ → ℕ → List ℕ
-with-head w p h = set w p h
-
-abbrev pub with-link : List ℕ → ℕ → ℕ → ℕ → List ℕ
-with-link w v r h = set w (v + r) h
 
 -- the registrations from link h on, at most f of them: the newest first
 unfoldable pub chain-from : ℕ → List ℕ → ℕ → ℕ → List ℕ

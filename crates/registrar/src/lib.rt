@@ -7,8 +7,8 @@ ghost use Prim.Native.Nat.{_≤_, _<_};
 ghost use lib.ListN.{length};
 ghost use Rattle.rules.specs.Checks.{waiting-needed};
 ghost use Rattle.zeros.specs.Zeros.{Cleared};
-ghost use Rattle.registrar.specs.Reading.{head-at, link-at, with-head, with-link};
-ghost use Rattle.registrar.specs.Delayed.{Chained, Joins, Stacks, Turns, Splices, Oldest, Advancing, AdvancesSet, AdvancesPlaced};
+ghost use Rattle.registrar.specs.Reading.{head-at, link-at};
+ghost use Rattle.registrar.specs.Delayed.{with-head, with-link, Chained, Joins, Stacks, Turns, Splices, Oldest, Advancing, AdvancesSet, AdvancesPlaced};
 
 // Nothing waits under any place.
 pub fn clear(waiting: &mut [u64], v: usize)

@@ -4,8 +4,7 @@ use Prim.Native.Nat.{_+_}
 use native.Mathlib.Omega.{arith}
 use denote.Ref.{now}
 use borrow.Author.Needs.{needs}
-use Rattle.registrar.specs.Reading.{with-head, with-link}
-use Rattle.registrar.specs.Delayed.{Joins}
+use Rattle.registrar.specs.Delayed.{with-head, with-link, Joins}
 use Rattle.registrar.specs.Keeps.{joins}
 use Rattle.registrar.proofs.delay.Statement.{statement}
 use Rattle.registrar.proofs.delay.Tie as tie
