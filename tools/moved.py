@@ -12,7 +12,8 @@ Counted are:
     code            the function's signature and body
     proof           the folder proofs/FUNCTION
     wrong program   an edit in must-fail/
-What only went to another file of its crate, or stands under other comments, has stayed.
+What only went to another file of its crate, or stands under other comments, has stayed. What a crate no longer has, and
+another has now under the same name, went there: with the same text, or moved on the way.
 """
 import io
 import os
@@ -136,22 +137,43 @@ def state(revision):
     return found
 
 
+def pairs(old, new):
+    """For each place of the old texts that is no longer there, the new place of that name, if there is one: one that has
+    the same text, else the first. No new place is taken twice."""
+    free = defaultdict(list)
+    for crate, name in sorted(new.keys() - old.keys()):
+        free[name].append((crate, name))
+    found = {}
+    gone = sorted(old.keys() - new.keys())
+    for same in (True, False):
+        for place in gone:
+            there = [at for at in free[place[1]] if not same or new[at] == old[place]]
+            if place not in found and there:
+                found[place] = there[0]
+                free[place[1]].remove(there[0])
+    return found
+
+
 def compare(before, after):
     old, new = state(before), state(after)
-    print("| | before | stayed | moved | new | gone |")
-    print("|---|---:|---:|---:|---:|---:|")
+    print("| | before | stayed | in another crate | moved | new | gone |")
+    print("|---|---:|---:|---:|---:|---:|---:|")
     named = []
     for kind in KINDS:
         a, b = old[kind], new[kind]
         both = a.keys() & b.keys()
-        moved = sorted(name for name in both if a[name] != b[name])
-        added, gone = sorted(b.keys() - a.keys()), sorted(a.keys() - b.keys())
-        print(f"| {kind} | {len(a)} | {len(both) - len(moved)} | {len(moved)} | {len(added)} | {len(gone)} |")
-        named += [(kind, what, names) for what, names in (("moved", moved), ("new", added), ("gone", gone)) if names]
-    promises = old["promise"]
-    stayed = sum(new["promise"].get(name) == text for name, text in promises.items())
-    if promises:
-        print(f"\n{100 * stayed // len(promises)} % of the promises stayed.")
+        went = pairs(a, b)
+        moved = sorted([name for name in both if a[name] != b[name]] + [at for at, to in went.items() if a[at] != b[to]])
+        elsewhere = sorted(at for at, to in went.items() if a[at] == b[to])
+        added, gone = sorted(b.keys() - a.keys() - set(went.values())), sorted(a.keys() - b.keys() - went.keys())
+        stayed = len(a) - len(elsewhere) - len(moved) - len(gone)
+        print(f"| {kind} | {len(a)} | {stayed} | {len(elsewhere)} | {len(moved)} | {len(added)} | {len(gone)} |")
+        found = (("in another crate", elsewhere), ("moved", moved), ("new", added), ("gone", gone))
+        named += [(kind, what, names) for what, names in found if names]
+        if kind == "promise" and a:
+            kept = 100 * (stayed + len(elsewhere)) // len(a)
+    if old["promise"]:
+        print(f"\n{kept} % of the promises stayed.")
     for kind, what, names in named:
         by_crate = defaultdict(list)
         for crate, name in names:

@@ -32,6 +32,18 @@ pub fn same(x: u32) -> u32
 {
     x
 }
+
+pub fn wide(x: u32) -> u64
+    ensures { λ r. ⌜ r ≡ x ⌝ }
+{
+    x as u64
+}
+
+pub fn least(x: u32) -> u32
+    requires { ⌜ x ≤ 5 ⌝ }
+{
+    x
+}
 TEXT
 echo 'proof' >crates/toy/proofs/twice/Proof.antt
 echo 'edit' >crates/toy/must-fail/thrice.edit
@@ -39,26 +51,34 @@ git init -q . && commit before
 sed -i 's/-- a comment/-- another/; s/(n : ℕ)/(n : ℕ) (h : n ≤ 9)/' crates/toy/specs/Toy.antt
 sed -i 's/x ≤ 9/x ≤ 8/; s/^    x$/    x + 0/' crates/toy/src/lib.rt
 git mv crates/toy/must-fail/thrice.edit crates/toy/must-fail/never.edit
+# two functions go to another crate, one of them with another promise
+mkdir -p crates/room/src
+sed -n '/^pub fn wide/,$p' crates/toy/src/lib.rt | sed 's/x ≤ 5/x ≤ 6/' >crates/room/src/lib.rt
+sed -i '/^pub fn wide/,$d' crates/toy/src/lib.rt
 commit after
 
 cat >expected <<'TEXT'
-| | before | stayed | moved | new | gone |
-|---|---:|---:|---:|---:|---:|
-| definition | 1 | 1 | 0 | 0 | 0 |
-| law | 1 | 0 | 1 | 0 | 0 |
-| law proof | 1 | 1 | 0 | 0 | 0 |
-| promise | 2 | 1 | 1 | 0 | 0 |
-| code | 2 | 1 | 1 | 0 | 0 |
-| proof | 1 | 1 | 0 | 0 | 0 |
-| wrong program | 1 | 0 | 0 | 1 | 1 |
+| | before | stayed | in another crate | moved | new | gone |
+|---|---:|---:|---:|---:|---:|---:|
+| definition | 1 | 1 | 0 | 0 | 0 | 0 |
+| law | 1 | 0 | 0 | 1 | 0 | 0 |
+| law proof | 1 | 1 | 0 | 0 | 0 | 0 |
+| promise | 4 | 1 | 1 | 2 | 0 | 0 |
+| code | 4 | 1 | 1 | 2 | 0 | 0 |
+| proof | 1 | 1 | 0 | 0 | 0 | 0 |
+| wrong program | 1 | 0 | 0 | 0 | 1 | 1 |
 
 50 % of the promises stayed.
 
 law, moved: toy: even
 
-promise, moved: toy: twice
+promise, in another crate: toy: wide
 
-code, moved: toy: same
+promise, moved: toy: least, twice
+
+code, in another crate: toy: wide
+
+code, moved: toy: least, same
 
 wrong program, new: toy: never.edit
 

@@ -17,7 +17,7 @@ pub record Fit (g : Guide) (s o : List ℕ) : Type 0 where
   pub in-rows : getD (g .window .rows) 0 0 < 32
   pub short : length-of g 0 ≤ g .p + 1
   pub next-short : length-of g 1 ≤ g .p + 1
-  pub lent : fits s (spans-needed (g .p))
+  pub long : fits s (spans-needed (g .p))
   pub room : fits o (g .written + length-of g 0)
   pub small : g .written + length-of g 0 ≤ most-places
   pub low : number-of g 31 + 1 < 2 ^ 32
@@ -31,7 +31,7 @@ laid-fit g s o k room small low =
       in-rows = omega (arith, most-at 31 (g .window .rows) 0 (k .below));
       short = most-at (g .p + 1) (g .window .lens) 0 (k .short);
       next-short = most-at (g .p + 1) (g .window .lens) 1 (k .short);
-      lent = k .lent;
+      long = k .long;
       room = room;
       small = small;
       low = low;

@@ -55,7 +55,7 @@ module _ (g : Guide) (s : List ℕ) (k : Laid g s) where
   pub slot-fits : (i : ℕ) → length-of g i ≤ g .p → has-entry s (slot-of g i)
   slot-fits i h =
       let r : getD (g .window .rows) i 0 < 32 = omega (arith, most-at 31 (g .window .rows) i (k .below)) in
-      omega (arith, row-ends (g .p) (getD (g .window .rows) i 0) 32 r, k .lent)
+      omega (arith, row-ends (g .p) (getD (g .window .rows) i 0) 32 r, k .long)
 
   -- the entry that is put has 0, and all others stay
   put-unassigned : (i : ℕ) (e : Entry) → i < 32 → length-of g i ≤ g .p → (x j : ℕ) → x < 32 → j < getD (set (g .window .lens) i (length-of g i + 1)) x 0
@@ -94,7 +94,7 @@ module _ (g : Guide) (s : List ℕ) (k : Laid g s) where
         below = k .below;
         short = most-set (g .p + 1) (g .window .lens) i _ (omega arith) (k .short);
         numbered = k .numbered;
-        lent = rw (stored-length s (slot-of g i) (held-entry e) (slot-fits i h)) (k .lent);
+        long = rw (stored-length s (slot-of g i) (held-entry e) (slot-fits i h)) (k .long);
         unassigned = put-unassigned i e hi h;
       }
 
@@ -130,7 +130,7 @@ module _ (g : Guide) (s : List ℕ) (k : Laid g s) where
         below = most-rotated 31 (g .window .rows) (getD (g .window .rows) 0 0) (most-at 31 (g .window .rows) 0 (k .below)) (k .below);
         short = most-rotated (g .p + 1) (g .window .lens) 0 (omega arith) (k .short);
         numbered = ids-rotated ∙ ap (λ t. upto t 32) (sym first-rotated);
-        lent = k .lent;
+        long = k .long;
         unassigned = λ i j hi hj. go i j hi hj (ℕ-discrete i 31);
       }
     where

@@ -71,6 +71,6 @@ pub record Laid (g : Guide) (s : List ℕ) : Type 0 where
   pub below : Most 31 (g .window .rows)
   pub short : Most (g .p + 1) (g .window .lens)
   pub numbered : g .window .ids ≡ upto (number-of g 0) 32
-  pub lent : fits s (spans-needed (g .p))
+  pub long : fits s (spans-needed (g .p))
   -- a held entry has no parallelism yet, and 0 in its place
   pub unassigned : (i j : ℕ) → i < 32 → j < length-of g i → (entry-at s (slot g i j)) .parallelism ≡ 0

@@ -18,7 +18,7 @@ use Rattle.checking.specs.Parts.{list-checks, state-checks, add-checks}
 use Rattle.add_checks.specs.Contracts.{MayAdd, ChecksAdd}
 use Rattle.add_checks.specs.ListChecks.{many, lists-good, verdict-rest, lists-numbered}
 use Rattle.add_checks.specs.StateChecks.{state-verdict}
-use Rattle.claiming.specs.Contracts.{MayAdmit, AdmitsAdd, ClaimsAdd}
+use Rattle.claiming.specs.Contracts.{MayAdmit, FlagsAdd, ClaimsAdd}
 
 -- add passes all of its checks
 pub record AddPasses (closed : Bool) (N : ℕ) (ins outs : List ℕ) (t : ℕ → Bool) (added used W : ℕ) : Type 0 where
@@ -68,32 +68,32 @@ may-claim outs m b = flagged-of _ (m .may .taken) _ (m .may .flags) outs (any-be
 
 module _ {w ins outs : List ℕ} {closed : Bool} {v added used room : ℕ} where
   -- refused, the storage as it was
-  refused : ((t : ℕ → Bool) → AddPasses closed v ins outs t added used room → ⊥) → AdmitsAdd w ins outs closed v added used room false w
+  refused : ((t : ℕ → Bool) → AddPasses closed v ins outs t added used room → ⊥) → FlagsAdd w ins outs closed v added used room false w
   refused h = record { passes = λ q. absurd (false≢true q); fails = λ q t f z. h t (passes-of closed v ins outs t added used room z); claims = λ q. absurd (false≢true q); same = λ q. refl }
 
-  pub closed-fails : closed ≡ true → AdmitsAdd w ins outs closed v added used room false w
+  pub closed-fails : closed ≡ true → FlagsAdd w ins outs closed v added used room false w
   closed-fails e = refused (λ t p. true≢false (sym e ∙ p .not-closed))
 
-  pub many-fails : many ins outs ≡ true → AdmitsAdd w ins outs closed v added used room false w
+  pub many-fails : many ins outs ≡ true → FlagsAdd w ins outs closed v added used room false w
   many-fails e = refused (λ t p. true≢false (sym e ∙ p .few))
 
-  pub count-fails : v ≤ added → AdmitsAdd w ins outs closed v added used room false w
+  pub count-fails : v ≤ added → FlagsAdd w ins outs closed v added used room false w
   count-fails h = refused (λ t p. omega (arith, p .more))
 
-  pub outs-outside : any (λ x. leb v x) outs ≡ true → AdmitsAdd w ins outs closed v added used room false w
+  pub outs-outside : any (λ x. leb v x) outs ≡ true → FlagsAdd w ins outs closed v added used room false w
   outs-outside e = refused (λ t p. true≢false (sym e ∙ below-any v outs (p .outs-inside)))
 
   module _ {top : ℕ} (m : MayAdmit w ins top v used room) where
-    pub ins-outside : v ≤ top → AdmitsAdd w ins outs closed v added used room false w
+    pub ins-outside : v ≤ top → FlagsAdd w ins outs closed v added used room false w
     ins-outside h = refused (λ t p. omega (arith, m .top-is, greatest-below v ins (omega (arith, p .more)) (p .ins-inside)))
 
-    pub room-fails : room - used < length ins + length outs → AdmitsAdd w ins outs closed v added used room false w
+    pub room-fails : room - used < length ins + length outs → FlagsAdd w ins outs closed v added used room false w
     room-fails h = refused (λ t p. omega (arith, p .room))
 
     module _ (b : any (λ x. leb v x) outs ≡ false) where
       module _ (small : v ≤ least-flagged) (open′ : closed ≡ false) (few : many ins outs ≡ false) (l : top < v) (h : added < v) (fits : length ins + length outs ≤ room - used)
           {r : Bool} {w′ : List ℕ} (c : Claims w v outs r w′) where
-        pub admits : AdmitsAdd w ins outs closed v added used room r w′
+        pub admits : FlagsAdd w ins outs closed v added used room r w′
         admits =
             record {
               passes = λ q t f. of-passes closed v ins outs t added used room small (good q t f);
@@ -127,10 +127,10 @@ module _ {w ins outs : List ℕ} {closed : Bool} {v added used room : ℕ} where
             bad q t f p = true≢false (sym (c .answer ∙ rw (p .once, same-any t f ∙ p .free)) ∙ q)
 
   -- the number
-  pub claimed-add : {r : Bool} {w′ : List ℕ} → AdmitsAdd w ins outs closed v added used room r w′ → r ≡ true → ClaimsAdd w ins outs closed v added used room 0 w′
+  pub claimed-add : {r : Bool} {w′ : List ℕ} → FlagsAdd w ins outs closed v added used room r w′ → r ≡ true → ClaimsAdd w ins outs closed v added used room 0 w′
   claimed-add a q = record { is = λ t f. sym (a .passes q t f); claims = λ h. a .claims q; same = λ h. absurd (h refl) }
 
-  module _ {r : Bool} {w′ : List ℕ} (a : AdmitsAdd w ins outs closed v added used room r w′) (q : r ≡ false) (m : MayAdd w v used room) where
+  module _ {r : Bool} {w′ : List ℕ} (a : FlagsAdd w ins outs closed v added used room r w′) (q : r ≡ false) (m : MayAdd w v used room) where
     pub may-again : MayAdd w′ v used room
     may-again = subst (λ (x : List ℕ). MayAdd x v used room) (sym (a .same q)) m
 

@@ -15,7 +15,7 @@ pub record MayAdmit (w ins : List ℕ) (top v used room : ℕ) : Type 0 where
   pub top-is : top ≡ greatest ins
 
 -- `admits_add`: true exactly where add passes its checks, and its outputs are flagged; or the storage is as it was
-pub record AdmitsAdd (w ins outs : List ℕ) (closed : Bool) (v added used room : ℕ) (r : Bool) (w′ : List ℕ) : Type 0 where
+pub record FlagsAdd (w ins outs : List ℕ) (closed : Bool) (v added used room : ℕ) (r : Bool) (w′ : List ℕ) : Type 0 where
   pub passes : r ≡ true → (t : ℕ → Bool) → Flags v t w → verdict (add-checks closed v ins outs t added used room) ≡ 0
   pub fails : r ≡ false → (t : ℕ → Bool) → Flags v t w → verdict (add-checks closed v ins outs t added used room) ≡ 0 → ⊥
   pub claims : r ≡ true → w′ ≡ claimed w v outs

@@ -1,6 +1,6 @@
 // add with its outputs flagged as taken where it is accepted, in one walk that finds a repeated or a taken one. Only a refused call is
 // looked at check by check, for its number.
-ghost use Rattle.claiming.specs.Contracts.{MayAdmit, AdmitsAdd, ClaimsAdd};
+ghost use Rattle.claiming.specs.Contracts.{MayAdmit, FlagsAdd, ClaimsAdd};
 
 // Whether add passes all of its checks, top being the greatest of ins; then its outputs are flagged as taken. Else storage is as it was.
 fn admits_add(
@@ -15,7 +15,7 @@ fn admits_add(
     room: usize,
 ) -> bool
     requires { ⌜ MayAdmit (now waiting) (now ins) top v used room ⌝ }
-    ensures { λ r. ⌜ AdmitsAdd (now (waiting .entry)) (now (ins .entry)) (now (outs .entry)) closed v added used room r (now (waiting .exit)) ⌝ }
+    ensures { λ r. ⌜ FlagsAdd (now (waiting .entry)) (now (ins .entry)) (now (outs .entry)) closed v added used room r (now (waiting .exit)) ⌝ }
 {
     if closed {
         return false;

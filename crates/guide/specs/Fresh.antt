@@ -51,7 +51,7 @@ module _ (p v : ℕ) (s o t : List ℕ) (hp : 1 ≤ p) (hq : p ≤ most-parallel
         below = most-upto 31 0 32 (omega arith);
         short = most-zeros (p + 1) 32;
         numbered = refl;
-        lent = ls;
+        long = ls;
         unassigned = λ i j hi hj. absurd (omega (arith, getD-replicate {A = ℕ} 32 i 0 0 hi));
       }
 

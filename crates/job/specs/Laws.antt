@@ -32,7 +32,7 @@ use Rattle.jobturn.specs.Turned.{remains, StandsFor, Refuses, Surplus, Turned, 
 use Rattle.jobturn.specs.declared.End.{End}
 use Rattle.jobturn.specs.declared.End.the-variants as end
 use Rattle.jobturn.specs.Laws.{open-low}
-use Rattle.job.specs.Run.{Standing, Left, Refused, Tells, MayRun, outcome-as, Stopped, Runs, Room, Ran}
+use Rattle.job.specs.Run.{StandsReached, Left, Refused, Tells, MayRun, outcome-as, Stopped, Runs, Room, Ran}
 
 -- begun with s and σ, the calls up to `at` lead to a model, for which what remains is what remained at the start
 pub record Going (P N W : ℕ) (s : Session) (σ : Storage) (job : List ℕ) (start : ℕ) (s′ : Session) (σ′ : Storage) (at n : ℕ) : Type 0 where
@@ -289,7 +289,7 @@ module _ (job : List ℕ) (short : length job ≤ most-job-bytes) where
             (ap (λ (x : Bool). (run-lines P N job-pool 3 none (lines (drop start job)) x initial, there)) (sym (sized .starts .1 .1)))
 
         standing : (x : End) (υ : Storage) (u : Stopped P N job-pool s τ υ x (remains P N job-pool job start 3 initial))
-            → Standing (record { parallelism = P; places = N; model = u .model }) (u .session) σ υ
+            → StandsReached (record { parallelism = P; places = N; model = u .model }) (u .session) σ υ
         unfolding first-guide
         standing x υ u =
             let w : s .guide .written ≡ 0 = ap (λ (y : Session). y .guide .written) (o .session z) in

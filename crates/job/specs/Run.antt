@@ -15,20 +15,20 @@ use Rattle.session.specs.declared.Session.{Session}
 use Rattle.session.specs.Storage.{Storage, Beyond, Frame}
 use Rattle.session.specs.Rep.{Rep}
 use Rattle.jobcalls.specs.Runs.{Run}
-use Rattle.jobturn.specs.Turned.{Code, remains, StandsFor, Figures}
+use Rattle.jobturn.specs.Turned.{Code, remains, StandsFor, EndFigures}
 use Rattle.jobturn.specs.declared.End.{End}
 use Rattle.jobturn.specs.declared.End.the-variants as end
 
 -- a session and the storage stand for the model that a job reaches, P and V being the numbers of its first two lines, and what lies
 -- beyond the needed lengths, and the order past its length, is as it was lent
-pub record Standing (r : Reached) (s : Session) (σ σ′ : Storage) : Type 0 where
+pub record StandsReached (r : Reached) (s : Session) (σ σ′ : Storage) : Type 0 where
   pub stands : StandsFor (r .parallelism) (r .places) job-pool s σ′ (r .model)
   pub frame : Frame (r .parallelism) (r .places) 0 (s .guide .written) σ σ′
 
 -- what is left of the lent storage: all of it as it was, where no session was opened
 abbrev pub Left : Option Reached → Storage → Storage → Type 0
 Left none σ σ′ = σ′ ≡ σ
-Left (some r) σ σ′ = (s : Session) × Standing r s σ σ′
+Left (some r) σ σ′ = (s : Session) × StandsReached r s σ σ′
 
 -- a job refused on line n
 pub record Refused (job : List ℕ) (σ σ′ : Storage) (n code : ℕ) : Type 0 where
@@ -41,8 +41,8 @@ pub record Closed (job : List ℕ) (σ σ′ : Storage) (written places median :
   pub reached-is : reached job ≡ some last
   pub is : outcome job ≡ finished (last .parallelism) (last .model)
   pub session : Session
-  pub standing : Standing last session σ σ′
-  pub figures : Figures (last .parallelism) (last .model) written places median
+  pub standing : StandsReached last session σ σ′
+  pub figures : EndFigures (last .parallelism) (last .model) written places median
 
 abbrev pub Tells : List ℕ → Storage → Storage → End → Type 0
 Tells job σ σ′ (end.Rejected n code) = Refused job σ σ′ n code
@@ -73,7 +73,7 @@ outcome-as (end.Finished w pl md) P k = finished P k
 
 abbrev pub figures-of : End → ℕ → Model → Type 0
 figures-of (end.Rejected n code) P k = Unit {0}
-figures-of (end.Finished w pl md) P k = Figures P k w pl md
+figures-of (end.Finished w pl md) P k = EndFigures P k w pl md
 
 -- the calls were run to the end e: o is what remained at the start, with session s and storage σ
 pub record Stopped (P N W : ℕ) (s : Session) (σ σ′ : Storage) (e : End) (o : Run) : Type 0 where

@@ -37,7 +37,7 @@ use Rattle.jobcalls.specs.Runs.{reads, makes, goes, call-runs}
 use Rattle.jobturn.specs.declared.End.the-variants as end
 use Rattle.jobturn.specs.declared.Step.{Step}
 use Rattle.jobturn.specs.declared.Step.the-variants as step′
-use Rattle.jobturn.specs.Turned.{Code, AfterCall, AfterFinal, remains, StandsFor, Accepts, Figures, Turned}
+use Rattle.jobturn.specs.Turned.{Code, AfterCall, AfterFinal, remains, StandsFor, Accepts, EndFigures, Turned}
 
 -- the end of a job: nothing may follow final
 ends : (P n : ℕ) (k : Model) (l : List ℕ) → length l ≡ 0 → closing P n (lines l) (ragged l) k ≡ finished P k
@@ -220,7 +220,7 @@ module _ {job entry read : List ℕ} {at n : ℕ} (s : Session) (σ : Storage) (
           ∙ ap (λ (i : ℕ). (closing P i (lines (drop after job)) (ragged (drop at job)) closed, closed)) (sym (add-one m))
           ∙ ap (λ (b : Bool). (closing P (m + 1) (lines (drop after job)) b closed, closed)) (sym (c .next .end))
 
-      figures : Figures P closed (s′ .guide .written) (s′ .places) (f .median)
+      figures : EndFigures P closed (s′ .guide .written) (s′ .places) (f .median)
       unfolding summary rule.figures
       figures =
           let x = shows P N closed s′ σ′ (accepted .stands .rep) in

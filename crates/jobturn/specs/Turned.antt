@@ -75,7 +75,7 @@ pub record Surplus (P N W : ℕ) (k : Model) (s′ : Session) (σ′ : Storage) 
   pub is : o ≡ (rejected m code, step P N W calls.final k)
 
 -- the numbers that the end of a job tells are its model's: the order's length, the places that final fixed and the median of its summary
-pub record Figures (P : ℕ) (k : Model) (written places med : ℕ) : Type 0 where
+pub record EndFigures (P : ℕ) (k : Model) (written places med : ℕ) : Type 0 where
   pub written-is : written ≡ length (k .guide .order)
   pub places-is : places ≡ k .recorded .places
   pub median-is : med ≡ median (tally P (k .guide .order))
@@ -83,7 +83,7 @@ pub record Figures (P : ℕ) (k : Model) (written places med : ℕ) : Type 0 whe
 -- final was accepted, and nothing follows it
 pub record Finishes (P N W : ℕ) (k : Model) (s′ : Session) (σ′ : Storage) (written places med : ℕ) (o : Run) : Type 0 where
   pub final : Accepts P N W calls.final k s′ σ′
-  pub figures : Figures P (step P N W calls.final k) written places med
+  pub figures : EndFigures P (step P N W calls.final k) written places med
   pub is : o ≡ (finished P (step P N W calls.final k), step P N W calls.final k)
 
 -- what remained, o, is what the answer tells, with session and storage before and after it

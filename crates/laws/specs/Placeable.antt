@@ -36,7 +36,7 @@ pub record Fits (P N : ℕ) (k : Model) : Type 0 where
   pub held-known : (s q : ℕ) → q < len (k .guide .spans) s → (entry-at (k .guide .spans) s q) .added < length (k .adds)
   pub order-known : (j : ℕ) → j < length (k .guide .order) → (nth k j) .item .added < length (k .adds)
   pub parallelisms : (j : ℕ) → j < length (k .guide .order) → (1 ≤ (nth k j) .parallelism) × ((nth k j) .parallelism ≤ P)
-  pub mark-low : watermark N k ≤ N
+  pub watermark-low : watermark N k ≤ N
   pub located-below : (x : ℕ) → marked x (k .located) ≡ true → x < N
   pub sets-below : AllBelow N (k .sets)
 
@@ -169,7 +169,7 @@ module _ (P N W : ℕ) (hP : 1 ≤ P) (k : Model) (st : List ℕ) (s : Sound P N
         held-known = λ i q h. rw (window-entry i q) (s .inv .known (length (s .inv .past) + i) q (omega (arith, window-len i)));
         order-known = λ j h. let a = order-at P hP (k .guide) (s .inv .past) (s .inv .core) j h in rw (a .entry-is) (s .inv .known (a .s) (a .q) (a .within));
         parallelisms = bounds P hP (k .guide) (s .inv .past) (s .inv .core);
-        mark-low = watermark-le N k;
+        watermark-low = watermark-le N k;
         located-below = λ x h. s .inside .lists _ .outs-below x (s .inv .located-ok x h .1);
         sets-below = s .inside .sets-below;
       }

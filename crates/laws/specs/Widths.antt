@@ -50,7 +50,7 @@ pub record Widths (P N : ℕ) (k : Model) : Type 0 where
   pub rows-written : (x : ℕ) → In x (k .recorded .written) → In32 x
   pub tally-counts : (p : ℕ) → In32 (getD (tally P (k .guide .order)) p 0)
   pub registrations : In32 (length (k .adds))
-  pub mark : In32 (watermark N k)
+  pub watermark-fits : In32 (watermark N k)
   pub fixed : In32 (registered k) × In32 (k .recorded .places)
   pub flushes : In16 (k .flushes)
   pub lists : (r : ℕ) → In16 (length ((reg-of k r) .ins)) × In16 (length ((reg-of k r) .outs))
@@ -102,7 +102,7 @@ module _ (P N W : ℕ) (hP : 1 ≤ P) (tP : P ≤ most-parallelism) (hN : N ≤ 
         rows-written = λ x h. omega (arith, s .entries .rows-written x h, f .room, f .many);
         tally-counts = λ p. omega (arith, tally-each P (k .guide .order) (λ j h. f .parallelisms j h .1) p, having-le p (k .guide .order), f .room, f .many);
         registrations = omega (arith, f .many);
-        mark = omega (arith, f .mark-low);
+        watermark-fits = omega (arith, f .watermark-low);
         fixed = (low-registered (k .closed), omega (arith, s .entries .places-few));
         flushes = omega (arith, s .limits .few);
         lists = λ r. (omega (arith, s .inside .lists r .ins-few), omega (arith, s .inside .lists r .outs-few));

@@ -5,7 +5,7 @@ use Rattle.rules.specs.Model.{Model}
 use Rattle.rules.specs.Listing.{listing}
 use Rattle.session.specs.declared.Session.{Session}
 use Rattle.session.specs.Storage.{storage}
-use Rattle.jobturn.specs.Turned.{StandsFor, Figures}
+use Rattle.jobturn.specs.Turned.{StandsFor, EndFigures}
 use Rattle.writer.specs.Wrote.{Wrote}
 use Rattle.listing.specs.Listed.{head-bytes, line-bytes}
 
@@ -19,7 +19,7 @@ pub record Shown (P N W : ℕ) (k : Model) (order rows : List ℕ) (written plac
   pub waiting : List ℕ
   pub pool : List ℕ
   pub stands : StandsFor P N W session (storage spans order tally rows marks locations waiting pool) k
-  pub figures : Figures P k written places median
+  pub figures : EndFigures P k written places median
 
 -- there is such a session, and room for the listing
 pub record MayReport (order rows : List ℕ) (room written places median : ℕ) : Type 0 where

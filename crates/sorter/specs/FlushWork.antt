@@ -69,7 +69,7 @@ fits-flushed P N f g b c k F =
       held-known = F .held-known;
       order-known = F .order-known;
       parallelisms = F .parallelisms;
-      mark-low = F .mark-low;
+      watermark-low = F .watermark-low;
       located-below = F .located-below;
       sets-below = F .sets-below;
     }
@@ -171,7 +171,7 @@ module _ (s : Session) (σ : Storage) where
       omega (
         arith,
         a .rep .core .tracked .watermark-is,
-        fits-now (a .parallelism) (a .places) (a .model) s σ (a .rep) (a .between) .mark-low,
+        fits-now (a .parallelism) (a .places) (a .model) s σ (a .rep) (a .between) .watermark-low,
         small (a .parallelism) (a .places) (a .model) s σ (a .rep) (a .between),
       )
 

@@ -19,12 +19,12 @@ use Rattle.registrar.specs.Delayed.{Delayed, Aside}
 use Rattle.registrar.specs.Keeps.{delayed-same, aside-at}
 
 -- w and w′ agree from the needed length on
-abbrev pub Beyond : ℕ → List ℕ → List ℕ → Type 0
-Beyond v w w′ = (i : ℕ) → waiting-needed v ≤ i → getD w′ i 0 ≡ getD w i 0
+abbrev pub SameBeyond : ℕ → List ℕ → List ℕ → Type 0
+SameBeyond v w w′ = (i : ℕ) → waiting-needed v ≤ i → getD w′ i 0 ≡ getD w i 0
 
 -- heads and links alone have changed
 module _ {w : List ℕ} {v : ℕ} {w′ : List ℕ} (a : Aside w v w′) where
-  pub beyond-aside : Beyond v w w′
+  pub beyond-aside : SameBeyond v w w′
   beyond-aside i h = aside-at w v w′ a i (omega arith)
 
   module _ (long : length w′ ≡ length w) where
@@ -38,7 +38,7 @@ module _ {w : List ℕ} {v : ℕ} {w′ : List ℕ} (a : Aside w v w′) where
 
 -- the flag of a place is stored
 module _ (w : List ℕ) {v x : ℕ} (n : ℕ) (h : x < v) where
-  pub beyond-flag : Beyond v w (with-flag w v x n)
+  pub beyond-flag : SameBeyond v w (with-flag w v x n)
   unfolding with-flag
   beyond-flag i k = getD-set-other w _ i n 0 (λ e. omega arith)
 
@@ -52,7 +52,7 @@ module _ (w : List ℕ) {v x : ℕ} (n : ℕ) (h : x < v) where
       delayed-same w v lo ps top st d (with-flag w v x n) (flag-length w v x n) (λ p k. getD-set-other w _ p n 0 (λ e. omega arith)) (λ r k. getD-set-other w _ _ n 0 (λ e. omega arith))
 
 -- the flags of a list of places are stored
-pub beyond-claimed : (w : List ℕ) (v : ℕ) (xs : List ℕ) → Below v xs → Beyond v w (claimed w v xs)
+pub beyond-claimed : (w : List ℕ) (v : ℕ) (xs : List ℕ) → Below v xs → SameBeyond v w (claimed w v xs)
 unfolding claimed Below
 beyond-claimed w v [] b i k = refl
 beyond-claimed w v (x ∷ xs) b i k = beyond-claimed (with-flag w v x 1) v xs (b .1) i k ∙ beyond-flag w 1 (b .0) i k
@@ -69,7 +69,7 @@ delayed-claimed (x ∷ xs) b d = delayed-claimed xs (b .1) (delayed-flag _ 1 (b 
 
 -- the cell of a registration is stored
 module _ (w : List ℕ) {v r : ℕ} (start inputs : ℕ) (h : r < v) where
-  pub beyond-cell : Beyond v w (with-cell w v r start inputs)
+  pub beyond-cell : SameBeyond v w (with-cell w v r start inputs)
   unfolding with-cell
   beyond-cell i k = getD-set-other w _ i _ 0 (λ e. omega arith)
 

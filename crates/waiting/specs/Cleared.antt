@@ -8,14 +8,14 @@ use Rattle.rules.specs.Checks.{waiting-needed}
 use Rattle.zeros.specs.Zeros.{Cleared, cleared-below, cleared-beyond}
 use Rattle.taken.specs.Flag.{flags-at, flag-at}
 use Rattle.registrar.specs.Reading.{head-at}
-use Rattle.waiting.specs.Apart.{Beyond}
+use Rattle.waiting.specs.Apart.{SameBeyond}
 
 -- `clear`: heads and flags are 0, and what lies beyond the needed length is as it was
 pub record Emptied (v : ℕ) (w w′ : List ℕ) : Type 0 where
   pub long : length w′ ≡ length w
   pub heads : (p : ℕ) → p < v → head-at w′ p ≡ 0
   pub flags : (x : ℕ) → x < v → flag-at w′ v x ≡ 0
-  pub beyond : Beyond v w w′
+  pub beyond : SameBeyond v w w′
 
 -- the heads, and then the flags
 pub emptied : {v : ℕ} {w w₁ w′ : List ℕ} → Cleared 0 v w w₁ → Cleared (flags-at v) (waiting-needed v) w₁ w′ → Emptied v w w′

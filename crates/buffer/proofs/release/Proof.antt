@@ -48,7 +48,7 @@ append-row-requires : tie.Need-append-row-requires
 append-row-requires c κs =
     let s = to-start c in
     let fit = s .pre in
-    omega (arith, to-row-start c .row-start .ensures, row-within s, fit .few, fit .one, fit .short, fit .lent, fit .next-short, fit .room)
+    omega (arith, to-row-start c .row-start .ensures, row-within s, fit .few, fit .one, fit .short, fit .long, fit .next-short, fit .room)
 
 rotate-requires : tie.Need-rotate-requires
 rotate-requires c κs = search needs
