@@ -82,13 +82,13 @@ pub record Itemized (k : ℕ) (f : List ℕ → Line) (s : List ℕ) : Type 0 wh
   pub within : k ≤ length s
 
 module _ (s : List ℕ) where
-  pub inputs-line : begins key-in s ≡ true → Itemized 3 in-line s
+  pub inputs-line : begins key-in s ≡ true → Itemized (length key-in) in-line s
   unfolding line-of key-or differ
   inputs-line y =
       let j = key-some key-in s y in
       record { says = sym (rw (line-of, apart key-in key-parallelism s refl y, apart key-in key-places s refl y, apart key-in key-set s refl y, j .0)); within = j .1 }
 
-  pub outputs-line : begins key-out s ≡ true → Itemized 4 out-line s
+  pub outputs-line : begins key-out s ≡ true → Itemized (length key-out) out-line s
   unfolding line-of key-or differ
   outputs-line y =
       let j = key-some key-out s y in
@@ -97,17 +97,17 @@ module _ (s : List ℕ) where
         within = j .1;
       }
 
-  pub parallelism-key : begins key-parallelism s ≡ true → Numbered 12 parallelism-line s
+  pub parallelism-key : begins key-parallelism s ≡ true → Numbered (length key-parallelism) parallelism-line s
   unfolding line-of key-or
   parallelism-key y = let j = key-some key-parallelism s y in record { says = sym (rw (line-of, j .0)); within = j .1 }
 
   module _ (n₁ : begins key-parallelism s ≡ false) where
-    pub places-key : begins key-places s ≡ true → Numbered 7 places-line s
+    pub places-key : begins key-places s ≡ true → Numbered (length key-places) places-line s
     unfolding line-of key-or
     places-key y = let j = key-some key-places s y in record { says = sym (rw (line-of, key-none key-parallelism s n₁, j .0)); within = j .1 }
 
     module _ (n₂ : begins key-places s ≡ false) where
-      pub set-key : begins key-set s ≡ true → Numbered 4 set-line s
+      pub set-key : begins key-set s ≡ true → Numbered (length key-set) set-line s
       unfolding line-of key-or
       set-key y =
           let j = key-some key-set s y in
@@ -119,11 +119,11 @@ module _ (s : List ℕ) where
         unfolding line-of key-or
         alone = rw (line-of, key-none key-parallelism s n₁, key-none key-places s n₂, key-none key-set s n₃, key-none key-in s n₄, key-none key-out s n₅)
 
-        -- a key of 7 bytes is the line, or something follows it
-        ends : (ks : List ℕ) → length ks ≡ 7 → length s ≡ 7 → begins ks s ≡ true → after-key ks s ≡ some []
+        -- a key as long as these two is the line, or something follows it
+        ends : (ks : List ℕ) → length ks ≡ length flush-text → length s ≡ length flush-text → begins ks s ≡ true → after-key ks s ≡ some []
         ends ks e q y = key-some ks s y .0 ∙ ap (λ (r : List ℕ). some r) (drop-of-length-le s {i = length ks} (omega arith))
 
-        more : (l other : Line) (ks : List ℕ) → length ks ≡ 7 → (length s ≡ 7 → ⊥) → other ≡ malformed → key-or (after-key ks s) (whole l) other ≡ malformed
+        more : (l other : Line) (ks : List ℕ) → length ks ≡ length flush-text → (length s ≡ length flush-text → ⊥) → other ≡ malformed → key-or (after-key ks s) (whole l) other ≡ malformed
         unfolding key-or whole
         more l other ks e q o = go (bool (begins ks s))
           where
@@ -137,10 +137,10 @@ module _ (s : List ℕ) where
                 rw (j .0) (rest (drop (length ks) s) (λ h. q (omega (arith, j .1, simp length-drop at h))))
             go (inr n) = rw (key-none ks s n) o
 
-        pub not-seven : (length s ≡ 7 → ⊥) → malformed ≡ line-of s
-        not-seven q = sym (alone ∙ more flush-line _ flush-text refl q (more final-line _ final-text refl q refl))
+        pub not-whole : (length s ≡ length flush-text → ⊥) → malformed ≡ line-of s
+        not-whole q = sym (alone ∙ more flush-line _ flush-text refl q (more final-line _ final-text refl q refl))
 
-        module _ (q : length s ≡ 7) where
+        module _ (q : length s ≡ length flush-text) where
           pub flush-key : begins flush-text s ≡ true → flush-line ≡ line-of s
           unfolding key-or whole
           flush-key y = sym (alone ∙ rw (ends flush-text refl q y))

@@ -8,6 +8,19 @@ ghost use Rattle.jobline.specs.Lines.{begins, PlainRead, LineRead};
 use jobtext::Items;
 use jobtext::Number;
 
+// How many bytes the keys have, and the lines that have one form only.
+const PARALLELISM_KEY: usize = 12;
+
+const PLACES_KEY: usize = 7;
+
+const SET_KEY: usize = 4;
+
+const IN_KEY: usize = 3;
+
+const OUT_KEY: usize = 4;
+
+const WHOLE_LINE: usize = 7;
+
 // Whether the line starts with the key.
 fn starts(s: &[u8], key: &[u8]) -> bool
     ensures { λ r. ⌜ r ≡ begins (now (key .entry)) (now (s .entry)) ⌝ }
@@ -43,27 +56,27 @@ fn read_plain(s: &[u8]) -> Line
     ensures { λ r. ⌜ PlainRead (now (s .entry)) r ⌝ }
 {
     if starts(s, b"parallelism=") {
-        let x = jobtext::read_number(&s[12..]);
+        let x = jobtext::read_number(&s[PARALLELISM_KEY..]);
         let Number::Value(n) = x else {
             return Line::Malformed;
         };
         return Line::Parallelism(n);
     }
     if starts(s, b"places=") {
-        let x = jobtext::read_number(&s[7..]);
+        let x = jobtext::read_number(&s[PLACES_KEY..]);
         let Number::Value(n) = x else {
             return Line::Malformed;
         };
         return Line::Places(n);
     }
     if starts(s, b"set=") {
-        let x = jobtext::read_number(&s[4..]);
+        let x = jobtext::read_number(&s[SET_KEY..]);
         let Number::Value(n) = x else {
             return Line::Malformed;
         };
         return Line::Set(n);
     }
-    if s.len() == 7 {
+    if s.len() == WHOLE_LINE {
         if starts(s, b"flush=1") {
             return Line::Flush;
         }
@@ -80,14 +93,14 @@ pub fn read_line(s: &[u8], into: &mut [u64], off: usize) -> Line
     ensures { λ r. ⌜ LineRead (now (into .entry)) (now (into .exit)) off (now (s .entry)) r ⌝ }
 {
     if starts(s, b"in=") {
-        let x = jobtext::read_list(&s[3..], into, off);
+        let x = jobtext::read_list(&s[IN_KEY..], into, off);
         let Items::Count(n) = x else {
             return Line::Malformed;
         };
         return Line::Inputs(n);
     }
     if starts(s, b"out=") {
-        let x = jobtext::read_list(&s[4..], into, off);
+        let x = jobtext::read_list(&s[OUT_KEY..], into, off);
         let Items::Count(n) = x else {
             return Line::Malformed;
         };

@@ -2,7 +2,7 @@
 use mathlib.Core.Bool.{false}
 use mathlib.Core.Path.{_≡_, refl, sym, _∙_}
 use native.Mathlib.Omega.{arith}
-use lib.ListN.{length-take, length-drop}
+use lib.ListN.{length, length-take, length-drop}
 use Rattle.rules.specs.Job as rule
 use Rattle.rules.specs.Job.{key-in}
 use Rattle.jobline.specs.Lines.{begins}
@@ -21,10 +21,10 @@ abbrev first : tie.After-starts2 → tie.Else1
 first c = c .before .before
 
 -- what they tell
-by-inputs : (c : tie.Then1) → Itemized 3 rule.in-line (start (c .before) .args .s .now)
+by-inputs : (c : tie.Then1) → Itemized (length rule.key-in) rule.in-line (start (c .before) .args .s .now)
 by-inputs c = inputs-line _ (sym (c .before .starts .ensures) ∙ c .if1 .taken)
 
-by-outputs : (c : tie.Then2) → Itemized 4 rule.out-line (start (first (c .before) .before) .args .s .now)
+by-outputs : (c : tie.Then2) → Itemized (length rule.key-out) rule.out-line (start (first (c .before) .before) .args .s .now)
 by-outputs c = outputs-line _ (sym (c .before .starts2 .ensures) ∙ c .if2 .taken)
 
 no-inputs : (c : tie.Else1) → begins key-in (start (c .before) .args .s .now) ≡ false

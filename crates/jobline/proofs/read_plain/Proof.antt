@@ -3,10 +3,11 @@ use mathlib.Core.Bool.{false}
 use mathlib.Core.List.{List}
 use mathlib.Core.Path.{_≡_, refl, sym, _∙_}
 use Prim.Native.Nat.{ℕ}
+use lib.ListN.{length}
 use Rattle.rules.specs.Job as rule
 use Rattle.rules.specs.Job.{key-parallelism, key-places, key-set, key-in, key-out}
 use Rattle.jobline.specs.Lines.{begins}
-use Rattle.jobline.specs.Keys.{Numbered, parallelism-key, places-key, set-key, flush-key, final-key, no-key, not-seven}
+use Rattle.jobline.specs.Keys.{Numbered, parallelism-key, places-key, set-key, flush-key, final-key, no-key, not-whole}
 use Rattle.jobline.specs.Reads.{value-line, no-value, plain-line}
 use Rattle.jobline.specs.declared.Line.the-variants as line
 use borrow.Author.Needs.{needs}
@@ -29,13 +30,13 @@ abbrev of-3 : tie.Else3 → List ℕ
 of-3 c = text (first (second (c .before) .before) .before)
 
 -- what they tell
-by-parallelism : (c : tie.Then1) → Numbered 12 rule.parallelism-line (text (c .before))
+by-parallelism : (c : tie.Then1) → Numbered (length key-parallelism) rule.parallelism-line (text (c .before))
 by-parallelism c = parallelism-key _ (sym (c .before .starts .ensures) ∙ c .if1 .taken)
 
-by-places : (c : tie.Then2) → Numbered 7 rule.places-line (text (first (c .before) .before))
+by-places : (c : tie.Then2) → Numbered (length key-places) rule.places-line (text (first (c .before) .before))
 by-places c = let p = first (c .before) in places-key _ (sym (p .before .starts .ensures) ∙ p .if1 .left) (sym (c .before .starts2 .ensures) ∙ c .if2 .taken)
 
-by-set : (c : tie.Then3) → Numbered 4 rule.set-line (text (first (second (c .before) .before) .before))
+by-set : (c : tie.Then3) → Numbered (length key-set) rule.set-line (text (first (second (c .before) .before) .before))
 by-set c =
     let q = second (c .before) in
     let p = first (q .before) in
@@ -192,7 +193,7 @@ returns-9 c =
 
 returns-10 : tie.Need-returns-10
 returns-10 c =
-    plain-line refl (λ r. refl) (not-seven _ (no-parallelism (c .before)) (no-places (c .before)) (no-set (c .before)) (lists (c .before) .0) (lists (c .before) .1) (c .if4 .left))
+    plain-line refl (λ r. refl) (not-whole _ (no-parallelism (c .before)) (no-places (c .before)) (no-set (c .before)) (lists (c .before) .0) (lists (c .before) .1) (c .if4 .left))
 
 pub read-plain-spec : {M : Type 1} → statement M
 read-plain-spec =
