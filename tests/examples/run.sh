@@ -10,13 +10,13 @@ order=target/bin/order
 failed=0 count=0
 for job in examples/*.job examples/refused/*.job; do
   count=$((count + 1))
-  $order <"$job" | diff "${job%.job}.listing" - || { echo "tests/examples: $job has another listing" >&2; failed=1; }
+  $order <"$job" | tests/same.sh - "${job%.job}.listing" || { echo "tests/examples: $job has another listing" >&2; failed=1; }
 done
 
 generated=0
 while read -r name command; do
   generated=$((generated + 1))
-  $command | diff "examples/$name" - >/dev/null || { echo "tests/examples: $name is not what '$command' writes" >&2; failed=1; }
+  $command | tests/same.sh - "examples/$name" || { echo "tests/examples: $name is not what '$command' writes" >&2; failed=1; }
 done < <(sed -n 's/^| \[\([a-z]*\.job\)\].*| `\(tools[^`]*\)` |$/\1 \2/p' examples/README.md)
 
 [ $generated -eq "$(ls examples/*.job | wc -l)" ] || { echo "tests/examples: README says of $generated jobs only how they are made" >&2; failed=1; }
@@ -24,7 +24,7 @@ done < <(sed -n 's/^| \[\([a-z]*\.job\)\].*| `\(tools[^`]*\)` |$/\1 \2/p' exampl
 told=0
 while IFS='|' read -r name status line; do
   told=$((told + 1))
-  [ "$(printf 'status=%s\nline=%s' "$status" "$line")" = "$(cat "examples/refused/$name.listing")" ] ||
+  printf 'status=%s\nline=%s\n' "$status" "$line" | tests/same.sh - "examples/refused/$name.listing" ||
     { echo "tests/examples: README tells another answer of $name" >&2; failed=1; }
 done < <(sed -n 's/^| \[\([a-z-]*\)\](refused.*| status=\([0-9]*\), line=\([0-9]*\) |.*/\1|\2|\3/p' examples/README.md)
 [ "$told" -eq "$(ls examples/refused/*.job | wc -l)" ] || { echo "tests/examples: README leaves out a refused job" >&2; failed=1; }
