@@ -3,7 +3,8 @@
 crates.txt, each `Module.name` is defined in a specification of that module, each `crate/Module` is there, and
 each `crate::item` stands in that crate's source. Prints the count, or each citation that leads nowhere.
 
-Read are all documents of the repository; in a table whose first column is `old name`, not that column."""
+Read are all documents of the repository; in a table whose first column is `old name`, not that column. Of the crates'
+own files the comments are read."""
 
 import os
 import re
@@ -28,6 +29,17 @@ def documents():
     for folder, folders, files in os.walk("."):
         folders[:] = sorted(name for name in folders if name not in (".git", "target"))
         yield from (os.path.join(folder, name) for name in sorted(files) if name.endswith(".md"))
+
+
+def comments():
+    """(path, comments) of each source, specification and proof."""
+    for folder, _, files in os.walk("crates"):
+        for name in sorted(files):
+            mark = {".rt": "//", ".antt": "--"}.get(os.path.splitext(name)[1])
+            if mark:
+                path = os.path.join(folder, name)
+                with open(path, encoding="utf-8") as text:
+                    yield path, "\n".join(line.partition(mark)[2] for line in text if line.lstrip().startswith(mark))
 
 
 def listed():
@@ -103,26 +115,35 @@ def citations(text, bold):
     return crates, cited, called
 
 
+def texts():
+    """(path, crates, citations, items) of each document, and of each file's comments, where a crate is named by its
+    modules and items alone: the word itself may mean another thing there."""
+    for document in documents():
+        with open(document, encoding="utf-8") as file:
+            yield (document[2:], *citations(present(file.read()), document == ROOMS))
+    for path, text in comments():
+        _, cited, called = citations(text, False)
+        yield path, [], [one for one in cited if one[0] and one[0] != "specs"], called
+
+
 def main():
     known, found, count, wrong = listed(), modules(), 0, []
     read = 0
-    for document in documents():
+    for document, crates, cited, called in texts():
         read += 1
-        with open(document, encoding="utf-8") as file:
-            crates, cited, called = citations(present(file.read()), document == ROOMS)
         called = [(crate, item) for crate, item in called if crate in known]
         count += len(crates) + len(cited) + len(called)
         for crate in crates + [crate for crate, _, _ in cited if crate]:
             if crate not in known:
-                wrong.append(f"{document[2:]}: crate {crate}: crates.txt has none of that name")
+                wrong.append(f"{document}: crate {crate}: crates.txt has none of that name")
         for crate, module, names in cited:
             fault = problem(found, crate, module, names)
             if fault:
-                wrong.append(f"{document[2:]}: {crate + '/' if crate else ''}{'.'.join([module] + names)}: {fault}")
-        wrong += [f"{document[2:]}: {crate}::{item}: its source has none of that name" for crate, item in called if item not in items(crate)]
+                wrong.append(f"{document}: {crate + '/' if crate else ''}{'.'.join([module] + names)}: {fault}")
+        wrong += [f"{document}: {crate}::{item}: its source has none of that name" for crate, item in called if item not in items(crate)]
     for line in sorted(set(wrong)):
         print(line)
-    print(f"{count} citations of crates and definitions in {read} documents, {len(set(wrong))} lead nowhere")
+    print(f"{count} citations of crates and definitions in {read} documents and files, {len(set(wrong))} lead nowhere")
     sys.exit(1 if wrong else 0)
 
 

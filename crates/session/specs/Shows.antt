@@ -1,5 +1,5 @@
 -- What a host finds in a session and its storage after some calls, in the words of `rules` alone: what each slice says, read as
--- docs/REPLAY.md lays it out (waiting storage and pool by registrar/Reading and lists/Lists), is what document 01 has the model keep.
+-- docs/REPLAY.md lays it out (waiting storage and pool by registrar/Reading and pool/Lists), is what document 01 has the model keep.
 -- First how spans and lists are read, then the record; that every session and storage that stand for a model (`Rep`) show it is in
 -- Showing. Definitions only. Assumes nothing.
 use mathlib.Core.Path.{_≡_}

@@ -1,4 +1,4 @@
--- `window::choose` meets its contract: each return is one way out of `chosen-by`, and the signed difference, where it is not negative, is the
+-- `choice::choose` meets its contract: each return is one way out of `chosen-by`, and the signed difference, where it is not negative, is the
 -- distance. Assumes nothing.
 use native.Mathlib.Omega.{arith}
 use Rattle.choice.proofs.Difference.{fits, was-less, was-not, read-at-least, reach}

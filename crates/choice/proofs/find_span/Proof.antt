@@ -1,4 +1,4 @@
--- `window::find_span` meets its contract. The invariant: the search from `from` is the search from i, and nothing is found yet. Assumes nothing.
+-- `choice::find_span` meets its contract. The invariant: the search from `from` is the search from i, and nothing is found yet. Assumes nothing.
 use mathlib.Core.Path.{_≡_, sym, _∙_}
 use Prim.Native.Nat.{_≤_, _-_}
 use native.Mathlib.Omega.{arith}

@@ -1,4 +1,4 @@
--- `window::parallelism_of` meets its contract: each return rewrites with the tests that led there. Assumes nothing.
+-- `choice::parallelism_of` meets its contract: each return rewrites with the tests that led there. Assumes nothing.
 use borrow.Author.Needs.{needs}
 use borrow.Author.Tests.{le-ltb, lt-ltb, le-leb, lt-leb}
 use native.Mathlib.Omega.{arith}
