@@ -10,16 +10,9 @@ sys.path.insert(0, str(pathlib.Path(__file__).resolve().parent.parent / "tools")
 import sources
 
 ROW = re.compile(r"^(\| [^|]+ \| )((?:[a-z_]+/[A-Z]\w*(?:\.[\w-]+)?(?:, )?)+)( \| )([\d,]+)( \|)$")
-DEFINITION = re.compile(r"\s*(?:pub )?(?:abbrev|unfoldable|record|data) |\s*(?:abbrev|unfoldable) pub ")
-# What a user is promised: the contracts of these functions, and this record.
-EXPORTED = {
-    "replay": "replay_calls",
-    "host": "order_job",
-    "alone_replay": "guide_replay",
-    "summary": "order_summary",
-    "order_entries": "order_append_new",
-    "job_reply": "answer",
-}
+# What a user is promised: the contracts of the exported functions and of what the program answers, and this record.
+PROMISED = re.compile(r'^pub extern "C" fn \w+\(.*?\n\{', re.S | re.M)
+ANSWER = ("job_reply", re.compile(r"^pub fn answer\(.*?\n\{", re.S | re.M))
 CLAIM = ("laws", "Demand", "Demand")
 
 
@@ -40,9 +33,8 @@ class Words:
                     self.modules[here] = file
         if path.suffix == ".antt":
             for one in sources.declarations(sources.uncommented(text, "--")):
-                if DEFINITION.match(self.lines[one.line - 1]):
-                    for name in [one.name, *one.constructors]:
-                        self.own[name] = one
+                for name in [one.name, *one.constructors]:
+                    self.own[name] = one
 
     def meant(self, words):
         """(file, name) of each definition that one of the words may mean."""
@@ -72,8 +64,9 @@ class Reading:
     def __init__(self, root):
         self.root, self.files, self.reached = root, {}, {}
         todo = [(self.spec(*CLAIM[:2]), CLAIM[2])]
-        for crate, function in EXPORTED.items():
-            todo += self.contract(root / "crates" / crate / "src" / "lib.rt", function)
+        for path in sorted((root / "crates").glob("*/src/lib.rt")):
+            todo += self.contracts(path, PROMISED)
+        todo += self.contracts(root / "crates" / ANSWER[0] / "src" / "lib.rt", ANSWER[1])
         while todo:
             path, name = todo.pop()
             file = self.file(path)
@@ -89,11 +82,9 @@ class Reading:
             self.files[path] = Words(self.root, path)
         return self.files[path]
 
-    def contract(self, path, function):
-        found = re.search(rf"fn {function}\(.*?\n\{{", sources.read(path), re.S)
-        if not found:
-            sys.exit(f"reading: {path} has no function {function}")
-        return list(self.file(path).meant(sources.WORD.findall(found[0])))
+    def contracts(self, path, function):
+        """What the functions' signatures and contracts name."""
+        return [meant for text in function.findall(sources.read(path)) for meant in self.file(path).meant(sources.WORD.findall(text))]
 
     def lines(self, item):
         """The lines of a listed file or definition, which is then no longer missing."""

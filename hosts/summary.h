@@ -14,9 +14,9 @@
 extern "C" {
 #endif
 
-/* Where each part of a summary begins, and how many numbers it has, 195: the average's 32 bits (IEEE 754 binary32),
-   the median, the counts for the parallelisms 0 to 127, and the sums of the counts for 0 to 999,
-   1,000 to 1,999 and so on. */
+/* Where each part of a summary begins, and how many numbers it has, 195: the average's 32 bits
+   (IEEE 754 binary32), the median, the counts for the parallelisms 0 to 127, and the sums of the counts
+   for 0 to 999, 1,000 to 1,999 and so on. */
 #define SUMMARY_AVERAGE 0
 #define SUMMARY_MEDIAN 1
 #define SUMMARY_COUNTS 2

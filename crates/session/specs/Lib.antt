@@ -1,5 +1,5 @@
 -- The session and its storage: what they stand for (Storage, Rep), what a host finds in them (Shows, Showing), one placing (Finding, Placing, Rows, Outputs, PlaceOne), one turn of
--- the cascade (Turn) and the whole of it (Cascade, Settle), and what is noted after it (Noting).
+-- the cascade (PlaceNext) and the whole of it (Cascade, Settle), and what is noted after it (Noting).
 pub mod Storage
 pub mod Rep
 pub mod Shows
