@@ -9,6 +9,7 @@ use Rattle.entries.specs.Entries.{fits}
 use Rattle.buffer.specs.declared.Guide.{Guide}
 use Rattle.buffer.specs.View.{length-of, number-of, Laid}
 use Rattle.buffer.specs.Rows.{most-at}
+use Rattle.buffer.specs.Held.{first-held}
 
 -- span 0 lies within the span storage, the order has room for it, and the new last span's number fits 32 bits
 pub record Fit (g : Guide) (s o : List ℕ) : Type 0 where
@@ -17,6 +18,7 @@ pub record Fit (g : Guide) (s o : List ℕ) : Type 0 where
   pub in-rows : getD (g .window .rows) 0 0 < 32
   pub short : length-of g 0 ≤ g .p + 1
   pub next-short : length-of g 1 ≤ g .p + 1
+  pub held : length-of g 0 ≤ g .held
   pub long : fits s (spans-needed (g .p))
   pub room : fits o (g .written + length-of g 0)
   pub small : g .written + length-of g 0 ≤ most-places
@@ -31,6 +33,7 @@ laid-fit g s o k room small low =
       in-rows = omega (arith, most-at 31 (g .window .rows) 0 (k .below));
       short = most-at (g .p + 1) (g .window .lens) 0 (k .short);
       next-short = most-at (g .p + 1) (g .window .lens) 1 (k .short);
+      held = first-held g s k;
       long = k .long;
       room = room;
       small = small;

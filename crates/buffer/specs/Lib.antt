@@ -2,5 +2,6 @@
 pub mod View
 pub mod Rows
 pub mod Order
+pub mod Held
 pub mod Moves
 pub mod Fit

@@ -3,7 +3,7 @@
 use mathlib.Core.Path.{_≡_, sym, ap, _∙_}
 use mathlib.Core.List.{List, [], _∷_, _++_}
 use mathlib.Core.Logic.{_≢_}
-use Prim.Native.Nat.{ℕ, suc, _+_, _*_, _≤_, _<_}
+use Prim.Native.Nat.{ℕ, suc, _+_, _-_, _*_, _≤_, _<_}
 use native.Mathlib.Decide.{ℕ-discrete}
 use native.Mathlib.Omega.{arith}
 use lib.ListN.{length, getD, set, drop, length-set, length-append, length-drop, List·getD-append}
@@ -18,6 +18,7 @@ use Rattle.buffer.specs.declared.Guide.{Guide}
 use Rattle.buffer.specs.View.{length-of, number-of, start-of, slot, order-of, view, Laid, upto}
 use Rattle.buffer.specs.Rows.{row-ends, spans-put, spans-rotated, distinct-rotated, most-rotated, most-at, most-set, upto-at, upto-rotated, row-length}
 use Rattle.buffer.specs.Order.{order-released, first-released}
+use Rattle.buffer.specs.Held.{sum-longer, sum-rotated}
 
 -- a rotated list: each element is what the next one was, and the last is new
 pub rotated-at : (xs : List ℕ) (y i : ℕ) → i + 1 < length xs → getD (drop 1 xs ++ (y ∷ [])) i 0 ≡ getD xs (i + 1) 0
@@ -33,14 +34,15 @@ rotated-last xs y i h = getD-at (drop 1 xs) y [] 0 i (length-drop 1 xs ∙ omega
 abbrev pub slot-of : Guide → ℕ → ℕ
 slot-of g i = slot g i (length-of g i)
 
-abbrev pub with-window : Guide → Window → ℕ → Guide
-with-window g w n = record { window = w; p = g .p; v = g .v; written = n }
+-- the guide with another window, so many entries written and so many held
+abbrev pub with-window : Guide → Window → ℕ → ℕ → Guide
+with-window g w n m = record { held = m; window = w; p = g .p; v = g .v; written = n }
 
 unfoldable pub longer : Guide → ℕ → Guide
-longer g i = with-window g (record { ids = g .window .ids; lens = set (g .window .lens) i (length-of g i + 1); rows = g .window .rows }) (g .written)
+longer g i = with-window g (record { ids = g .window .ids; lens = set (g .window .lens) i (length-of g i + 1); rows = g .window .rows }) (g .written) (g .held + 1)
 
 unfoldable pub released-guide : Guide → Guide
-released-guide g = with-window g (rotated (g .window)) (g .written + length-of g 0)
+released-guide g = with-window g (rotated (g .window)) (g .written + length-of g 0) (g .held - length-of g 0)
 
 unfoldable pub released-order : Guide → List ℕ → List ℕ → List ℕ
 released-order g s o =
@@ -94,6 +96,7 @@ module _ (g : Guide) (s : List ℕ) (k : Laid g s) where
         below = k .below;
         short = most-set (g .p + 1) (g .window .lens) i _ (omega arith) (k .short);
         numbered = k .numbered;
+        held-is = rw (sum-longer (g .window .lens) i (omega (arith, k .lens-many))) (ap (λ n. n + 1) (k .held-is));
         long = rw (stored-length s (slot-of g i) (held-entry e) (slot-fits i h)) (k .long);
         unassigned = put-unassigned i e hi h;
       }
@@ -130,6 +133,7 @@ module _ (g : Guide) (s : List ℕ) (k : Laid g s) where
         below = most-rotated 31 (g .window .rows) (getD (g .window .rows) 0 0) (most-at 31 (g .window .rows) 0 (k .below)) (k .below);
         short = most-rotated (g .p + 1) (g .window .lens) 0 (omega arith) (k .short);
         numbered = ids-rotated ∙ ap (λ t. upto t 32) (sym first-rotated);
+        held-is = omega (arith, k .held-is, sum-rotated (g .window .lens) (omega (arith, k .lens-many)));
         long = k .long;
         unassigned = λ i j hi hj. go i j hi hj (ℕ-discrete i 31);
       }

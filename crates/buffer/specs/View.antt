@@ -9,6 +9,7 @@ use Rattle.entries.specs.Entries.{row, fits, entry-at, item-of, entry-of}
 use Rattle.rules.specs.Limits.{most-parallelism}
 use Rattle.rules.specs.Checks.{spans-needed}
 use Rattle.rules.specs.Guide.{Item, Entry as OrderEntry, Guide as GuideModel}
+use Rattle.rules.specs.Summary.{sum}
 use Rattle.buffer.specs.declared.Guide.{Guide}
 
 -- where a row of p + 1 entries begins in the span storage
@@ -71,6 +72,7 @@ pub record Laid (g : Guide) (s : List ℕ) : Type 0 where
   pub below : Most 31 (g .window .rows)
   pub short : Most (g .p + 1) (g .window .lens)
   pub numbered : g .window .ids ≡ upto (number-of g 0) 32
+  pub held-is : g .held ≡ sum (g .window .lens)
   pub long : fits s (spans-needed (g .p))
   -- a held entry has no parallelism yet, and 0 in its place
   pub unassigned : (i j : ℕ) → i < 32 → j < length-of g i → (entry-at s (slot g i j)) .parallelism ≡ 0

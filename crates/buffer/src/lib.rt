@@ -6,8 +6,9 @@ ghost use Rattle.buffer.specs.Fit.{Fit};
 ghost use Rattle.buffer.specs.Moves.{released-guide, released-order};
 use window::Window;
 
-// The window, P, V and the count of entries in the order.
+// How many entries the window holds, the window, P, V and the count of entries in the order.
 pub struct Guide {
+    pub held: u32,
     pub window: Window,
     pub p: u32,
     pub v: u32,
@@ -33,9 +34,14 @@ pub fn release(g: Guide, spans: &[u32], order: &mut [u32]) -> Guide
     let b = w.lens[1] as u32;
     let n = g.written as usize;
     entries::append_row(spans, order, start, n, g.p, a, b);
-    let v = window::rotate(w);
-    let mut h = g;
-    h.window = v;
-    h.written = g.written + a;
-    h
+    let next = window::rotate(w);
+    let written = g.written + a;
+    let held = g.held - a;
+    Guide {
+        held: held,
+        window: next,
+        p: g.p,
+        v: g.v,
+        written: written,
+    }
 }

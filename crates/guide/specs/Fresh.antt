@@ -7,6 +7,7 @@ use lib.ListN.{length, take, replicate, getD-replicate}
 use Rattle.rules.specs.Limits.{most-parallelism, most-places}
 use Rattle.rules.specs.Checks.{spans-needed}
 use Rattle.rules.specs.Guide.{fresh, tally, tallied}
+use Rattle.rules.specs.Summary.{sum}
 use Rattle.entries.specs.Entries.{fits}
 use Rattle.buffer.specs.declared.Guide.{Guide}
 use Rattle.buffer.specs.View.{spans-of, order-of, view, Away, Distinct, Most, upto, Laid}
@@ -33,14 +34,14 @@ unfolding Most
 most-zeros k zero = tt
 most-zeros k (suc m) = (omega arith, most-zeros k m)
 
--- numbers 0 to 31, all lengths 0, row i for span i, nothing written
+-- numbers 0 to 31, all lengths 0, row i for span i, nothing held and nothing written
 unfoldable pub first-guide : ℕ → ℕ → Guide
-first-guide p v = record { window = record { ids = upto 0 32; lens = replicate 32 0; rows = upto 0 32 }; p = p; v = v; written = 0 }
+first-guide p v = record { held = 0; window = record { ids = upto 0 32; lens = replicate 32 0; rows = upto 0 32 }; p = p; v = v; written = 0 }
 
 module _ (p v : ℕ) (s o t : List ℕ) (hp : 1 ≤ p) (hq : p ≤ most-parallelism) (hv : v ≤ most-places) (ls : fits s (spans-needed p)) (lo : fits o v) (lt : p < length t)
     (zt : take (p + 1) t ≡ replicate (p + 1) 0) where
   laid : Laid (first-guide p v) s
-  unfolding first-guide upto
+  unfolding first-guide upto sum
   laid =
       record {
         one = hp;
@@ -51,6 +52,7 @@ module _ (p v : ℕ) (s o t : List ℕ) (hp : 1 ≤ p) (hq : p ≤ most-parallel
         below = most-upto 31 0 32 (omega arith);
         short = most-zeros (p + 1) 32;
         numbered = refl;
+        held-is = refl;
         long = ls;
         unassigned = λ i j hi hj. absurd (omega (arith, getD-replicate {A = ℕ} 32 i 0 0 hi));
       }

@@ -97,6 +97,7 @@ pub fn fresh(p: u32, v: u32) -> Guide
         rows: rows,
     };
     Guide {
+        held: 0,
         window: w,
         p: p,
         v: v,

@@ -51,11 +51,12 @@ pub done-as : (g r : Guide) (s o t s′ o′ t′ : List ℕ) (b b′ : GuideMod
 done-as g r s o t s′ o′ t′ b b′ e d = record { stands = d .stands; is = d .is ∙ e; same-p = d .same-p; same-v = d .same-v; frame = d .frame }
 
 -- and keep P and V
-pub done-here : (g r : Guide) (s o t s′ o′ t′ : List ℕ) (b : GuideModel) → Done g r s o t s′ o′ t′ b → Done g (with-window g (r .window) (r .written)) s o t s′ o′ t′ b
-done-here g r s o t s′ o′ t′ b d =
-    let e : r ≡ with-window g (r .window) (r .written) =
-    (ap (λ p. record { window = r .window; p = p; v = r .v; written = r .written }) (d .same-p) ∙ ap (λ v. record { window = r .window; p = g .p; v = v; written = r .written }) (d .same-v)) in
-    subst (λ (x : Guide). Done g x s o t s′ o′ t′ b) e d
+pub done-here : (g r : Guide) (s o t s′ o′ t′ : List ℕ) (b : GuideModel) → Done g r s o t s′ o′ t′ b
+    → Done g (with-window g (r .window) (r .written) (r .held)) s o t s′ o′ t′ b
+done-here g r s o t s′ o′ t′ b d = subst (λ (x : Guide). Done g x s o t s′ o′ t′ b) (ap (λ p. with p (r .v)) (d .same-p) ∙ ap (λ v. with (g .p) v) (d .same-v)) d
+  where
+    with : ℕ → ℕ → Guide
+    with p v = record { held = r .held; window = r .window; p = p; v = v; written = r .written }
 
 pub release-done : (g r : Guide) (s o o′ t t′ : List ℕ) → Stands g s o t → g .written + length-of g 0 ≤ g .v
     → r ≡ released-guide g → o′ ≡ released-order g s o
@@ -150,7 +151,7 @@ module _ (g : Guide) (s s′ o t : List ℕ) (i : ℕ) (e : Entry) (k : Stands g
   put-kept lt = done-as g (longer g i) s o t s′ o t put-in settled (sym (settle-kept (g .p) (length-of g i + 1) put-in lt)) put-is
 
   pub put-gone : (r : Guide) (o′ t′ : List ℕ) → g .p ≤ length-of g i + 1 → Done (longer g i) r s′ o t s′ o′ t′ (release (g .p) 1 (view (longer g i) s′ o))
-      → Done g (with-window g (r .window) (r .written)) s o t s′ o′ t′ settled
+      → Done g (with-window g (r .window) (r .written) (r .held)) s o t s′ o′ t′ settled
   put-gone r o′ t′ ge f =
       let b = release (g .p) 1 (view (longer g i) s′ o) in
       done-here g r s o t s′ o′ t′ settled

@@ -18,7 +18,7 @@ use Rattle.placing.specs.Done.{Done, done-here, done-as, done-then, put-
 
 -- the guide with an entry stored as the first of its last span
 abbrev pub begun : Guide → Guide → Guide
-begun g h = with-window g (record { ids = h .window .ids; lens = set (h .window .lens) 31 1; rows = h .window .rows }) (h .written)
+begun g h = with-window g (record { ids = h .window .ids; lens = set (h .window .lens) 31 1; rows = h .window .rows }) (h .written) (h .held + 1)
 
 module _ (g h : Guide) (s o o′ t t′ : List ℕ) (n : ℕ) (k : Laid g s) (hn : 1 ≤ n) (d : Done g h s o t s o′ t′ (release (g .p) n (view g s o))) where
   abbrev b : GuideModel
@@ -34,17 +34,17 @@ module _ (g h : Guide) (s o o′ t t′ : List ℕ) (n : ℕ) (k : Laid g s) (hn
   opened-number =
       omega (arith, number-view h s o′ (d .stands .laid) 31 (omega arith), number-view g s o k 31 (omega arith), ap (λ x. x .first) (d .is), release-first (g .p) n (view g s o))
 
-  here : Done g (with-window g (h .window) (h .written)) s o t s o′ t′ b
+  here : Done g (with-window g (h .window) (h .written) (h .held)) s o t s o′ t′ b
   here = done-here g h s o t s o′ t′ b d
 
   pub opened-slot : has-entry s (row-start (getD (h .window .rows) 31 0) (g .p))
-  opened-slot = omega (arith, slot-fits (with-window g (h .window) (h .written)) s (here .stands .laid) 31 (omega (arith, opened-empty)), opened-empty)
+  opened-slot = omega (arith, slot-fits (with-window g (h .window) (h .written) (h .held)) s (here .stands .laid) 31 (omega (arith, opened-empty)), opened-empty)
 
   pub open-put : (s′ : List ℕ) (e : Entry) → s′ ≡ with-entry s (row-start (getD (h .window .rows) 31 0) (g .p)) (held-entry e)
       → Done g (begun g h) s o t s′ o′ t′ (put 31 (item-of e) b)
   unfolding longer put-spans
   open-put s′ e es =
-      let h′ = with-window g (h .window) (h .written) in
+      let h′ = with-window g (h .window) (h .written) (h .held) in
       let z = opened-empty in
       let es′ : s′ ≡ put-spans h′ s 31 e = rw (z, add-zero) es in
       let f : Done h′ (begun g h) s o′ t′ s′ o′ t′ (put 31 (item-of e) (view h′ s o′)) =

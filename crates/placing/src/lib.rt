@@ -29,9 +29,9 @@ pub fn open_spans(g: Guide, spans: &[u32], order: &mut [u32], tally: &mut [u32],
     requires { ⌜ (1 ≤ n) × (n ≤ 2) ⌝ }
     ensures { λ r. ⌜ Becomes g r spans order tally (release (g .p) n) ⌝ }
 {
-    let h = release_one(g, spans, order, tally);
+    let mut h = release_one(g, spans, order, tally);
     if n == 2 {
-        return release_one(h, spans, order, tally);
+        h = release_one(h, spans, order, tally);
     }
     h
 }

@@ -18,10 +18,11 @@ pub struct Pushed {
 }
 
 // A guide of these parts.
-fn guide_of(window: Window, p: u32, v: u32, written: u32) -> Guide
-    ensures { λ r. ⌜ r ≡ record { window = window; p = p; v = v; written = written } ⌝ }
+fn guide_of(held: u32, window: Window, p: u32, v: u32, written: u32) -> Guide
+    ensures { λ r. ⌜ r ≡ record { held = held; window = window; p = p; v = v; written = written } ⌝ }
 {
     Guide {
+        held: held,
         window: window,
         p: p,
         v: v,
@@ -53,13 +54,16 @@ pub fn place_existing(
     let start = buffer::row_start(w.rows[i], p);
     entries::store_held(spans, start + q as usize, e);
     w.lens[i] = (q + 1) as u16;
+    let mut held = g.held + 1;
     if p <= q + 1 {
-        let h = placing::release_one(guide_of(w, p, g.v, n), spans, order, tally);
+        let h = placing::release_one(guide_of(held, w, p, g.v, n), spans, order, tally);
+        held = h.held;
         w = h.window;
         n = h.written;
     }
     Pushed {
         guide: Guide {
+            held: held,
             window: w,
             p: p,
             v: g.v,
@@ -91,8 +95,10 @@ pub fn place_opened(
     let at = w.ids[window::LAST];
     entries::store_held(spans, buffer::row_start(w.rows[window::LAST], p), e);
     w.lens[window::LAST] = 1;
+    let held = h.held + 1;
     Pushed {
         guide: Guide {
+            held: held,
             window: w,
             p: p,
             v: g.v,

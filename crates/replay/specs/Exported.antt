@@ -13,9 +13,12 @@ use Rattle.call_list.specs.Replay.{Replays}
 abbrev pub by-number : ℕ → ℕ → ℕ
 by-number n count = unless-refused n n (reply-radix * count)
 
--- the order's length
+-- what is told of the session: the order's length, and how many entries the window holds
 abbrev pub written : Session → ℕ
 written s = s .guide .written
+
+abbrev pub held : Session → ℕ
+held s = s .guide .held
 
 -- r tells, of the session after the calls, the count that a host is told
 pub record Exported (count : Session → ℕ) (P N : ℕ) (l : List ℕ) (r : ℕ) (σ τ : Storage) (out out′ : List ℕ) : Type 0 where

@@ -1,2 +1,2 @@
--- What the exported call promises.
+-- What the exported calls promise.
 pub mod Exported

@@ -1,9 +1,10 @@
--- The session and its storage: what they stand for (Storage, Rep), what a host finds in them (Shows, Showing), one placing (Finding, Placing, Rows, Outputs, PlaceOne), one turn of
+-- The session and its storage: what they stand for (Storage, Rep), what a host finds in them (Shows, Showing, Poll), one placing (Finding, Placing, Rows, Outputs, PlaceOne), one turn of
 -- the cascade (PlaceNext) and the whole of it (Cascade, Settle), and what is noted after it (Noting).
 pub mod Storage
 pub mod Rep
 pub mod Shows
 pub mod Showing
+pub mod Poll
 pub mod Parts
 pub mod Rows
 pub mod Outputs

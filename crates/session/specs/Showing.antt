@@ -1,10 +1,11 @@
 -- A session and storage that stand for a model show it. Assumes nothing.
-use mathlib.Core.Path.{_≡_, sym, ap, _∙_}
-use mathlib.Core.List.{List, [], map}
+use mathlib.Core.Path.{_≡_, refl, sym, ap, _∙_}
+use mathlib.Core.List.{List, [], _∷_, map}
 use Prim.Native.Nat.{ℕ, _+_, _<_}
 use native.Mathlib.Omega.{arith}
 use lib.ListN.{length, getD}
-use Rattle.rules.specs.Guide.{Item, Guide as GuideModel}
+use Rattle.rules.specs.Guide.{Item, Guide as GuideModel, held}
+use Rattle.rules.specs.Summary.{sum}
 use Rattle.rules.specs.Model.{Model, reg-of}
 use Rattle.rules.specs.Checks.{pooled}
 use Rattle.rules.specs.Record.{location-of}
@@ -19,6 +20,11 @@ use Rattle.session.specs.Storage.{Storage}
 use Rattle.session.specs.Rep.{Rep}
 use Rattle.session.specs.Parts.{tally-is}
 use Rattle.session.specs.Shows.{span-in, lists-in, Shows}
+
+held-sum : (ss : List (List Item)) → sum (map length ss) ≡ held ss
+unfolding sum held
+held-sum [] = refl
+held-sum (s ∷ ss) = ap (λ n. length s + n) (held-sum ss)
 
 module _ (P N : ℕ) (k : Model) (s : Session) (σ : Storage) (R : Rep P N k s σ) where
   guide-is : view (s .guide) (σ .spans) (σ .order) ≡ k .guide
@@ -38,6 +44,12 @@ module _ (P N : ℕ) (k : Model) (s : Session) (σ : Storage) (R : Rep P N k s �
 
   same-many : length (s .guide .window .rows) ≡ length (s .guide .window .lens)
   same-many = R .core .guided .stands .laid .rows-many ∙ sym (R .core .guided .stands .laid .lens-many)
+
+  lengths-are : s .guide .window .lens ≡ map length (k .guide .spans)
+  lengths-are = sym (spans-lengths P (σ .spans) (s .guide .window .rows) (s .guide .window .lens) same-many) ∙ ap (λ (x : List (List Item)). map length x) spans-are
+
+  pub held-are : s .guide .held ≡ held (k .guide .spans)
+  held-are = R .core .guided .stands .laid .held-is ∙ ap sum lengths-are ∙ held-sum (k .guide .spans)
 
   lists-are : (r : ℕ) → r < length (k .adds) → lists-in (σ .waiting) (σ .pool) N (s .added) (s .used) r ≡ reg-of k r
   unfolding lists-in
@@ -62,7 +74,8 @@ module _ (P N : ℕ) (k : Model) (s : Session) (σ : Storage) (R : Rep P N k s �
         marks = R .core .tracked .places .at;
         locations = R .core .tracked .places .place-of;
         numbers = R .core .guided .stands .laid .numbered ∙ ap (λ (n : ℕ). upto n 32) first-is;
-        lengths = sym (spans-lengths P (σ .spans) (s .guide .window .rows) (s .guide .window .lens) same-many) ∙ ap (λ (x : List (List Item)). map length x) spans-are;
+        lengths = lengths-are;
+        held = held-are;
         spans = λ i h.
             sym (spans-at P (σ .spans) (s .guide .window .rows) (s .guide .window .lens) i same-many) ∙ ap (λ (x : List (List Item)). getD x i []) spans-are;
         unassigned = none-assigned;

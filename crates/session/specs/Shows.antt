@@ -6,7 +6,7 @@ use mathlib.Core.Path.{_≡_}
 use mathlib.Core.List.{List, [], map}
 use Prim.Native.Nat.{ℕ, _+_, _-_, _<_}
 use lib.ListN.{length, getD, take}
-use Rattle.rules.specs.Guide.{Item, tally as tally-of}
+use Rattle.rules.specs.Guide.{Item, held as held-of, tally as tally-of}
 use Rattle.rules.specs.Model.{Model, Reg, reg-of, registrations as registrations-of, watermark as watermark-of}
 use Rattle.rules.specs.Record.{mark-of, location-of, row-of}
 use Rattle.window.specs.declared.Window.{Window}
@@ -41,9 +41,10 @@ pub record Shows (P N : ℕ) (k : Model) (s : Session) (σ : Storage) : Type 0 w
   pub rows : (r : ℕ) → r < N → row-at (σ .rows) r ≡ row-of k r
   pub marks : (x : ℕ) → x < N → getD (σ .marks) x 0 ≡ mark-of k x
   pub locations : (x : ℕ) → x < N → getD (σ .locations) x 0 ≡ location-of k x
-  -- the window: its 32 span numbers, their lengths, and what each span holds
+  -- the window: its 32 span numbers, their lengths and the sum of these, and what each span holds
   pub numbers : s .guide .window .ids ≡ upto (k .guide .first) 32
   pub lengths : s .guide .window .lens ≡ map length (k .guide .spans)
+  pub held : s .guide .held ≡ held-of (k .guide .spans)
   pub spans : (i : ℕ) → i < 32 → span-in P (s .guide .window) (σ .spans) i ≡ getD (k .guide .spans) i []
   -- a held entry has no parallelism yet: 0 stands there
   pub unassigned : (i j : ℕ) → i < 32 → j < getD (s .guide .window .lens) i 0

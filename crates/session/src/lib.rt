@@ -9,6 +9,7 @@ ghost use Rattle.session.specs.Storage.{given, across};
 ghost use Rattle.session.specs.PlaceNext.{MayPlace, PlacesOne, MayPlaceNext, PlacesNext};
 ghost use Rattle.session.specs.Settle.{MaySettle, Settles};
 ghost use Rattle.session.specs.PlaceOne.{MayFind, Finds};
+ghost use Rattle.session.specs.Poll.{Polls};
 use buffer::Guide;
 use entries::Entry;
 
@@ -27,6 +28,14 @@ pub struct Session {
     // fixed by final
     pub registrations: u32,
     pub places: u32,
+}
+
+// How many entries the window holds: a poll, which reads no storage.
+pub fn held(s: Session) -> u32
+    ensures polls { λ r. ⌜ Polls s r ⌝ }
+    ensures kept { λ r. ⌜ r ≡ s .guide .held ⌝ }
+{
+    s.guide.held
 }
 
 // What placing a registration reads of its lists: whether it has inputs, the greatest location of them, and the n outputs, which lie in

@@ -53,8 +53,11 @@ append-row-requires c κs =
 rotate-requires : tie.Need-rotate-requires
 rotate-requires c κs = search needs
 
-add-h : tie.Need-add-h
-add-h c = search needs
+add-written : tie.Need-add-written
+add-written c = search needs
+
+sub-held : tie.Need-sub-held
+sub-held c = search needs
 
 same-length : tie.Need-same-length
 same-length c = search needs
@@ -62,8 +65,8 @@ same-length c = search needs
 returns : tie.Need-returns
 unfolding released-guide released-order
 returns c =
-    let after-append-row = c .before .before .before .before in
-    (rw (c .before .rotate .ensures), rw (to-row-start (after-append-row .before) .row-start .ensures) at (after-append-row .append-row .ensures))
+    let after-append-row = c .before .before .before .before .before in
+    (rw (c .before .before .rotate .ensures), rw (to-row-start (after-append-row .before) .row-start .ensures) at (after-append-row .append-row .ensures))
 
 pub release-spec : {M : Type 1} → statement M
 release-spec =
@@ -78,6 +81,7 @@ release-spec =
     cast-n
     append-row-requires
     rotate-requires
-    add-h
+    add-written
+    sub-held
     same-length
     returns)

@@ -8,22 +8,23 @@ use Rattle.buffer.specs.Moves.{slot-of, longer, put-spans, slot-fits}
 use Rattle.rules.specs.Guide.{release}
 use Rattle.buffer.specs.declared.Guide.{Guide}
 use Rattle.buffer.specs.View.{view}
+use Rattle.buffer.specs.Held.{held-few}
 use Rattle.placing.specs.Stands.{Stands}
 use Rattle.placing.specs.Done.{Done, Free, put-is, put-kept, put-gone, longer-free}
 use borrow.Author.Needs.{needs}
 use Rattle.putting.proofs.place_existing.Statement.{statement}
 use Rattle.putting.proofs.place_existing.Tie as tie
 
--- places: the start, seen from where the length is read; that, seen from the store; the store, seen from the branch; the branch, seen
--- from the release; that, seen from the end
+-- places: the start, seen from where the length is read; that, seen from the store; the store, seen from the new total; the branch,
+-- seen from the release; that, seen from the end
 abbrev start : tie.After-at → tie.Start
 start c = c .before .before .before .before .before
 
 abbrev begun : tie.After-store-held-arg → tie.After-at
 begun c = c .before .before .before .before
 
-abbrev stored : tie.After-slice-known4 → tie.After-store-held
-stored c = c .before .before
+abbrev stored : tie.After-struct-known → tie.After-store-held
+stored c = c .before .before .before
 
 abbrev made : tie.After-release-one-arg3 → tie.After-guide-of
 made c = c .before .before .before
@@ -82,6 +83,12 @@ mul-w c = search needs
 
 element-write-w : tie.Need-element-write-w
 element-write-w c = search needs
+
+-- one more than the window held fits 32 bits
+add-held : tie.Need-add-held
+add-held c =
+    let s = start (begun (stored c .before)) in
+    omega (arith, held-few (s .args .g) (now (s .args .spans)) (s .pre .0 .laid), s .pre .0 .laid .few)
 
 add-if1 : tie.Need-add-if1
 add-if1 c = search needs
@@ -163,6 +170,7 @@ place-existing-spec =
     cast-w
     mul-w
     element-write-w
+    add-held
     add-if1
     guide-of-requires
     release-one-requires

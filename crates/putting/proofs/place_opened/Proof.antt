@@ -1,9 +1,11 @@
 -- `putting::place_opened` meets its contract: the spans opened, and the put into the new last one. Assumes nothing.
 use lib.ListN.{getD}
 use mathlib.Core.Path.{refl}
+use native.Mathlib.Omega.{arith}
 use denote.Ref.{now}
 use Rattle.entries.specs.Entries.{has-entry}
 use Rattle.buffer.specs.View.{row-start}
+use Rattle.buffer.specs.Held.{held-few}
 use Rattle.placing.specs.Opened.{opened-number, opened-slot, open-put}
 use borrow.Author.Needs.{needs}
 use Rattle.putting.proofs.place_opened.Statement.{statement}
@@ -47,6 +49,14 @@ store-held-requires c κs = rw (c .row-start .ensures) (slot-there (opened (begu
 element-write-w : tie.Need-element-write-w
 element-write-w c = search needs
 
+-- one more than the window held fits 32 bits
+add-held : tie.Need-add-held
+add-held c =
+    let o = opened (begun (c .before .before .before .before)) in
+    let s = start (o .before .before) in
+    let laid = o .open-spans .ensures .stands .laid in
+    omega (arith, held-few (o .open-spans .result) (now (s .args .spans)) laid, laid .few)
+
 same-length : tie.Need-same-length
 same-length c = search needs
 
@@ -58,7 +68,7 @@ same-length-3 c = search needs
 
 returns : tie.Need-returns
 returns c =
-    let stored = c .before .before in
+    let stored = c .before .before .before in
     let u = stored .store-held in
     let o = opened (begun (stored .before)) in
     let r = o .open-spans in
@@ -83,6 +93,7 @@ place-opened-spec =
     row-start-requires
     store-held-requires
     element-write-w
+    add-held
     same-length
     same-length-2
     same-length-3
