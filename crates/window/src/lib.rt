@@ -10,11 +10,11 @@ pub const SPANS: usize = 32;
 
 pub const LAST: usize = SPANS - 1;
 
-// The 32 spans: their numbers, their lengths, and the row of the span storage that each has.
+// The 32 spans: their numbers, the row of the span storage that each has, and their lengths.
 pub struct Window {
     pub ids: [u32; SPANS],
-    pub lens: [u16; SPANS],
     pub rows: [u8; SPANS],
+    pub lens: [u16; SPANS],
 }
 
 // The array with its first element gone and x at the end, at three widths.
