@@ -16,7 +16,7 @@ ITEM = re.compile(r"([a-z][a-z0-9_]*)::(\w+)$")
 CRATES = re.compile(r"\bcrates?\s+`?([a-z][a-z0-9_]*(?:(?:,\s*|\s+and\s+)[a-z][a-z0-9_]*)*)")
 BOLD = re.compile(r"\*\*([a-z][a-z0-9_]*)\*\*")
 PATH = re.compile(r"\bcrates/([a-z][a-z0-9_]*)")
-PLAIN = re.compile(r"(?<![\w/`])([a-z][a-z0-9_]*)/([A-Z][A-Za-z0-9]*)\b(?!\.md)")
+PLAIN = re.compile(r"(?<![\w/`])([a-z][a-z0-9_]*)/([A-Z][A-Za-z0-9]*)\b(?![\w-]*\.md)")
 # Words that follow `crate` without naming one.
 WORDS = set("""a above all an and are as at below beside by can come do each for from had has have hard holds if in into is it its
     may must need needs not of on once one or over own so stand stands than that the their then there they this to under
