@@ -1,6 +1,6 @@
-/* Host code, not proved: the declaration of the proved call of crate `replay`.
+/* Host code, not proved: the declarations of the proved calls of crate `replay`.
    A whole list of calls on a freshly opened session.
-   `tools/archives replay` proves it and writes target/staticlib/libreplay.a; hosts/replay_example.c
+   `tools/archives replay` proves them and writes target/staticlib/libreplay.a; hosts/replay_example.c
    shows a call, hosts/replay_storage.h lays the storage out in one block of memory. docs/REPLAY.md
    describes the encoding of the calls. */
 #ifndef REPLAY_H
@@ -36,11 +36,11 @@ extern "C" {
 #define REPLAY_WRITTEN ORDER_MARK_WRITTEN
 #define REPLAY_SET ORDER_MARK_SET
 
-/* Opens a session on the lent storage, whose contents before do not matter, and makes all calls.
-   Each slice is a pointer and a count of numbers; slices do not overlap, and no pointer is null,
-   also where the count is 0. Returns 64 times the order's length in entries, or the number of a
-   refusal, and then nothing was written: 15 for a malformed list of calls, 1 for a P or V out of
-   range, 2 for a slice that is too short.
+/* What both calls below do. Opens a session on the lent storage, whose contents before do not matter,
+   and makes all calls. Each slice is a pointer and a count of numbers; slices do not overlap, and no
+   pointer is null, also where the count is 0. Returns 64 times a count, or the number of a refusal,
+   and then nothing was written: 15 for a malformed list of calls, 1 for a P or V out of range, 2 for a
+   slice that is too short.
 
    spans, waiting, pool   the session's own
    order                  4 numbers an entry: value, added, accepted, parallelism
@@ -48,17 +48,24 @@ extern "C" {
    rows                   5 numbers a registration: added, accepted, written, order index, parallelism
    marks, locations       for each place; a location is its span number * 2^32 + its position
    answers                the number of each call, 0 if it was accepted; one for each call is needed */
-uint64_t replay_calls(uint32_t *spans, size_t spans_count,
-                      uint32_t *order, size_t order_count,
-                      uint32_t *tally, size_t tally_count,
-                      uint32_t *rows, size_t rows_count,
-                      uint16_t *marks, size_t marks_count,
-                      uint64_t *locations, size_t locations_count,
-                      uint64_t *waiting, size_t waiting_count,
-                      uint32_t *pool, size_t pool_count,
-                      uint64_t *answers, size_t answers_count,
-                      const uint64_t *calls, size_t calls_count,
-                      uint64_t p, uint64_t v);
+typedef uint64_t replay_function(uint32_t *spans, size_t spans_count,
+                                 uint32_t *order, size_t order_count,
+                                 uint32_t *tally, size_t tally_count,
+                                 uint32_t *rows, size_t rows_count,
+                                 uint16_t *marks, size_t marks_count,
+                                 uint64_t *locations, size_t locations_count,
+                                 uint64_t *waiting, size_t waiting_count,
+                                 uint32_t *pool, size_t pool_count,
+                                 uint64_t *answers, size_t answers_count,
+                                 const uint64_t *calls, size_t calls_count,
+                                 uint64_t p, uint64_t v);
+
+/* Returns 64 times the order's length in entries. */
+replay_function replay_calls;
+
+/* Writes what replay_calls writes, and returns 64 times the entries that the window's 32 spans hold after
+   the calls: those placed and not yet in the order. 0 after a flush or final; who waits is not counted. */
+replay_function replay_held;
 
 #ifdef __cplusplus
 }

@@ -1,4 +1,5 @@
-/* Host code, not proved: the storage of a session in one block of memory, around the proved replay_calls.
+/* Host code, not proved: the storage of a session in one block of memory, around the proved replay_calls
+   and replay_held.
 
        size_t bytes = replay_storage_bytes(p, v, w);           0: no session is that large
        void *memory = malloc(bytes);
@@ -123,14 +124,11 @@ static inline struct replay_storage replay_storage_in(void *memory, uint64_t p, 
     return replay_storage_within(memory, replay_storage_bytes(p, v, w), p, v, w);
 }
 
-/* Opens a session on the storage and makes all calls; each call's number, 0 if it was accepted, goes to
-   `answers`, of which one for each call is needed. Returns what replay_calls returns, 64 times the
-   order's length or the number of a refusal; besides, the refusal of a storage that could not be laid
-   out, ORDER_TOO_SHORT for null answers and ORDER_MALFORMED for null calls (unless their count is 0).
-   A storage may be run again; each run opens a session afresh. */
-static inline uint64_t replay_run(struct replay_storage *storage, const uint64_t *calls, size_t calls_count,
-                                  uint64_t *answers, size_t answers_count) {
-    uint64_t nothing = 0, returned;
+/* What replay_run and replay_run_held have in common: `function` is called on the storage, if there is any. */
+static inline uint64_t replay_run_by(replay_function *function, struct replay_storage *storage,
+                                     const uint64_t *calls, size_t calls_count,
+                                     uint64_t *answers, size_t answers_count) {
+    uint64_t nothing = 0;
     if (storage == NULL)
         return ORDER_TOO_SHORT;
     storage->entries = 0;
@@ -140,15 +138,36 @@ static inline uint64_t replay_run(struct replay_storage *storage, const uint64_t
         return ORDER_MALFORMED;
     if (answers == NULL && answers_count > 0)
         return ORDER_TOO_SHORT;
-    returned = replay_calls(
+    return function(
         storage->spans, REPLAY_SPANS(storage->p), storage->order, REPLAY_ORDER(storage->v),
         storage->tally, REPLAY_TALLY(storage->p), storage->rows, REPLAY_ROWS(storage->v),
         storage->marks, REPLAY_MARKS(storage->v), storage->locations, REPLAY_LOCATIONS(storage->v),
         storage->waiting, REPLAY_WAITING(storage->v), storage->pool, storage->pool_count,
         answers == NULL ? &nothing : answers, answers_count,
         calls == NULL ? &nothing : calls, calls_count, storage->p, storage->v);
+}
+
+/* Opens a session on the storage and makes all calls; each call's number, 0 if it was accepted, goes to
+   `answers`, of which one for each call is needed. Returns what replay_calls returns, 64 times the
+   order's length or the number of a refusal; besides, the refusal of a storage that could not be laid
+   out, ORDER_TOO_SHORT for null answers and ORDER_MALFORMED for null calls (unless their count is 0).
+   A storage may be run again; each run opens a session afresh. */
+static inline uint64_t replay_run(struct replay_storage *storage, const uint64_t *calls, size_t calls_count,
+                                  uint64_t *answers, size_t answers_count) {
+    uint64_t returned = replay_run_by(replay_calls, storage, calls, calls_count, answers, answers_count);
     if (returned % ORDER_REPLY_RADIX == ORDER_ACCEPTED)
         storage->entries = (size_t)(returned / ORDER_REPLY_RADIX);
+    return returned;
+}
+
+/* The same run, but what is returned is that of replay_held: 64 times the entries that the window's spans
+   hold after the calls. The results are read as after replay_run; the order is as long as the tally says. */
+static inline uint64_t replay_run_held(struct replay_storage *storage, const uint64_t *calls, size_t calls_count,
+                                       uint64_t *answers, size_t answers_count) {
+    uint64_t returned = replay_run_by(replay_held, storage, calls, calls_count, answers, answers_count);
+    if (returned % ORDER_REPLY_RADIX == ORDER_ACCEPTED)
+        for (size_t i = 0; i < REPLAY_TALLY(storage->p); i++)
+            storage->entries += storage->tally[i];
     return returned;
 }
 

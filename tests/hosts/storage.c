@@ -100,6 +100,28 @@ static void look_at_runs(char *memory, size_t offset) {
         look(memory[i] == 0x5a, "the bytes behind the block stay");
 }
 
+/* What the window holds after each beginning of the list; two blocks of memory, one for each call, are the same
+   afterwards. */
+static void look_at_held(void) {
+    static const size_t ends[MADE] = {2, 4, 9, 14, 19, 20, 24, 25};
+    static const uint64_t held[MADE] = {0, 0, 1, 2, 3, 0, 1, 0};
+    static char block[100000], other[sizeof block];
+    uint64_t answers[MADE], others[MADE];
+    struct replay_storage s = replay_storage_in(block, P, V, W), t = replay_storage_in(other, P, V, W);
+    look(replay_run_held(&s, NULL, 0, NULL, 0) == 0 && s.entries == 0, "a fresh window holds nothing");
+    for (size_t made = 1; made <= MADE; made++) {
+        size_t count = ends[made - 1];
+        memset(block, 0x5a, sizeof block);
+        memset(other, 0x5a, sizeof other);
+        look(replay_run_held(&s, calls, count, answers, made) == 64 * held[made - 1], "so much is held");
+        look(replay_run(&t, calls, count, others, made) % 64 == 0 && t.entries == s.entries, "the order's length");
+        look(memcmp(answers, others, made * sizeof *answers) == 0, "both calls answer the same");
+        look(memcmp(block, other, sizeof block) == 0, "both calls write the same");
+    }
+    look_at_results(&s);
+    look_at_counts(&s);
+}
+
 /* Sizes that no session has, and blocks that are too short. */
 static void look_at_sizes(void) {
     static char block[100000];
@@ -120,27 +142,30 @@ static void look_at_sizes(void) {
     look(replay_storage_within(block, bytes, P, V, W).refusal == ORDER_ACCEPTED, "bytes enough are accepted");
 }
 
+/* replay_run or replay_run_held. */
+typedef uint64_t running(struct replay_storage *, const uint64_t *, size_t, uint64_t *, size_t);
+
 /* Runs that are refused: nothing is written, and without storage all reads as 0. */
-static void look_at_refused_runs(void) {
+static void look_at_refused_runs(running *run) {
     static char block[100000];
     uint64_t answers[MADE];
     struct replay_summary summary;
     struct replay_storage none = replay_storage_in(NULL, P, V, W), s = replay_storage_in(block, P, V, W);
-    look(replay_run(&none, calls, CALLS, answers, MADE) == ORDER_TOO_SHORT, "a run without storage is refused");
-    look(replay_run(NULL, calls, CALLS, answers, MADE) == ORDER_TOO_SHORT, "a run on null is refused");
+    look(run(&none, calls, CALLS, answers, MADE) == ORDER_TOO_SHORT, "a run without storage is refused");
+    look(run(NULL, calls, CALLS, answers, MADE) == ORDER_TOO_SHORT, "a run on null is refused");
     look(replay_summary_of(&none, &summary) == ORDER_TOO_SHORT, "a summary without storage is refused");
     look(replay_entry_at(&none, 0).parallelism == 0 && replay_row_at(&none, 0).parallelism == 0 &&
          replay_tally_at(&none, 0) == 0 && replay_mark_at(&none, 0) == 0 && replay_location_at(&none, 0).span == 0,
          "without storage all is 0");
     memset(block, 0x5a, sizeof block);
-    look(replay_run(&s, calls, CALLS, answers, MADE - 1) == ORDER_TOO_SHORT, "an answer less is refused");
-    look(replay_run(&s, calls, CALLS, NULL, MADE) == ORDER_TOO_SHORT, "null answers are refused");
-    look(replay_run(&s, NULL, CALLS, answers, MADE) == ORDER_MALFORMED, "null calls are refused");
-    look(replay_run(&s, calls, CALLS - 2, answers, MADE) == ORDER_MALFORMED, "a call cut short is refused");
+    look(run(&s, calls, CALLS, answers, MADE - 1) == ORDER_TOO_SHORT, "an answer less is refused");
+    look(run(&s, calls, CALLS, NULL, MADE) == ORDER_TOO_SHORT, "null answers are refused");
+    look(run(&s, NULL, CALLS, answers, MADE) == ORDER_MALFORMED, "null calls are refused");
+    look(run(&s, calls, CALLS - 2, answers, MADE) == ORDER_MALFORMED, "a call cut short is refused");
     look(s.entries == 0, "after a refused run there is no entry");
     for (size_t i = 0; i < sizeof block; i++)
         look(block[i] == 0x5a, "a refused run writes nothing");
-    look(replay_run(&s, NULL, 0, NULL, 0) == 0 && s.entries == 0, "no calls at all are accepted");
+    look(run(&s, NULL, 0, NULL, 0) == 0 && s.entries == 0, "no calls at all are accepted");
 }
 
 /* G2 of document 01: a value after nothing, one after it, and a third after a location that is not held. */
@@ -188,8 +213,10 @@ int main(void) {
     for (size_t offset = 16; memory != NULL && offset < 24; offset++)
         look_at_runs(memory, offset);
     free(memory);
+    look_at_held();
     look_at_sizes();
-    look_at_refused_runs();
+    look_at_refused_runs(replay_run);
+    look_at_refused_runs(replay_run_held);
     look_at_guide();
     look_at_others();
     return wrong;

@@ -124,12 +124,26 @@ class Lists(unittest.TestCase):
         self.assertEqual(order.replay(2, 4, calls).numbers, [0, 8, 5, 0, 7])
         self.assertEqual(order.replay(2, 4, order.Calls().add([], [0, 1]), pool=1).numbers, [10])
 
+    def test_held(self):
+        """The accepted adds are in the order, in the window or waiting; J1 by its beginnings, and two that wait."""
+        steps = [("set", 0), ("add", [0], [1]), ("add", [1], [2]), ("add", [0], [3]), ("add", [], [4]), ("final",)]
+        calls, found = order.Calls(), [order.held(2, 6, order.Calls())]
+        for name, *places in steps:
+            getattr(calls, name)(*places)
+            found.append(order.held(2, 6, calls))
+            accepted = order.replay(2, 6, calls).length + found[-1]
+            self.assertEqual(accepted, sum(step[0] == "add" for step in steps[: calls.count]))
+        self.assertEqual(found, [0, 0, 1, 2, 3, 2, 0])
+        self.assertEqual(order.held(2, 6, order.Calls().add([5], [1]).add([5], [2]).add([], [0]).set(0)), 1)
+        self.assertEqual(order.held(2, 6, order.Calls().add([], [0, 1]).add([], [0]), pool=1), 1)
+
     def test_refused(self):
         for parallelism, places in [(0, 1), (65_000, 1), (1, 0), (1, 16_777_217), (2**32 + 1, 1), (1, 2**64 - 1)]:
-            with self.assertRaises(order.Rejected) as refused:
-                order.replay(parallelism, places, order.Calls())
-            self.assertEqual(refused.exception.refusal, order.Refusal.OUT_OF_RANGE)
-            self.assertTrue(str(refused.exception).endswith(" (number 1)"), refused.exception)
+            for call in (order.replay, order.held):
+                with self.assertRaises(order.Rejected) as refused:
+                    call(parallelism, places, order.Calls())
+                self.assertEqual(refused.exception.refusal, order.Refusal.OUT_OF_RANGE)
+                self.assertTrue(str(refused.exception).endswith(" (number 1)"), refused.exception)
 
     def test_bad_arguments(self):
         for bad in (-1, 2**64, 1.5, "1", None):
@@ -140,7 +154,8 @@ class Lists(unittest.TestCase):
             self.assertRaises(ValueError, order.replay, bad, 1, order.Calls())
         self.assertRaisesRegex(ValueError, "'x' is no 64-bit number", order.replay, 1, "x", order.Calls())
         for bad in (None, [1, 0], "set=0", b"", 7):
-            self.assertRaisesRegex(TypeError, "a list of calls is a Calls, not ", order.replay, 2, 6, bad)
+            for call in (order.replay, order.held):
+                self.assertRaisesRegex(TypeError, "a list of calls is a Calls, not ", call, 2, 6, bad)
         for pool in (2**62, 2**63, 2**64 - 1):
             self.assertRaisesRegex(MemoryError, f"no memory for {pool} numbers of 4 bytes", order.replay, 1, 1, order.Calls(), pool=pool)
         result = order.replay(1, 1, order.Calls())

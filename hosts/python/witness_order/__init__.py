@@ -1,6 +1,6 @@
 """Host code, not proved: execution orders of circuits, by the proved libraries.
 
-    from witness_order import Calls, replay, run_job
+    from witness_order import Calls, held, replay, run_job
 
     listing = run_job("parallelism=2\nplaces=2\nin=\nout=0\nin=0\nout=1\nfinal=1\n")
     for entry in listing.entries:
@@ -9,6 +9,7 @@
     calls = Calls().set(0).add([0], [1, 2]).add([2], [3]).final()
     result = replay(parallelism=4, places=4, calls=calls)
     print(result.numbers, [entry.added for entry in result.entries()], result.summary().median)
+    print(held(parallelism=4, places=4, calls=Calls().add([], [0])))
 
 A job or a list of calls that is refused as a whole raises `Rejected`, with the number as a `Refusal` and,
 for a job, the line. A call refused within a list raises nothing: `numbers` has its number, and it has
@@ -20,9 +21,10 @@ the archives that tools/archives builds; else it is where tools/install puts it.
 from .layout import Entry, Figures, Row
 from .libraries import LibraryMissing
 from .refusals import Refusal
-from .calls import Calls, Rejected, Replayed, replay
+from .calls import Calls, Rejected, Replayed, held, replay
 from .job import Listed, Listing, run_job
 
 __all__ = [
-    "Calls", "Entry", "Figures", "LibraryMissing", "Listed", "Listing", "Refusal", "Rejected", "Replayed", "Row", "replay", "run_job",
+    "Calls", "Entry", "Figures", "LibraryMissing", "Listed", "Listing", "Refusal", "Rejected", "Replayed", "Row", "held", "replay",
+    "run_job",
 ]

@@ -1,4 +1,4 @@
-"""Host code, not proved: a list of calls made on a fresh session, by the proved `replay_calls`."""
+"""Host code, not proved: a list of calls made on a fresh session, by the proved `replay_calls` and `replay_held`."""
 import ctypes
 
 from . import layout
@@ -94,11 +94,8 @@ class Replayed:
         return layout.figures_of(numbers)
 
 
-def replay(parallelism, places, calls, pool=None):
-    """Runs a list of calls on a fresh session. The pool has room for all lists of the calls unless given.
-
-    Raises Rejected where the parallelism or the count of places is out of range, MemoryError where there is
-    no memory for so many places or so large a pool, and TypeError where `calls` is no list of calls."""
+def _made(name, parallelism, places, calls, pool):
+    """The calls made by the library's function of that name: the storage, each call's number, and what it counted."""
     if not isinstance(calls, Calls):
         raise TypeError(f"a list of calls is a Calls, not {calls!r:.100}")
     parallelism, places, size = numbers_of([parallelism, places, calls.pooled if pool is None else pool])
@@ -107,8 +104,23 @@ def replay(parallelism, places, calls, pool=None):
     storage = layout.storage(parallelism, places, size)
     answers = layout.array(ctypes.c_uint64, calls.count)
     encoded = (ctypes.c_uint64 * len(calls.encoded))(*calls.encoded)
-    result = function("replay_calls")(*as_arguments(*storage.values(), answers, encoded), parallelism, places)
-    # An accepted list gives the order's length times the radix, a refused one its number, which is below that.
+    result = function(name)(*as_arguments(*storage.values(), answers, encoded), parallelism, places)
+    # An accepted list gives a count times the radix, a refused one its number, which is below that.
     if 0 < result < REPLY_RADIX:
         raise Rejected(result)
-    return Replayed(storage, list(answers), result // REPLY_RADIX)
+    return storage, list(answers), result // REPLY_RADIX
+
+
+def replay(parallelism, places, calls, pool=None):
+    """Runs a list of calls on a fresh session. The pool has room for all lists of the calls unless given.
+
+    Raises Rejected where the parallelism or the count of places is out of range, MemoryError where there is
+    no memory for so many places or so large a pool, and TypeError where `calls` is no list of calls."""
+    return Replayed(*_made("replay_calls", parallelism, places, calls, pool))
+
+
+def held(parallelism, places, calls, pool=None):
+    """How many entries the window's 32 spans hold after a list of calls: those placed and not yet in the order.
+
+    The calls are made, and the same is raised, as by `replay`; registrations that wait are not counted."""
+    return _made("replay_held", parallelism, places, calls, pool)[-1]

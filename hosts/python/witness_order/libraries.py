@@ -21,9 +21,12 @@ def slices(*types):
 
 U8, U16, U32, U64 = ctypes.c_uint8, ctypes.c_uint16, ctypes.c_uint32, ctypes.c_uint64
 
+REPLAY = slices(U32, U32, U32, U32, U16, U64, U64, U32, U64, U64) + [U64, U64]
+
 ARGUMENTS = {
     "order_job": slices(U8, U8),
-    "replay_calls": slices(U32, U32, U32, U32, U16, U64, U64, U32, U64, U64) + [U64, U64],
+    "replay_calls": REPLAY,
+    "replay_held": REPLAY,
     "order_summary": slices(U32, U32),
 }
 

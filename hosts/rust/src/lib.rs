@@ -8,6 +8,7 @@
 //! | module | call | what it is |
 //! |---|---|---|
 //! | [`mod@replay`] | `replay_calls` | a list of calls ([`calls`]) on a session of any size |
+//! | [`held`] | `replay_held` | the same, and how many entries the window holds then |
 //! | [`job`] | `order_job` | a job's text, of at most 65,536 bytes, to its listing |
 //! | [`summary`] | `order_summary` | average, median and counts of a tally |
 //! | [`guide`] | `guide_replay` | requests to the guide alone |
@@ -83,7 +84,7 @@ mod sys;
 pub use calls::{Call, Calls};
 pub use layout::{limits, Entry, Location, Row};
 pub use refusal::Refusal;
-pub use replay::{replay, Replayed, Storage, StorageError};
+pub use replay::{held, replay, Replayed, Storage, StorageError};
 pub use summary::Summary;
 
 /// The repository's version.

@@ -1,4 +1,4 @@
-//! Host code, not proved: a list of calls on a session, by the proved `replay_calls`.
+//! Host code, not proved: a list of calls on a session, by the proved `replay_calls` and `replay_held`.
 
 use std::alloc::{alloc_zeroed, Layout};
 use std::fmt;
@@ -8,7 +8,7 @@ use crate::layout::limits::REPLY_RADIX;
 use crate::layout::{Entry, Location, Needed, Row, ENTRY, ROW, ROW_WRITTEN, SET, UNTRACKED};
 use crate::refusal::Refusal;
 use crate::summary::Summary;
-use crate::sys;
+use crate::sys::{self, Count};
 
 /// The storage of a session: parallelism p, v places, and a pool of w numbers for the lists of all
 /// accepted adds. It can be used for one list of calls after another.
@@ -117,7 +117,7 @@ impl Storage {
             waiting: &mut [],
             pool: &mut [],
         };
-        match crate::refusal(sys::replay(empty, &mut [], &[], p, v)) {
+        match crate::refusal(sys::replay(Count::Written, empty, &mut [], &[], p, v)) {
             Refusal::TooShort => {
                 let needed = Needed::new(p as usize, v as usize);
                 Ok(needed.bytes().saturating_add((w as u64).saturating_mul(4)))
@@ -151,6 +151,35 @@ impl Storage {
 /// changed nothing; their numbers are in the result. The list as a whole is not refused: the storage
 /// has the right lengths and [`Calls`] is well formed; the proved call's own answer is passed on.
 pub fn replay<'a>(storage: &'a mut Storage, calls: &'a Calls) -> Result<Replayed<'a>, Refusal> {
+    let length = count(Count::Written, storage, calls)?;
+    Ok(Replayed {
+        storage,
+        calls,
+        length,
+    })
+}
+
+/// Makes all calls as [`replay()`] does, and gives how many entries the window's 32 spans hold then: those
+/// that are placed and not yet in the order. Registrations that wait are not counted.
+///
+/// ```
+/// use witness_order::{held, Calls, Storage};
+///
+/// # fn main() -> Result<(), Box<dyn std::error::Error>> {
+/// // Two are placed; the third waits for place 3.
+/// let calls = Calls::new().add(&[], &[0]).add(&[0], &[1]).add(&[3], &[2]);
+/// let mut storage = Storage::new(2, 6, calls.list_numbers())?;
+/// assert_eq!(held(&mut storage, &calls)?, 2);
+/// assert_eq!(held(&mut storage, &calls.flush())?, 0);
+/// # Ok(())
+/// # }
+/// ```
+pub fn held(storage: &mut Storage, calls: &Calls) -> Result<usize, Refusal> {
+    count(Count::Held, storage, calls)
+}
+
+/// Makes all calls and gives what is counted of the session then.
+fn count(count: Count, storage: &mut Storage, calls: &Calls) -> Result<usize, Refusal> {
     if storage.answers.len() < calls.len() {
         storage.answers.resize(calls.len(), 0);
     }
@@ -166,13 +195,9 @@ pub fn replay<'a>(storage: &'a mut Storage, calls: &'a Calls) -> Result<Replayed
         pool: &mut storage.pool,
     };
     let answers = &mut storage.answers[..calls.len()];
-    let returned = sys::replay(slices, answers, calls.numbers(), p, v);
+    let returned = sys::replay(count, slices, answers, calls.numbers(), p, v);
     match returned % REPLY_RADIX {
-        0 => Ok(Replayed {
-            storage,
-            calls,
-            length: (returned / REPLY_RADIX) as usize,
-        }),
+        0 => Ok((returned / REPLY_RADIX) as usize),
         number => Err(crate::refusal(number)),
     }
 }
@@ -321,6 +346,8 @@ mod tests {
                 Some(Refusal::TooShort),
                 "slice {i}"
             );
+            let refused = held(&mut storage, &calls);
+            assert_eq!(refused, Err(Refusal::TooShort), "slice {i}");
         }
     }
 
@@ -334,6 +361,7 @@ mod tests {
                 list_numbers: 0,
             };
             assert_eq!(replay(&mut storage, &calls).err(), Some(Refusal::Malformed));
+            assert_eq!(held(&mut storage, &calls), Err(Refusal::Malformed));
         }
     }
 }

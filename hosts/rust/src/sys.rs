@@ -6,31 +6,6 @@ extern "C" {
     fn order_job(job: *const u8, job_length: usize, listing: *mut u8, listing_length: usize)
         -> u64;
 
-    fn replay_calls(
-        spans: *mut u32,
-        spans_length: usize,
-        order: *mut u32,
-        order_length: usize,
-        tally: *mut u32,
-        tally_length: usize,
-        rows: *mut u32,
-        rows_length: usize,
-        marks: *mut u16,
-        marks_length: usize,
-        locations: *mut u64,
-        locations_length: usize,
-        waiting: *mut u64,
-        waiting_length: usize,
-        pool: *mut u32,
-        pool_length: usize,
-        answers: *mut u64,
-        answers_length: usize,
-        calls: *const u64,
-        calls_length: usize,
-        p: u64,
-        v: u64,
-    ) -> u64;
-
     fn guide_replay(
         p: u64,
         v: u64,
@@ -63,6 +38,40 @@ extern "C" {
     ) -> u64;
 }
 
+/// Declares exported calls that all have the arguments of `replay_calls`.
+macro_rules! replay_functions {
+    ($($name:ident),*) => {
+        extern "C" {
+            $(fn $name(
+                spans: *mut u32,
+                spans_length: usize,
+                order: *mut u32,
+                order_length: usize,
+                tally: *mut u32,
+                tally_length: usize,
+                rows: *mut u32,
+                rows_length: usize,
+                marks: *mut u16,
+                marks_length: usize,
+                locations: *mut u64,
+                locations_length: usize,
+                waiting: *mut u64,
+                waiting_length: usize,
+                pool: *mut u32,
+                pool_length: usize,
+                answers: *mut u64,
+                answers_length: usize,
+                calls: *const u64,
+                calls_length: usize,
+                p: u64,
+                v: u64,
+            ) -> u64;)*
+        }
+    };
+}
+
+replay_functions!(replay_calls, replay_held);
+
 // SAFETY, for every call below: each pointer and length is a whole slice that is borrowed for the call,
 // exclusively where it is written, so that no two overlap and none is null. The calls ask nothing else.
 
@@ -83,36 +92,46 @@ pub struct Slices<'a> {
     pub pool: &'a mut [u32],
 }
 
-/// Makes all calls on a fresh session: 64 times the order's length, or the number of a refusal.
-pub fn replay(slices: Slices, answers: &mut [u64], calls: &[u64], p: u64, v: u64) -> u64 {
-    let Slices {
-        spans,
-        order,
-        tally,
-        rows,
-        marks,
-        locations,
-        waiting,
-        pool,
-    } = slices;
+/// What is counted of a session after its calls.
+#[derive(Clone, Copy, Debug)]
+pub enum Count {
+    /// The order's entries.
+    Written,
+    /// The entries in the window's spans.
+    Held,
+}
+
+/// Makes all calls on a fresh session: 64 times the count, or the number of a refusal.
+pub fn replay(
+    count: Count,
+    slices: Slices,
+    answers: &mut [u64],
+    calls: &[u64],
+    p: u64,
+    v: u64,
+) -> u64 {
+    let function = match count {
+        Count::Written => replay_calls,
+        Count::Held => replay_held,
+    };
     unsafe {
-        replay_calls(
-            spans.as_mut_ptr(),
-            spans.len(),
-            order.as_mut_ptr(),
-            order.len(),
-            tally.as_mut_ptr(),
-            tally.len(),
-            rows.as_mut_ptr(),
-            rows.len(),
-            marks.as_mut_ptr(),
-            marks.len(),
-            locations.as_mut_ptr(),
-            locations.len(),
-            waiting.as_mut_ptr(),
-            waiting.len(),
-            pool.as_mut_ptr(),
-            pool.len(),
+        function(
+            slices.spans.as_mut_ptr(),
+            slices.spans.len(),
+            slices.order.as_mut_ptr(),
+            slices.order.len(),
+            slices.tally.as_mut_ptr(),
+            slices.tally.len(),
+            slices.rows.as_mut_ptr(),
+            slices.rows.len(),
+            slices.marks.as_mut_ptr(),
+            slices.marks.len(),
+            slices.locations.as_mut_ptr(),
+            slices.locations.len(),
+            slices.waiting.as_mut_ptr(),
+            slices.waiting.len(),
+            slices.pool.as_mut_ptr(),
+            slices.pool.len(),
             answers.as_mut_ptr(),
             answers.len(),
             calls.as_ptr(),

@@ -6,7 +6,7 @@ use std::process::Command;
 use witness_order::entries::{append_new, OrderInfo};
 use witness_order::guide::{self, Request};
 use witness_order::replay::Place;
-use witness_order::{replay, Calls, Location, Refusal, Storage, StorageError, Summary};
+use witness_order::{held, replay, Calls, Location, Refusal, Storage, StorageError, Summary};
 
 /// J1 of document 01.
 fn j1() -> Calls {
@@ -101,6 +101,23 @@ fn a_refused_call_changes_nothing_and_the_next_one_runs() {
     assert_eq!(done.first_refused(), Some((1, Refusal::TakenPlace)));
     assert_eq!((done.registrations(), done.rows().len()), (2, 2));
     assert!(done.is_empty());
+}
+
+/// J1 by its beginnings: the third registration fills a span, and an empty one is released; the fourth
+/// fills the next, and two entries come into the order.
+#[test]
+fn the_window_holds_what_is_placed_and_not_yet_in_the_order() {
+    let mut storage = Storage::new(2, 6, 16).unwrap();
+    let mut calls = Calls::new();
+    let mut found = vec![held(&mut storage, &calls).unwrap()];
+    for call in &j1() {
+        calls.push(&call);
+        let holds = held(&mut storage, &calls).unwrap();
+        let done = replay(&mut storage, &calls).unwrap();
+        assert_eq!(done.registrations(), done.len() + holds, "none waits");
+        found.push(holds);
+    }
+    assert_eq!(found, [0, 0, 1, 2, 3, 2, 0]);
 }
 
 #[test]
