@@ -3,7 +3,7 @@
 //! written can be looked at afterwards.
 
 use crate::layout::{Needed, ENTRY};
-use crate::sys::{self, Slices};
+use crate::sys::{self, Count, Slices};
 use crate::Call;
 
 /// Guard numbers before and after each lent slice.
@@ -142,6 +142,8 @@ pub struct Lent {
 
 /// All that is lent, and what the replay returned.
 pub struct Buffers {
+    /// Which exported call is made: `replay_calls` or `replay_held`.
+    count: Count,
     pub spans: Buffer<u32>,
     pub order: Buffer<u32>,
     pub tally: Buffer<u32>,
@@ -151,12 +153,20 @@ pub struct Buffers {
     pub waiting: Buffer<u64>,
     pub pool: Buffer<u32>,
     pub answers: Buffer<u64>,
+    /// The count, or the number of a refusal.
     pub returned: Result<usize, u64>,
 }
 
 impl Buffers {
+    /// For replays by `replay_calls`.
     pub fn new() -> Self {
+        Self::counting(Count::Written)
+    }
+
+    /// For replays that return this count.
+    pub fn counting(count: Count) -> Self {
         Self {
+            count,
             spans: Buffer::new("spans"),
             order: Buffer::new("order"),
             tally: Buffer::new("tally"),
@@ -223,7 +233,7 @@ impl Buffers {
             waiting: self.waiting.lend(),
             pool: self.pool.lend(),
         };
-        let returned = sys::replay(slices, self.answers.lend(), calls, p, v);
+        let returned = sys::replay(self.count, slices, self.answers.lend(), calls, p, v);
         self.returned = match returned % 64 {
             0 => Ok((returned / 64) as usize),
             _ => Err(returned),
@@ -257,8 +267,22 @@ impl Buffers {
         self.answers.check_untouched(0)
     }
 
-    /// All storage but the answers is equal to another's, byte for byte.
+    /// All storage but the answers is equal to another's, byte for byte, and so is what was returned.
     pub fn check_same(&self, other: &Self) -> Result<(), String> {
+        self.check_same_storage(other)?;
+        match self.returned == other.returned {
+            true => Ok(()),
+            false => Err("the order's length changed".to_owned()),
+        }
+    }
+
+    /// All storage and the answers are equal to another's, byte for byte.
+    pub fn check_same_written(&self, other: &Self) -> Result<(), String> {
+        self.check_same_storage(other)?;
+        self.answers.check_same(&other.answers)
+    }
+
+    fn check_same_storage(&self, other: &Self) -> Result<(), String> {
         self.spans.check_same(&other.spans)?;
         self.order.check_same(&other.order)?;
         self.tally.check_same(&other.tally)?;
@@ -266,11 +290,7 @@ impl Buffers {
         self.marks.check_same(&other.marks)?;
         self.locations.check_same(&other.locations)?;
         self.waiting.check_same(&other.waiting)?;
-        self.pool.check_same(&other.pool)?;
-        match self.returned == other.returned {
-            true => Ok(()),
-            false => Err("the order's length changed".to_owned()),
-        }
+        self.pool.check_same(&other.pool)
     }
 }
 

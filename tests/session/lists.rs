@@ -24,7 +24,7 @@ pub struct List {
 }
 
 impl List {
-    fn pool(&self) -> usize {
+    pub fn pool(&self) -> usize {
         let numbers = |call: &Call| match call {
             Call::Add(inputs, outputs) => inputs.len() + outputs.len(),
             _ => 0,
@@ -35,12 +35,12 @@ impl List {
         }
     }
 
-    fn open_model(&self) -> Result<model::Session, u64> {
+    pub fn open_model(&self) -> Result<model::Session, u64> {
         let lent = model::Lent::for_session(self.p, self.v, self.pool() as u64);
         model::Session::open(self.p, self.v, &lent)
     }
 
-    fn lent(&self, calls: usize, whole: bool) -> Lent {
+    pub fn lent(&self, calls: usize, whole: bool) -> Lent {
         Lent {
             p: self.p,
             v: self.v,
@@ -107,6 +107,16 @@ pub fn call_model(session: &mut model::Session, call: &Call) -> u64 {
         Call::Flush => session.flush(),
         Call::Final => session.final_flush().err().unwrap_or(0),
     }
+}
+
+/// How many entries the model's window holds: the sum of its spans' lengths.
+pub fn held(session: &model::Session) -> usize {
+    session.window.spans.iter().map(Vec::len).sum()
+}
+
+/// How many registrations the model has placed.
+pub fn placed(session: &model::Session) -> u64 {
+    (session.window.order.len() + held(session)) as u64
 }
 
 /// The storage of two replays, one after the other.
@@ -178,10 +188,6 @@ pub fn check(
 fn count_model(list: &List, counts: &mut Counts) -> Vec<u64> {
     let Ok(mut session) = list.open_model() else {
         return Vec::new();
-    };
-    let placed = |session: &model::Session| {
-        let held: usize = session.window.spans.iter().map(Vec::len).sum();
-        (session.window.order.len() + held) as u64
     };
     let mut codes = Vec::new();
     let (mut overfull, mut before, mut flushes) = (false, 0, 0);
@@ -287,8 +293,10 @@ fn compare_told(told: &Told, list: &List, buffers: &Buffers) -> Result<(), Strin
 }
 
 /// A list that still differs from the model, with as few calls as leaving out single ones gives.
-pub fn shrink(list: &List, pair: &mut Pair) -> Option<(List, String)> {
-    let mut differs = |list: &List| check(list, None, pair, &mut Counts::default()).err();
+pub fn shrink(
+    list: &List,
+    mut differs: impl FnMut(&List) -> Option<String>,
+) -> Option<(List, String)> {
     let mut message = differs(list)?;
     let mut smallest = list.clone();
     let mut i = 0;

@@ -1,14 +1,16 @@
-//! Holds `replay_calls` to the reference model and to the oracle.
+//! Holds `replay_calls` and `replay_held` to the reference model, and the first to the oracle.
 //!
 //!   session runs                 replays the sessions of a text on standard input (oracle/FORMAT.md);
 //!                                the answers that stand beside the calls are compared too
 //!   session shapes SEED COUNT    writes runs of chosen shapes: deep cascades, waiting, overfull spans
 //!   session openings             refusals of a whole replay: 1, 2 and 15, with nothing written
 //!   session limits               the greatest lists, and that the work stays linear
+//!   session held SEED COUNT      what the window holds after every beginning of so many lists
 //!
 //! Prints what was compared; with status 1, what differed and the smallest such list found.
 
 mod buffers;
+mod held;
 mod limits;
 mod lists;
 mod openings;
@@ -34,7 +36,8 @@ mod layout;
 #[allow(dead_code)]
 mod sys;
 
-use lists::{Counts, Pair};
+use buffers::Buffers;
+use lists::{Counts, List, Pair};
 use std::io::BufRead;
 use std::process::exit;
 
@@ -47,9 +50,10 @@ fn main() {
     match words[..] {
         ["runs"] => compare_runs(),
         ["shapes", seed, count] => shapes::write(plain(seed), plain(count)),
-        ["openings"] => report(openings::check()),
+        ["openings"] => report(openings::check(&mut Buffers::new())),
         ["limits"] => report(limits::check()),
-        _ => fail("use: runs | shapes SEED COUNT | openings | limits"),
+        ["held", seed, count] => report(held::check(plain(seed), plain(count))),
+        _ => fail("use: runs | shapes SEED COUNT | openings | limits | held SEED COUNT"),
     }
 }
 
@@ -106,7 +110,8 @@ fn compare_runs() {
 /// Shows a difference, with a smaller list where there is one that differs from the model.
 fn show(run: &text::Run, message: &str, pair: &mut Pair) {
     println!("DIFFERENCE in the run at line {}: {message}", run.line);
-    match lists::shrink(&run.list, pair) {
+    let differs = |list: &List| lists::check(list, None, pair, &mut Counts::default()).err();
+    match lists::shrink(&run.list, differs) {
         Some((list, message)) => {
             println!("the smallest list found that differs from the model: {message}");
             print!("{}", text::run_text(&list, false));
@@ -137,14 +142,19 @@ fn print_counts(counts: &Counts) {
         "  {entries} order entries, {waited} registrations waited, one call placed up to {most_placed}, \
          {flushes} flushes, {overfull} lists with an overfull span"
     );
+    let numbers = refused_text(refused);
+    if !numbers.is_empty() || *not_opened > 0 {
+        println!(
+            "  refused calls: {numbers}; {refused_compared} of them compared byte for byte; {not_opened} openings"
+        );
+    }
+}
+
+/// How many calls were refused with each number.
+fn refused_text(refused: &[u64]) -> String {
     let numbers = refused.iter().enumerate().filter(|(_, count)| **count > 0);
     let numbers: Vec<String> = numbers
         .map(|(number, count)| format!("{count} with {number}"))
         .collect();
-    if !numbers.is_empty() || *not_opened > 0 {
-        println!(
-            "  refused calls: {}; {refused_compared} of them compared byte for byte; {not_opened} openings",
-            numbers.join(", ")
-        );
-    }
+    numbers.join(", ")
 }

@@ -17,12 +17,12 @@ const SHORT: [Short; 8] = [
     Short::Answers,
 ];
 
-pub fn check() -> Result<String, String> {
-    let mut buffers = Buffers::new();
-    let ranges = check_ranges(&mut buffers)?;
-    let short = check_short(&mut buffers)?;
-    let malformed = check_malformed(&mut buffers)?;
-    let truncated = check_truncated(&mut buffers)?;
+/// By the exported call that the buffers are for.
+pub fn check(buffers: &mut Buffers) -> Result<String, String> {
+    let ranges = check_ranges(buffers)?;
+    let short = check_short(buffers)?;
+    let malformed = check_malformed(buffers)?;
+    let truncated = check_truncated(buffers)?;
     Ok(format!(
         "  refused replays, nothing written: {ranges} with a P or V out of range, {short} with a slice one \
          short, {malformed} malformed and {truncated} truncated lists; just enough is accepted"

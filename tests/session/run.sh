@@ -1,5 +1,5 @@
 #!/bin/bash
-# Holds the exported call of crate `replay`, and that of crate `summary` on the tally that it leaves, to
+# Holds the exported calls of crate `replay`, and that of crate `summary` on the tally that they leave, to
 # the kept sample of the Rust's answers, to the hand-worked cases and to the reference model, and, where
 # the Rust is at hand, to the oracle.
 #
@@ -14,8 +14,8 @@ cd "$(dirname "$0")/../.."
 
 fail() { echo "tests/session/run.sh: $*" >&2; exit 1; }
 case "${1:-}" in
-  '') random=4000 shapes=500 refused=2000 ;;
-  --long) random=60000 shapes=20000 refused=50000 ;;
+  '') random=4000 shapes=500 refused=2000 held=600 ;;
+  --long) random=60000 shapes=20000 refused=50000 held=20000 ;;
   *) fail "unknown option $1" ;;
 esac
 seed=${SESSION_SEED:-1}
@@ -74,6 +74,8 @@ trap 'kill $first 2>/dev/null || true' EXIT
   python3 tests/session/hand_worked.py | told "the hand-worked cases"
   echo "session: openings"
   $work/session openings
+  echo "session: what the window holds, by replay_held"
+  $work/session held "$seed" $held
   echo "session: limits"
   timeout 300 $work/session limits
   $reference random session "$seed" $random | answer | told "random lists, answered by $by"

@@ -9,26 +9,35 @@ use crate::text::run_text;
 
 pub fn write(seed: u64, count: u64) {
     for i in 0..count {
-        let mut numbers = Numbers(seed.wrapping_mul(1 << 40).wrapping_add(i));
-        let list = match i % 5 {
-            0 => deep_cascade(&mut numbers),
-            1 => comb(&mut numbers),
-            2 => overfull(&mut numbers),
-            3 => layers(&mut numbers),
-            _ => gaps(&mut numbers),
-        };
+        let list = made(i, &mut seeded(seed, i));
         print!("{}", run_text(&list, true));
     }
 }
 
+/// The numbers of list i of a seed.
+pub fn seeded(seed: u64, i: u64) -> Numbers {
+    Numbers(seed.wrapping_mul(1 << 40).wrapping_add(i))
+}
+
+/// A list of the shape that comes i-th, one shape after the other.
+pub fn made(i: u64, numbers: &mut Numbers) -> List {
+    match i % 5 {
+        0 => deep_cascade(numbers),
+        1 => comb(numbers),
+        2 => overfull(numbers),
+        3 => layers(numbers),
+        _ => gaps(numbers),
+    }
+}
+
 /// A list in the making, with the model beside it.
-struct Making {
+pub struct Making {
     session: Session,
     list: List,
 }
 
 impl Making {
-    fn new(p: u64, v: u64) -> Self {
+    pub fn new(p: u64, v: u64) -> Self {
         let Ok(session) = Session::open(p, v, &Lent::for_session(p, v, u64::MAX)) else {
             crate::fail("the opening of a shape is refused")
         };
@@ -40,24 +49,24 @@ impl Making {
     }
 
     /// Makes the call; it stands in the list if the model accepts it.
-    fn call(&mut self, call: Call) {
+    pub fn call(&mut self, call: Call) {
         if call_model(&mut self.session, &call) == 0 {
             self.list.calls.push(call);
         }
     }
 
-    fn add(&mut self, inputs: &[u64], outputs: &[u64]) {
+    pub fn add(&mut self, inputs: &[u64], outputs: &[u64]) {
         self.call(Call::Add(inputs.to_vec(), outputs.to_vec()));
     }
 
-    fn flush_sometimes(&mut self, numbers: &mut Numbers, percent: u64) {
+    pub fn flush_sometimes(&mut self, numbers: &mut Numbers, percent: u64) {
         if numbers.chance(percent) {
             self.call(Call::Flush);
         }
     }
 
     /// The place is set, or written by an add without inputs.
-    fn provide(&mut self, numbers: &mut Numbers, place: u64) {
+    pub fn provide(&mut self, numbers: &mut Numbers, place: u64) {
         if numbers.chance(50) {
             self.call(Call::Set(place));
         } else {
@@ -66,7 +75,7 @@ impl Making {
     }
 
     /// Ends with final, or with a flush where something waits.
-    fn end(mut self) -> List {
+    pub fn end(mut self) -> List {
         self.call(Call::Final);
         if !self.session.closed {
             self.call(Call::Flush);

@@ -1,6 +1,7 @@
-//! The reference model behind the interface of `replay_calls`, as a library to link the tests with
-//! instead of the proved one: so the tests can be tested. With the name of a fault in the environment
-//! variable STAND_IN_FAULT it does one thing wrong, which the tests must notice.
+//! The reference model behind the interface of `replay_calls` and `replay_held`, as a library to link the
+//! tests with instead of the proved one: so the tests can be tested. With the name of a fault in the
+//! environment variable STAND_IN_FAULT it does one thing wrong, which the tests must notice; with `held-`
+//! before the name, `replay_held` alone does it.
 
 #[path = "../../hosts/rust/src/layout.rs"]
 #[allow(dead_code)]
@@ -11,6 +12,7 @@ mod model;
 
 use layout::{Needed, ENTRY, ROW, SPANS};
 use model::{Lent, Session};
+use std::sync::atomic::{AtomicBool, Ordering::Relaxed};
 use std::sync::OnceLock;
 
 enum Call<'a> {
@@ -37,53 +39,66 @@ struct Slices<'a> {
     answers: &'a mut [u64],
 }
 
+/// Whether it is `replay_held` that runs. The tests make one call at a time.
+static POLLED: AtomicBool = AtomicBool::new(false);
+
 /// Whether this fault is asked for.
 fn fault(name: &str) -> bool {
     static FAULT: OnceLock<String> = OnceLock::new();
-    FAULT.get_or_init(|| std::env::var("STAND_IN_FAULT").unwrap_or_default()) == name
+    let asked = FAULT.get_or_init(|| std::env::var("STAND_IN_FAULT").unwrap_or_default());
+    asked == name || POLLED.load(Relaxed) && asked.strip_prefix("held-") == Some(name)
 }
 
-/// # Safety
-/// Each pointer and length is a slice, and those written do not overlap with others.
-#[no_mangle]
-pub unsafe extern "C" fn replay_calls(
-    spans: *mut u32,
-    spans_count: usize,
-    order: *mut u32,
-    order_count: usize,
-    tally: *mut u32,
-    tally_count: usize,
-    rows: *mut u32,
-    rows_count: usize,
-    marks: *mut u16,
-    marks_count: usize,
-    locations: *mut u64,
-    locations_count: usize,
-    waiting: *mut u64,
-    waiting_count: usize,
-    pool: *mut u32,
-    pool_count: usize,
-    answers: *mut u64,
-    answers_count: usize,
-    calls: *const u64,
-    calls_count: usize,
-    p: u64,
-    v: u64,
-) -> u64 {
-    use std::slice::{from_raw_parts, from_raw_parts_mut};
-    let slices = Slices {
-        spans: from_raw_parts_mut(spans, spans_count),
-        order: from_raw_parts_mut(order, order_count),
-        tally: from_raw_parts_mut(tally, tally_count),
-        rows: from_raw_parts_mut(rows, rows_count),
-        marks: from_raw_parts_mut(marks, marks_count),
-        locations: from_raw_parts_mut(locations, locations_count),
-        waiting: from_raw_parts_mut(waiting, waiting_count),
-        pool: from_raw_parts_mut(pool, pool_count),
-        answers: from_raw_parts_mut(answers, answers_count),
+/// Exports a call: with `polled`, the one that returns what is held.
+macro_rules! exported {
+    ($name:ident, $polled:literal) => {
+        /// # Safety
+        /// Each pointer and length is a slice, and those written do not overlap with others.
+        #[no_mangle]
+        pub unsafe extern "C" fn $name(
+            spans: *mut u32,
+            spans_count: usize,
+            order: *mut u32,
+            order_count: usize,
+            tally: *mut u32,
+            tally_count: usize,
+            rows: *mut u32,
+            rows_count: usize,
+            marks: *mut u16,
+            marks_count: usize,
+            locations: *mut u64,
+            locations_count: usize,
+            waiting: *mut u64,
+            waiting_count: usize,
+            pool: *mut u32,
+            pool_count: usize,
+            answers: *mut u64,
+            answers_count: usize,
+            calls: *const u64,
+            calls_count: usize,
+            p: u64,
+            v: u64,
+        ) -> u64 {
+            use std::slice::{from_raw_parts, from_raw_parts_mut};
+            let slices = Slices {
+                spans: from_raw_parts_mut(spans, spans_count),
+                order: from_raw_parts_mut(order, order_count),
+                tally: from_raw_parts_mut(tally, tally_count),
+                rows: from_raw_parts_mut(rows, rows_count),
+                marks: from_raw_parts_mut(marks, marks_count),
+                locations: from_raw_parts_mut(locations, locations_count),
+                waiting: from_raw_parts_mut(waiting, waiting_count),
+                pool: from_raw_parts_mut(pool, pool_count),
+                answers: from_raw_parts_mut(answers, answers_count),
+            };
+            POLLED.store($polled, Relaxed);
+            replay(slices, from_raw_parts(calls, calls_count), p, v)
+        }
     };
-    replay(slices, from_raw_parts(calls, calls_count), p, v)
 }
+
+exported!(replay_calls, false);
+exported!(replay_held, true);
 
 /// What a replay came to.
 struct Outcome<'a> {
@@ -99,6 +114,8 @@ struct Outcome<'a> {
     refused_place: Option<usize>,
     /// Whether the last call was refused.
     refused_last: bool,
+    /// How many entries the window holds, kept step by step.
+    total: u64,
 }
 
 fn replay(mut slices: Slices, calls: &[u64], p: u64, v: u64) -> u64 {
@@ -136,17 +153,81 @@ fn replay(mut slices: Slices, calls: &[u64], p: u64, v: u64) -> u64 {
         calls: calls.len(),
         refused_place: None,
         refused_last: false,
+        total: 0,
     };
     for (call, answer) in calls.iter().zip(slices.answers.iter_mut()) {
         *answer = outcome.call(call);
     }
     put(&mut slices, &outcome);
     put_fault(&mut slices, &outcome);
-    64 * outcome.session.window.order.len() as u64
+    64 * match POLLED.load(Relaxed) {
+        true => outcome.held(),
+        false => outcome.written(),
+    }
+}
+
+/// How the window stands, for keeping a total over a call.
+struct Standing {
+    first: u64,
+    held: u64,
+    written: u64,
+}
+
+impl Standing {
+    fn of(session: &Session) -> Self {
+        let window = &session.window;
+        Self {
+            first: window.first,
+            held: window.spans.iter().map(|span| span.len() as u64).sum(),
+            written: window.order.len() as u64,
+        }
+    }
 }
 
 impl<'a> Outcome<'a> {
+    fn written(&self) -> u64 {
+        self.session.window.order.len() as u64
+    }
+
+    /// The total that is kept, or another number if that fault is asked for.
+    fn held(&self) -> u64 {
+        if fault("total-is-written") {
+            return self.written();
+        }
+        if fault("total-is-accepted") {
+            return self.accepted.len() as u64;
+        }
+        let waiting: usize = self.session.waiting.values().map(Vec::len).sum();
+        self.total + u64::from(fault("total-with-waiting")) * waiting as u64
+    }
+
+    /// Keeps the total over a call with this number. The faults at a release are made only where the
+    /// call placed one registration, so that what stood before and after tells where it went.
+    fn keep_total(&mut self, call: &Call, code: u64, before: &Standing) {
+        if code != 0 {
+            self.total += u64::from(fault("total-refused"));
+            return;
+        }
+        let now = Standing::of(&self.session);
+        let mut lowered = now.written - before.written;
+        let mut raised = now.held + lowered - before.held;
+        let spans = &self.session.window.spans;
+        // One in a new span stands in the last; where a span was full, the last is empty.
+        let opened = !spans[SPANS - 1].is_empty();
+        match (call, raised, now.first - before.first) {
+            (Call::Final, ..) if fault("total-after-final") => lowered = 0,
+            (Call::Flush, ..) if fault("total-after-flush") => lowered = 0,
+            (_, 1, 1) if fault("total-next-span") && !opened => lowered = spans[0].len() as u64,
+            (_, 1, 1 | 2) if fault("total-before-opening") && opened => lowered = 0,
+            _ if fault("total-not-raised") => raised = raised.saturating_sub(1),
+            _ if fault("total-once-a-call") => raised = raised.min(1),
+            _ => {}
+        }
+        self.total = (self.total + raised).saturating_sub(lowered);
+    }
+
     fn call(&mut self, call: &Call<'a>) -> u64 {
+        let before = Standing::of(&self.session);
         let code = match call {
             Call::Set(place) => self.session.set(*place),
             Call::Add(inputs, outputs) => self.session.add(inputs, outputs),
@@ -166,6 +247,7 @@ impl<'a> Outcome<'a> {
             _ => {}
         }
         self.refused_last = code != 0;
+        self.keep_total(call, code, &before);
         code
     }
 

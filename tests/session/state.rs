@@ -148,9 +148,8 @@ impl State {
                 ));
             }
         }
-        let leading = buffers.marks.needed().iter().take_while(|mark| **mark != 0);
         let what = || "the count of leading tracked places".to_owned();
-        same(what, leading.count() as u64, self.leading)
+        same(what, leading(buffers), self.leading)
     }
 
     fn compare_tally(&self, buffers: &Buffers) -> Result<(), String> {
@@ -209,24 +208,12 @@ impl State {
 
     /// The chains of the places from the mark on: those who wait, the newest first.
     fn compare_waiting(&self, buffers: &Buffers) -> Result<(), String> {
-        let waiting = buffers.waiting.needed();
-        let v = waiting.len() / layout::WAITING;
-        let (heads, links) = (&waiting[..v], &waiting[v..2 * v]);
+        let v = buffers.marks.needed().len() as u64;
         let mut wanted = self.waiting.iter().peekable();
-        for place in self.leading..v as u64 {
+        for place in self.leading..v {
             let wanted = wanted.next_if(|(under, _)| *under == place);
             let wanted = wanted.map_or(&[][..], |(_, registrations)| registrations);
-            let mut found = Vec::new();
-            let mut link = heads[place as usize];
-            while link != 0 {
-                if link > v as u64 || found.len() > wanted.len() {
-                    return Err(format!(
-                        "the chain under place {place} is broken or too long"
-                    ));
-                }
-                found.push(link - 1);
-                link = links[link as usize - 1];
-            }
+            let mut found = chain(buffers, place)?;
             found.reverse();
             if found != wanted {
                 return Err(format!(
@@ -241,6 +228,38 @@ impl State {
             )),
         }
     }
+}
+
+/// Who waits under a place, as the waiting storage chains them.
+fn chain(buffers: &Buffers, place: u64) -> Result<Vec<u64>, String> {
+    let waiting = buffers.waiting.needed();
+    let v = waiting.len() / layout::WAITING;
+    let (heads, links) = (&waiting[..v], &waiting[v..2 * v]);
+    let mut found = Vec::new();
+    let mut link = heads[place as usize];
+    while link != 0 {
+        if link > v as u64 || found.len() == v {
+            return Err(format!(
+                "the chain under place {place} is broken or too long"
+            ));
+        }
+        found.push(link - 1);
+        link = links[link as usize - 1];
+    }
+    Ok(found)
+}
+
+/// How many places from 0 on are tracked, by the stored marks.
+fn leading(buffers: &Buffers) -> u64 {
+    let marks = buffers.marks.needed().iter();
+    marks.take_while(|mark| **mark != 0).count() as u64
+}
+
+/// How many wait, by the stored marks and chains.
+pub fn count_waiting(buffers: &Buffers) -> Result<usize, String> {
+    let places = leading(buffers)..buffers.marks.needed().len() as u64;
+    let counts = places.map(|place| Ok(chain(buffers, place)?.len()));
+    counts.sum()
 }
 
 /// The model's summary, laid out as `order_summary` lays it out.
