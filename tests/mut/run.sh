@@ -1,6 +1,7 @@
 #!/bin/bash
 # Makes lists of calls through session_mut and flush_mut (set, add, flush and finish on a session lent
-# by `&mut`) and compares numbers, session and storage with `replay` on the same lists. The program,
+# by `&mut`), polls what the window holds after each call, and compares numbers, session and storage with
+# `replay` on the same lists. The program,
 # calls.rattle, is not proved: `rt try` runs it with the crates' sources in a scratch repository, by the
 # interpreter, compiled at -O0 and -O3, and with the compiler's assumptions checked; each must print
 # the file `printed`.
