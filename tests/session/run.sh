@@ -14,7 +14,7 @@ cd "$(dirname "$0")/../.."
 
 fail() { echo "tests/session/run.sh: $*" >&2; exit 1; }
 case "${1:-}" in
-  '') random=4000 shapes=500 refused=2000 held=600 ;;
+  '') random=4000 shapes=500 refused=2000 held=2000 ;;
   --long) random=60000 shapes=20000 refused=50000 held=20000 ;;
   *) fail "unknown option $1" ;;
 esac
