@@ -4,8 +4,9 @@
 
 use crate::buffers::{encode, Buffers, Lent, Short};
 use crate::model;
-use crate::Call;
 use crate::state::State;
+use crate::sys::Count;
+use crate::Call;
 
 /// Lists up to this length are replayed by all their beginnings.
 const ALL_BEGINNINGS: usize = 100;
@@ -119,10 +120,11 @@ pub fn placed(session: &model::Session) -> u64 {
     (session.window.order.len() + held(session)) as u64
 }
 
-/// The storage of two replays, one after the other.
+/// The storage of two replays, one after the other, and of a poll.
 pub struct Pair {
     now: Buffers,
     before: Buffers,
+    polled: Buffers,
 }
 
 impl Pair {
@@ -130,6 +132,7 @@ impl Pair {
         Self {
             now: Buffers::new(),
             before: Buffers::new(),
+            polled: Buffers::counting(Count::Held),
         }
     }
 }
@@ -177,7 +180,7 @@ pub fn check(
             let at = |message| format!("after {length} calls, told otherwise: {message}");
             compare_step(told, length, &state, codes).map_err(at)?;
             if i + 1 == chosen.len() {
-                compare_told(told, list, &pair.now).map_err(at)?;
+                compare_told(told, list, &numbers, pair).map_err(at)?;
             }
         }
     }
@@ -280,15 +283,22 @@ fn compare_step(told: &Told, length: usize, state: &State, codes: &[u64]) -> Res
     }
 }
 
-fn compare_told(told: &Told, list: &List, buffers: &Buffers) -> Result<(), String> {
+/// The state after the whole list, and how many entries `replay_held` says are held, beside what was told.
+fn compare_told(told: &Told, list: &List, numbers: &[u64], pair: &mut Pair) -> Result<(), String> {
     let accepted = vec![0; list.calls.len()];
     let codes = told.codes.as_ref().unwrap_or(&accepted);
-    if told.opening.is_some() || !buffers.answers.needed().eq(&codes[..]) {
+    if told.opening.is_some() || !pair.now.answers.needed().eq(&codes[..]) {
         return Err("the numbers of the calls".to_owned());
     }
-    match &told.end {
-        Some(end) => end.compare(buffers, list.p, &list.calls, codes),
-        None => Ok(()),
+    let Some(end) = &told.end else {
+        return Ok(());
+    };
+    end.compare(&pair.now, list.p, &list.calls, codes)?;
+    pair.polled
+        .replay(&list.lent(list.calls.len(), false), numbers);
+    match pair.polled.returned {
+        Ok(held) if held == end.held.len() => Ok(()),
+        other => Err(format!("{} are held, not {other:?}", end.held.len())),
     }
 }
 

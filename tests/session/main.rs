@@ -1,4 +1,4 @@
-//! Holds `replay_calls` and `replay_held` to the reference model, and the first to the oracle.
+//! Holds `replay_calls` and `replay_held` to the reference model and to the oracle.
 //!
 //!   session runs                 replays the sessions of a text on standard input (oracle/FORMAT.md);
 //!                                the answers that stand beside the calls are compared too
