@@ -65,6 +65,12 @@ impl Both {
             let at = |message| format!("after {} calls: {message}", i + 1);
             let held = self.beginning(list, i + 1, &numbers[..ends[i]], &session);
             let held = held.map_err(at)?;
+            let answer = self.by_held.answers.needed()[i];
+            if answer != code {
+                return Err(at(format!(
+                    "the last call's number is {answer}, not {code}"
+                )));
+            }
             if code != 0 && held != before {
                 return Err(at(format!("a refused call made {held} of {before} held")));
             }

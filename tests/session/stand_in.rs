@@ -160,10 +160,7 @@ fn replay(mut slices: Slices, calls: &[u64], p: u64, v: u64) -> u64 {
     }
     put(&mut slices, &outcome);
     put_fault(&mut slices, &outcome);
-    64 * match POLLED.load(Relaxed) {
-        true => outcome.held(),
-        false => outcome.written(),
-    }
+    64 * outcome.count()
 }
 
 /// How the window stands, for keeping a total over a call.
@@ -185,14 +182,11 @@ impl Standing {
 }
 
 impl<'a> Outcome<'a> {
-    fn written(&self) -> u64 {
-        self.session.window.order.len() as u64
-    }
-
-    /// The total that is kept, or another number if that fault is asked for.
-    fn held(&self) -> u64 {
-        if fault("total-is-written") {
-            return self.written();
+    /// What the call returns 64 times: the order's length, or the total that is kept, or another number if
+    /// that fault is asked for.
+    fn count(&self) -> u64 {
+        if !POLLED.load(Relaxed) || fault("total-is-written") {
+            return self.session.window.order.len() as u64;
         }
         if fault("total-is-accepted") {
             return self.accepted.len() as u64;
