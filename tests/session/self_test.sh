@@ -17,10 +17,13 @@ for fault in malformed-writes malformed-accepted refused-opening-writes 10-early
   chain-reversed refused-writes-mark refused-writes-slot beyond-spans \
   {beyond,wrong}-{order,tally,rows,pool,locations,waiting,answers,marks} \
   total-{not-raised,once-a-call,next-span,before-opening,is-written,is-accepted,with-waiting,refused,after-flush,after-final} \
-  held-{malformed-writes,malformed-accepted,refused-opening-writes,10-early,held-entry,chain-reversed,refused-writes-slot} \
-  held-beyond-spans held-{beyond,wrong}-{order,tally,rows,pool,locations,waiting,answers,marks}; do
+  poll-{malformed-writes,malformed-accepted,refused-opening-writes,10-early,held-entry,chain-reversed,refused-writes-slot} \
+  poll-beyond-spans poll-{beyond,wrong}-{order,tally,rows,pool,locations,waiting,answers,marks}; do
   noticed=
-  for command in openings runs "held 1 60" limits; do
+  commands=(openings runs limits)
+  # those of replay_held by its own test, after every beginning
+  case $fault in total-* | poll-*) commands=("held 1 60") ;; esac
+  for command in "${commands[@]}"; do
     STAND_IN_FAULT=$fault $work/session $command <$work/refused.txt >$work/fault.out 2>&1 && continue
     grep -q DIFFERENCE $work/fault.out || fail "$fault: a failure of another kind in $command"
     noticed=$command

@@ -1,6 +1,6 @@
 //! The reference model behind the interface of `replay_calls` and `replay_held`, as a library to link the
 //! tests with instead of the proved one: so the tests can be tested. With the name of a fault in the
-//! environment variable STAND_IN_FAULT it does one thing wrong, which the tests must notice; with `held-`
+//! environment variable STAND_IN_FAULT it does one thing wrong, which the tests must notice; with `poll-`
 //! before the name, `replay_held` alone does it.
 
 #[path = "../../hosts/rust/src/layout.rs"]
@@ -46,7 +46,7 @@ static POLLED: AtomicBool = AtomicBool::new(false);
 fn fault(name: &str) -> bool {
     static FAULT: OnceLock<String> = OnceLock::new();
     let asked = FAULT.get_or_init(|| std::env::var("STAND_IN_FAULT").unwrap_or_default());
-    asked == name || POLLED.load(Relaxed) && asked.strip_prefix("held-") == Some(name)
+    asked == name || POLLED.load(Relaxed) && asked.strip_prefix("poll-") == Some(name)
 }
 
 /// Exports a call: with `polled`, the one that returns what is held.
