@@ -298,7 +298,7 @@ fn compare_told(told: &Told, list: &List, numbers: &[u64], pair: &mut Pair) -> R
         .replay(&list.lent(list.calls.len(), false), numbers);
     match pair.polled.returned {
         Ok(held) if held == end.held.len() => Ok(()),
-        other => Err(format!("{} are held, not {other:?}", end.held.len())),
+        other => Err(format!("{other:?} are held, not {}", end.held.len())),
     }
 }
 
