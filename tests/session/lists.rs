@@ -82,6 +82,10 @@ pub struct Counts {
     pub lists: u64,
     /// The lists whose answers another program gave.
     pub told: u64,
+    /// Beginnings of which another program told what is held, and `replay_held` said the same; those of
+    /// them with entries held.
+    pub polled: u64,
+    pub polled_held: u64,
     pub calls: u64,
     pub replays: u64,
     /// Entries of the orders at the end.
@@ -180,7 +184,14 @@ pub fn check(
             let at = |message| format!("after {length} calls, told otherwise: {message}");
             compare_step(told, length, &state, codes).map_err(at)?;
             if i + 1 == chosen.len() {
-                compare_told(told, list, &numbers, pair).map_err(at)?;
+                compare_told(told, list, &pair.now).map_err(at)?;
+            }
+            if let Some(held) = told_held(told, length, list) {
+                let lent = list.lent(length, false);
+                pair.polled.replay(&lent, &numbers[..end]);
+                compare_held(&pair.polled, held).map_err(at)?;
+                counts.polled += 1;
+                counts.polled_held += u64::from(held > 0);
             }
         }
     }
@@ -283,22 +294,30 @@ fn compare_step(told: &Told, length: usize, state: &State, codes: &[u64]) -> Res
     }
 }
 
-/// The state after the whole list, and how many entries `replay_held` says are held, beside what was told.
-fn compare_told(told: &Told, list: &List, numbers: &[u64], pair: &mut Pair) -> Result<(), String> {
+fn compare_told(told: &Told, list: &List, buffers: &Buffers) -> Result<(), String> {
     let accepted = vec![0; list.calls.len()];
     let codes = told.codes.as_ref().unwrap_or(&accepted);
-    if told.opening.is_some() || !pair.now.answers.needed().eq(&codes[..]) {
+    if told.opening.is_some() || !buffers.answers.needed().eq(&codes[..]) {
         return Err("the numbers of the calls".to_owned());
     }
-    let Some(end) = &told.end else {
-        return Ok(());
-    };
-    end.compare(&pair.now, list.p, &list.calls, codes)?;
-    pair.polled
-        .replay(&list.lent(list.calls.len(), false), numbers);
-    match pair.polled.returned {
-        Ok(held) if held == end.held.len() => Ok(()),
-        other => Err(format!("{other:?} are held, not {}", end.held.len())),
+    match &told.end {
+        Some(end) => end.compare(buffers, list.p, &list.calls, codes),
+        None => Ok(()),
+    }
+}
+
+/// How many entries were told to be held after so many calls: by the window then, or at the end one by one.
+fn told_held(told: &Told, length: usize, list: &List) -> Option<u64> {
+    let step = told.steps.iter().find(|step| step.call + 1 == length);
+    let end = told.end.as_ref().filter(|_| length == list.calls.len());
+    let by_window = step.map(|step| step.lengths.iter().sum());
+    by_window.or(end.map(|end| end.held.len() as u64))
+}
+
+fn compare_held(polled: &Buffers, wanted: u64) -> Result<(), String> {
+    match polled.returned {
+        Ok(held) if held as u64 == wanted => Ok(()),
+        other => Err(format!("{other:?} are held, not {wanted}")),
     }
 }
 

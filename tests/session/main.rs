@@ -124,6 +124,8 @@ fn print_counts(counts: &Counts) {
     let Counts {
         lists,
         told,
+        polled,
+        polled_held,
         calls,
         replays,
         entries,
@@ -138,6 +140,7 @@ fn print_counts(counts: &Counts) {
     println!(
         "  {lists} lists ({told} with another program's answers), {calls} calls, {replays} replays"
     );
+    println!("  {polled} polled, as was told; {polled_held} of them with entries held");
     println!(
         "  {entries} order entries, {waited} registrations waited, one call placed up to {most_placed}, \
          {flushes} flushes, {overfull} lists with an overfull span"
