@@ -16,6 +16,7 @@ use Rattle.rules.specs.Calls.{step}
 use Rattle.rules.specs.Limits.{most-job-bytes, job-pool}
 use Rattle.rules.specs.Refusals as refusal
 use Rattle.rules.specs.Job.{Outcome, rejected, outcome, lines, ragged, run-lines, on-line, job-sizes, Reached, reached, reached-lines}
+use Rattle.laws.specs.Accepted.{open-code}
 use Rattle.laws.specs.Sound.{between-initial}
 use Rattle.guide.specs.Fresh.{first-guide}
 use Rattle.session.specs.declared.Session.{Session}
@@ -31,7 +32,6 @@ use Rattle.jobturn.specs.declared.Step.the-variants as step′
 use Rattle.jobturn.specs.Turned.{remains, StandsFor, Refuses, Surplus, Turned, MayTurn}
 use Rattle.jobturn.specs.declared.End.{End}
 use Rattle.jobturn.specs.declared.End.the-variants as end
-use Rattle.jobturn.specs.Laws.{open-low}
 use Rattle.job.specs.Run.{StandsReached, Left, Refused, Tells, MayRun, outcome-as, Stopped, Runs, Room, Ran}
 
 -- begun with s and σ, the calls up to `at` lead to a model, for which what remains is what remained at the start
@@ -259,7 +259,7 @@ module _ (job : List ℕ) (short : length job ≤ most-job-bytes) where
           let q : opened number ≡ (rejected 2 number, none) = rw (on-line, ne-eqb number 0 z) in
           record {
             tells = subst (λ (x : Storage). Refused job σ x 2 number) (sym (o .refused z)) (unopened σ 2 number (opening-next ∙ ap opened (sym number-is) ∙ q));
-            low = (omega arith, rw number-is (open-low P N job-sizes));
+            low = (omega arith, rw number-is (omega (arith, open-code P N job-sizes)));
             into = subst (λ (x : List ℕ). Beyond (length job / 2) a x) (sym (sized .into)) (beyond-refl _ a);
           }
 

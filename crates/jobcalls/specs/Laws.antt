@@ -1,9 +1,11 @@
 -- Laws of reading a job call by call: a line found or missing, a call of one line or of two, and the head. Assumes nothing.
+use mathlib.Core.Bool.{Bool, true, false}
 use mathlib.Core.List.{List, [], _∷_}
 use mathlib.Core.Logic.{_⊎_, inl, inr}
 use mathlib.Core.Option.{Option, some, none}
 use mathlib.Core.Path.{_≡_, refl, sym, ap, _∙_, subst}
 use Prim.Native.Nat.{ℕ, suc, _+_, _-_, _*_, _/_, _≤_, _<_}
+use native.Mathlib.Decide.{decLt}
 use native.Mathlib.Numerals.{add-one}
 use native.Mathlib.Omega.{arith}
 use lib.ListN.{length, take, drop, length-take, length-drop}
@@ -13,7 +15,7 @@ use Rattle.rules.specs.Job as rule
 use Rattle.rules.specs.Job.{lines, ragged}
 use Rattle.jobtext.specs.Text.{before}
 use Rattle.jobtext.specs.Lists.{drop-past}
-use Rattle.jobtext.specs.Pieces.{before-le, lines-more, lines-last, ragged-more}
+use Rattle.jobtext.specs.Pieces.{before-le, lines-more, lines-last, ragged-more, ragged-last}
 use Rattle.jobline.specs.declared.Line.{Line}
 use Rattle.jobline.specs.declared.Line.the-variants as line
 use Rattle.jobline.specs.Lines.{line-as, listed, LineRead}
@@ -151,6 +153,24 @@ module _ {s entry mid : List ℕ} {at after : ℕ} (i : ℕ) (a : LineAt s at en
         into = (b .room, keeps-past b well′ (i + o) (omega arith) ∙ keeps-past a well (i + o) (omega arith));
         into-beyond = both-beyond n b;
       }
+
+-- what follows a call, where nothing does and where something does: a line, or text without byte 10
+abbrev pub SomeLeft : List (List ℕ) → Bool → Type 0
+SomeLeft ls rag = ((ls ≡ []) × (rag ≡ true)) ⊎ ((l : List ℕ) × ((rest : List (List ℕ)) × (ls ≡ l ∷ rest)))
+
+pub none-left : (l : List ℕ) → length l ≡ 0 → (lines l ≡ []) × (ragged l ≡ false)
+unfolding lines rule.lines-from ragged
+none-left [] e = (refl, refl)
+none-left (b ∷ l) e = absurd (omega arith)
+
+pub some-left : (l : List ℕ) → (length l ≡ 0 → ⊥) → SomeLeft (lines l) (ragged l)
+unfolding lines
+some-left [] h = absurd (h refl)
+some-left (b ∷ l) h =
+    elim (decLt (before 10 (b ∷ l)) (length (b ∷ l))) [
+      | yes lt ↦ inr (_, (_, lines-more [] (b ∷ l) lt))
+      | no ge ↦ inl (lines-last [] (b ∷ l) (omega arith), ragged-last b l (omega arith))
+    ]
 
 -- the line of a call is its first, or the one after it
 abbrev pub line-of : FirstCall → ℕ

@@ -60,13 +60,17 @@ pub fn next_call(job: &[u8], at: usize, line: u64, into: &mut [u64]) -> Next
         Line::Inputs(inputs) => {
             let b = line_at(job, next, into, inputs);
             let m = b.line;
-            let line = line + 1;
+            let second = line + 1;
             let Line::Outputs(outputs) = m else {
-                return Next::Malformed { line };
+                return Next::Malformed { line: second };
             };
             let call = Call::Add { inputs, outputs };
             let next = b.next;
-            Next::Call { call, line, next }
+            Next::Call {
+                call,
+                line: second,
+                next,
+            }
         }
         Line::Flush => {
             let call = Call::Flush;

@@ -13,14 +13,12 @@ use lib.ListN.{length, take, drop, length-drop}
 use borrow.Author.Tests.{eq-eqb, ne-eqb}
 use Rattle.rules.specs.Model.{Model}
 use Rattle.rules.specs.Calls as calls
-use Rattle.rules.specs.Calls.{checks, answer, step}
-use Rattle.rules.specs.Checks.{Check, Sizes, verdict, check-range, check-open, check-set, check-add, check-flush, check-final, check-closed, check-places}
-use Rattle.rules.specs.Job.{Outcome, finished, rejected, lines, lines-from, ragged, on-line, closing}
+use Rattle.rules.specs.Calls.{answer, step}
+use Rattle.rules.specs.Job.{Outcome, finished, rejected, lines, ragged, on-line, closing}
 use Rattle.rules.specs.Record.{summary}
 use Rattle.rules.specs.Refusals as refusal
 use Rattle.rules.specs.Summary as rule
-use Rattle.jobtext.specs.Text.{before}
-use Rattle.jobtext.specs.Pieces.{bool, lines-more, lines-last, ragged-last}
+use Rattle.laws.specs.Accepted.{call-code}
 use Rattle.session.specs.declared.Session.{Session}
 use Rattle.session.specs.Storage.{Storage, Beyond, beyond-drop, frame-refl}
 use Rattle.session.specs.Showing.{shows}
@@ -32,7 +30,7 @@ use Rattle.jobcalls.specs.declared.Call.the-variants as call
 use Rattle.jobcalls.specs.declared.Next.{Next}
 use Rattle.jobcalls.specs.declared.Next.the-variants as next
 use Rattle.jobcalls.specs.Told.{call-of, taken-by, FirstCall, found, first-as, NextCall}
-use Rattle.jobcalls.specs.Laws.{line-of, line-near}
+use Rattle.jobcalls.specs.Laws.{SomeLeft, none-left, some-left, line-of, line-near}
 use Rattle.jobcalls.specs.Runs.{reads, makes, goes, call-runs}
 use Rattle.jobturn.specs.declared.End.the-variants as end
 use Rattle.jobturn.specs.declared.Step.{Step}
@@ -41,18 +39,16 @@ use Rattle.jobturn.specs.Turned.{Code, AfterCall, AfterFinal, remains, S
 
 -- the end of a job: nothing may follow final
 ends : (P n : ℕ) (k : Model) (l : List ℕ) → length l ≡ 0 → closing P n (lines l) (ragged l) k ≡ finished P k
-unfolding closing lines lines-from ragged
-ends P n k [] e = refl
-ends P n k (b ∷ l) e = absurd (omega arith)
+unfolding closing
+ends P n k l e = let z = none-left l e in rw (z .0, z .1)
 
 surplus : (P n : ℕ) (k : Model) (l : List ℕ) → (length l ≡ 0 → ⊥) → closing P n (lines l) (ragged l) k ≡ rejected n refusal.malformed
-unfolding closing lines
-surplus P n k [] h = absurd (h refl)
-surplus P n k (b ∷ l) h =
-    elim (decLt (before 10 (b ∷ l)) (length (b ∷ l))) [
-      | yes lt ↦ rw (lines-more [] (b ∷ l) lt)
-      | no ge ↦ rw (lines-last [] (b ∷ l) (omega arith), ragged-last b l (omega arith))
-    ]
+unfolding closing
+surplus P n k l h = go (some-left l h)
+  where
+    go : SomeLeft (lines l) (ragged l) → closing P n (lines l) (ragged l) k ≡ rejected n refusal.malformed
+    go (inl e) = rw (e .0, e .1)
+    go (inr e) = rw (e .1 .1)
 
 -- the run from a call on, by its number
 module _ (P N W m : ℕ) (rest : List (List ℕ)) (rag : Bool) (k : Model) where
@@ -82,36 +78,6 @@ module _ (P N W m : ℕ) (rest : List (List ℕ)) (rag : Bool) (k : Model) where
       → goes P N W (found calls.final m rest) rag k ≡ (closing P (suc m) rest rag (step P N W calls.final k), step P N W calls.final k)
   unfolding goes on-line
   goes-final h = rw (on-line, eq-eqb (answer N W calls.final k) 0 h)
-
--- a call's number is small, since every check's is
-verdict-low : (c : Check) (cs : List Check) → Code (c .number) → Code (verdict cs) → Code (verdict (c ∷ cs))
-unfolding verdict
-verdict-low c cs h i = go (bool (c .fails))
-  where
-    go : (c .fails ≡ true) ⊎ (c .fails ≡ false) → Code (verdict (c ∷ cs))
-    go (inl e) = rw (verdict, e) h
-    go (inr e) = rw (verdict, e) i
-
-none-low : Code (verdict [])
-unfolding verdict
-none-low = omega arith
-
-answer-low : (N W : ℕ) (c : calls.Call) (k : Model) → Code (answer N W c k)
-unfolding answer checks check-set check-add check-flush check-final check-closed check-places
-answer-low N W (calls.set x) k =
-    verdict-low _ _ (omega arith) (verdict-low _ _ (omega arith) (verdict-low _ _ (omega arith) (verdict-low _ _ (omega arith) none-low)))
-answer-low N W (calls.add i o) k =
-    verdict-low _ _ (omega arith)
-    (verdict-low _ _ (omega arith)
-    (verdict-low _ _ (omega arith)
-    (verdict-low _ _ (omega arith)
-    (verdict-low _ _ (omega arith) (verdict-low _ _ (omega arith) (verdict-low _ _ (omega arith) (verdict-low _ _ (omega arith) none-low)))))))
-answer-low N W calls.flush k = verdict-low _ _ (omega arith) (verdict-low _ _ (omega arith) none-low)
-answer-low N W calls.final k = verdict-low _ _ (omega arith) (verdict-low _ _ (omega arith) none-low)
-
-pub open-low : (P N : ℕ) (s : Sizes) → Code (verdict (check-open P N s))
-unfolding check-open check-range
-open-low P N s = verdict-low _ _ (omega arith) (verdict-low _ _ (omega arith) (verdict-low _ _ (omega arith) none-low))
 
 -- a call whose number is 0, or one that is refused
 by-number : (n : ℕ) → (n ≡ 0) ⊎ (n ≡ 0 → ⊥)
@@ -170,7 +136,7 @@ module _ {job entry read : List ℕ} {at n : ℕ} (s : Session) (σ : Storage) (
                     ∙ goes-refused P N W m (lines (drop after job)) (ragged (drop at job)) k d (λ y. z (f .0 ∙ y))
                     ∙ ap (λ (i : ℕ). (rejected m i, k)) (sym (f .0));
               });
-          further = (omega (arith, near c, at-m), rw (x .0) (answer-low (q .places) (length (σ .pool)) d (q .model)));
+          further = (omega (arith, near c, at-m), rw (x .0) (omega (arith, call-code (q .places) (length (σ .pool)) d (q .model))));
           frame = made .frame;
           into = numbers c same;
         }

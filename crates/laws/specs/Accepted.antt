@@ -10,9 +10,10 @@ use lib.ListN.{length}
 use lib.Dec.{leb, ltb}
 use borrow.Author.Tests.{ltb-false, leb-false, ne-eqb}
 use Rattle.rules.specs.Limits.{most-in-a-list, most-flushes}
+use Rattle.rules.specs.Refusals as refusal
 use Rattle.rules.specs.Model.{Model}
-use Rattle.rules.specs.Calls.{set, add, flush, final, checks, answer, unless-refused}
-use Rattle.rules.specs.Checks.{Check, verdict, any, repeats, taken, pooled, check-set, check-add, check-flush, check-final, check-closed, check-places}
+use Rattle.rules.specs.Calls.{Call, set, add, flush, final, checks, answer, unless-refused}
+use Rattle.rules.specs.Checks.{Check, Sizes, verdict, any, repeats, taken, pooled, check-range, check-open, check-set, check-add, check-flush, check-final, check-closed, check-places}
 use Rattle.laws.specs.ModelBase.{In, bool-cases}
 
 -- a list of checks gives 0: its first passes, and so do the others
@@ -130,3 +131,32 @@ final-passed N W k h =
     let a = verdict-head _ _ h (omega arith) in
     let b = verdict-head _ _ (a .1) (omega arith) in
     record { not-closed = a .0; none = omega (arith, ltb-false 0 (length (k .pending)) (b .0)) }
+
+-- no call and no opening is refused with a number of a job's text, of which 15 is the least
+verdict-code : (c : Check) (cs : List Check) → c .number < refusal.malformed → verdict cs < refusal.malformed → verdict (c ∷ cs) < refusal.malformed
+unfolding verdict
+verdict-code c cs h i = go (bool-cases (c .fails))
+  where
+    go : (c .fails ≡ true) ⊎ (c .fails ≡ false) → verdict (c ∷ cs) < refusal.malformed
+    go (inl e) = rw (verdict, e) h
+    go (inr e) = rw (verdict, e) i
+
+none-code : verdict [] < refusal.malformed
+unfolding verdict
+none-code = omega arith
+
+pub call-code : (N W : ℕ) (c : Call) (k : Model) → answer N W c k < refusal.malformed
+unfolding answer checks check-set check-add check-flush check-final check-closed check-places
+call-code N W (set x) k = verdict-code _ _ (omega arith) (verdict-code _ _ (omega arith) (verdict-code _ _ (omega arith) (verdict-code _ _ (omega arith) none-code)))
+call-code N W (add ins outs) k =
+    verdict-code _ _ (omega arith)
+    (verdict-code _ _ (omega arith)
+    (verdict-code _ _ (omega arith)
+    (verdict-code _ _ (omega arith)
+    (verdict-code _ _ (omega arith) (verdict-code _ _ (omega arith) (verdict-code _ _ (omega arith) (verdict-code _ _ (omega arith) none-code)))))))
+call-code N W flush k = verdict-code _ _ (omega arith) (verdict-code _ _ (omega arith) none-code)
+call-code N W final k = verdict-code _ _ (omega arith) (verdict-code _ _ (omega arith) none-code)
+
+pub open-code : (P N : ℕ) (s : Sizes) → verdict (check-open P N s) < refusal.malformed
+unfolding check-open check-range
+open-code P N s = verdict-code _ _ (omega arith) (verdict-code _ _ (omega arith) (verdict-code _ _ (omega arith) none-code))

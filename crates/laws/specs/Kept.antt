@@ -67,21 +67,21 @@ module _ (P N W : ℕ) where
 abbrev pub Noted : Model → Type 0
 Noted k = length (k .recorded .written) ≡ length (k .adds)
 
--- placing changes neither the accepted adds nor the record, and closes nothing
+-- placing changes neither the accepted adds nor the record, closes nothing and counts no flush
 abbrev SameLists : Model → Model → Type 0
-SameLists j k = (j .adds ≡ k .adds) × (j .recorded ≡ k .recorded) × (j .closed ≡ k .closed)
+SameLists j k = (j .adds ≡ k .adds) × (j .recorded ≡ k .recorded) × (j .closed ≡ k .closed) × (j .flushes ≡ k .flushes)
 
 cascade-same : (P N c f : ℕ) (st : List ℕ) (k : Model) → SameLists (cascade P N c f st k) k
 unfolding cascade rest keep place-one
-cascade-same P N c zero st k = (refl, refl, refl)
-cascade-same P N c (suc f) [] k = (refl, refl, refl)
+cascade-same P N c zero st k = (refl, refl, refl, refl)
+cascade-same P N c (suc f) [] k = (refl, refl, refl, refl)
 cascade-same P N c (suc f) (r ∷ st) k = cascade-same P N c f (push (off N (place-one P c r k)) st) (rest N (place-one P c r k))
 
 settle-same : (P N c : ℕ) (st : List ℕ) (k : Model) → SameLists (settle-all P N c st k) k
 unfolding settle-all
 settle-same P N c st k = cascade-same P N c _ st k
 
--- set, and add beside its own registration, leave adds, record and closed alone
+-- set, and add beside its own registration, leave adds, record, closed and flushes alone
 pub set-same : (P N x : ℕ) (k : Model) → SameLists (do-set P N x k) k
 unfolding do-set rest keep with-set
 set-same P N x k = settle-same P N (length (k .adds)) (off N (with-set x k)) (rest N (with-set x k))
@@ -92,7 +92,7 @@ add-same P N a k = go (bool-cases (ready (watermark N k) (a .ins)))
   where
     go : (ready (watermark N k) (a .ins) ≡ true) ⊎ (ready (watermark N k) (a .ins) ≡ false) → SameLists (do-add P N a k) (with-add a k)
     go (inl e) = rw (e, do-add) (settle-same P N (length (k .adds)) (length (k .adds) ∷ []) (with-add a k))
-    go (inr e) = rw (e, do-add) (refl, refl, refl)
+    go (inr e) = rw (e, do-add) (refl, refl, refl, refl)
 
 in-set : (l : List ℕ) (i v x : ℕ) → In x (set-at l i v) → In x l ⊎ (x ≡ v)
 in-set [] i v x h = absurd (List·Memᴰ·not-nil h)

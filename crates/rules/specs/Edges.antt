@@ -1,5 +1,6 @@
--- Document 01, where each rule turns: the numbers, lists and lines of a job, the line of each refusal, 16 and 17, the host's number, each
--- lent length one short, the greatest list and place, the summary of small tallies, and calls as numbers. Computed from the definitions.
+-- Document 01, where each rule turns: the numbers, lists and lines of a job, the line of each refusal, 16 and 17, what a job needs (document
+-- 02, M-101), the host's number, each lent length one short, the greatest list and place, the summary of small tallies, and calls as
+-- numbers. Computed from the definitions.
 use mathlib.Core.Path.{_≡_, refl}
 use mathlib.Core.List.{List, [], _∷_, _++_, map}
 use mathlib.Core.Option.{Option, some, none}
@@ -21,8 +22,9 @@ use Rattle.rules.specs.Job.{key-parallelism, key-places, key-set, key-in
 use Rattle.rules.specs.Job.{flush-line, final-line, malformed, Outcome, finished, rejected, lines-from, lines, ragged, digits-from, leading-zero, in-64-bits, number}
 use Rattle.rules.specs.Job.{fields-from, both, numbers, list, after-key, with-number, with-list, whole, key-or, line-of, on-line, closing, run-lines, job-sizes, run-places}
 use Rattle.rules.specs.Job.{run-job, outcome}
+use Rattle.rules.specs.Needs.{no-needs, with-call, most-spans, Reading, needing, unread, ending, need-lines, need-places, need-job, needs}
 use Rattle.rules.specs.Listing.{digits, decimal, Reply, fit, told, reply, printed, program, result, bytes-after}
-use Rattle.rules.specs.Listings.{listing-1}
+use Rattle.rules.specs.Listings.{job-1, listing-1}
 use Rattle.rules.specs.Encoding.{counted, set-front, add-outs, add-front, front, before-all, and-then, unless-empty, decode-from, decode}
 
 abbrev one : ℕ → List ℕ
@@ -182,9 +184,8 @@ abbrev ends : Outcome → List ℕ
 ends (finished P k) = 0 ∷ P ∷ length (k .guide .order) ∷ k .recorded .places ∷ []
 ends (rejected n code) = n ∷ code ∷ []
 
-pub jobs-got : List (List ℕ)
-jobs-got =
-    map (λ (bs : List ℕ). ends (outcome bs)) (
+abbrev jobs : List (List ℕ)
+jobs =
     -- 15, a missing line counts as the one after the last: no bytes; an empty line; a first, a second, a third line without byte 10
     []
     ∷ one 10
@@ -242,7 +243,9 @@ jobs-got =
     ∷ replicate 65536 10
     ∷ replicate 65537 10
     ∷ []
-    )
+
+pub jobs-got : List (List ℕ)
+jobs-got = map (λ (bs : List ℕ). ends (outcome bs)) jobs
 
 pub jobs-want : List (List ℕ)
 jobs-want =
@@ -301,6 +304,84 @@ unfolding jobs-got jobs-want digits decimal parallelism parallelism-by last-para
     check-closed check-places check-set check-add check-flush check-final checks answer apply-call unless-refused step lines-from lines ragged digits-from leading-zero in-64-bits
     number fields-from both numbers list after-key with-number with-list whole key-or line-of on-line closing run-lines job-sizes run-places run-job outcome
 jobs-turn = refl
+
+-- ---- what a job needs
+
+-- what is read off a job: a refusal's line and number; else 0, the needs and the most spans
+abbrev reads : Reading → List ℕ
+reads (needing c) = 0 ∷ c .registrations ∷ c .pool ∷ c .flushes ∷ most-spans c ∷ []
+reads (unread n code) = n ∷ code ∷ []
+
+-- the same jobs; J1; lists of other lengths, with two flushes; P of 65 bits; no `out=` line after an opening and a call that are refused
+pub needs-got : List (List ℕ)
+needs-got =
+    map (λ (bs : List ℕ). reads (needs bs)) (
+    jobs
+    ++ (job-1
+    ∷ (head 2 6 ++ (bytes "in=0,1,2\nout=3\n" ++ (ln flush-text [] ++ (bytes "in=\nout=4,5\n" ++ (bytes "in=\nout=\n" ++ (ln flush-text [] ++ end))))))
+    ∷ (head (2 ^ 64) 6 ++ end)
+    ∷ (head 0 6 ++ (set-to 9 ++ (in-to 0 ++ end)))
+    ∷ [])
+    )
+
+pub needs-want : List (List ℕ)
+needs-want =
+    (1 ∷ 15 ∷ [])
+    ∷ (1 ∷ 15 ∷ [])
+    ∷ (1 ∷ 15 ∷ [])
+    ∷ (2 ∷ 15 ∷ [])
+    ∷ (3 ∷ 15 ∷ [])
+    ∷ (2 ∷ 15 ∷ [])
+    ∷ (3 ∷ 15 ∷ [])
+    ∷ (5 ∷ 15 ∷ [])
+    ∷ (1 ∷ 15 ∷ [])
+    ∷ (2 ∷ 15 ∷ [])
+    ∷ (3 ∷ 15 ∷ [])
+    ∷ (0 ∷ 0 ∷ 0 ∷ 0 ∷ 32 ∷ [])
+    ∷ (0 ∷ 0 ∷ 0 ∷ 0 ∷ 32 ∷ [])
+    ∷ (0 ∷ 0 ∷ 0 ∷ 0 ∷ 32 ∷ [])
+    ∷ (0 ∷ 0 ∷ 0 ∷ 0 ∷ 32 ∷ [])
+    ∷ (0 ∷ 0 ∷ 0 ∷ 0 ∷ 32 ∷ [])
+    ∷ (0 ∷ 0 ∷ 0 ∷ 0 ∷ 32 ∷ [])
+    ∷ (0 ∷ 0 ∷ 0 ∷ 0 ∷ 32 ∷ [])
+    ∷ (0 ∷ 0 ∷ 0 ∷ 0 ∷ 32 ∷ [])
+    ∷ (0 ∷ 0 ∷ 0 ∷ 0 ∷ 32 ∷ [])
+    ∷ (0 ∷ 0 ∷ 0 ∷ 0 ∷ 32 ∷ [])
+    ∷ (0 ∷ 0 ∷ 0 ∷ 0 ∷ 32 ∷ [])
+    ∷ (2 ∷ 15 ∷ [])
+    ∷ (3 ∷ 15 ∷ [])
+    ∷ (4 ∷ 15 ∷ [])
+    ∷ (4 ∷ 15 ∷ [])
+    ∷ (4 ∷ 15 ∷ [])
+    ∷ (3 ∷ 15 ∷ [])
+    ∷ (0 ∷ 1 ∷ 2 ∷ 0 ∷ 34 ∷ [])
+    ∷ (4 ∷ 15 ∷ [])
+    ∷ (3 ∷ 15 ∷ [])
+    ∷ (4 ∷ 15 ∷ [])
+    ∷ (3 ∷ 15 ∷ [])
+    ∷ (0 ∷ 0 ∷ 0 ∷ 0 ∷ 32 ∷ [])
+    ∷ (0 ∷ 0 ∷ 0 ∷ 0 ∷ 32 ∷ [])
+    ∷ (0 ∷ 2 ∷ 0 ∷ 0 ∷ 36 ∷ [])
+    ∷ (0 ∷ 1 ∷ 1 ∷ 0 ∷ 34 ∷ [])
+    ∷ (6 ∷ 15 ∷ [])
+    ∷ (4 ∷ 15 ∷ [])
+    ∷ (4 ∷ 15 ∷ [])
+    ∷ (4 ∷ 15 ∷ [])
+    ∷ (4 ∷ 15 ∷ [])
+    ∷ (0 ∷ 0 ∷ 0 ∷ 0 ∷ 32 ∷ [])
+    ∷ (0 ∷ 1 ∷ 2 ∷ 1 ∷ 66 ∷ [])
+    ∷ (1 ∷ 15 ∷ [])
+    ∷ (1 ∷ 16 ∷ [])
+    ∷ (0 ∷ 4 ∷ 7 ∷ 0 ∷ 40 ∷ [])
+    ∷ (0 ∷ 3 ∷ 6 ∷ 2 ∷ 102 ∷ [])
+    ∷ (1 ∷ 15 ∷ [])
+    ∷ (5 ∷ 15 ∷ [])
+    ∷ []
+
+pub needs-turn : needs-got ≡ needs-want
+unfolding needs-got needs-want digits decimal lines-from lines ragged digits-from leading-zero in-64-bits number fields-from both numbers list after-key with-number with-list whole
+    key-or line-of no-needs with-call most-spans ending need-lines need-places need-job needs
+needs-turn = refl
 
 -- ---- the answer
 

@@ -10,6 +10,7 @@ pub mod Alone
 pub mod Summary
 pub mod Record
 pub mod Job
+pub mod Needs
 pub mod Listing
 pub mod Encoding
 pub mod Placements

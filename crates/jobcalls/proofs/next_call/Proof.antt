@@ -34,8 +34,8 @@ line-at-requires-2 c κs =
     let start = start read in
     (read .line-at .ensures .within, second-room _ (told-as (read .line-at .ensures) (told .l2 .given .1)) (start .pre .1 .0) (read .line-at .kept .1 .1 .0))
 
-add-line : tie.Need-add-line
-add-line c = search needs
+add-second : tie.Need-add-second
+add-second c = search needs
 
 enum-known-m : tie.Need-enum-known-m
 enum-known-m c = search needs
@@ -108,7 +108,7 @@ next-call-spec =
     enum-known-l
     enum-known-l-2
     line-at-requires-2
-    add-line
+    add-second
     enum-known-m
     same-length
     returns
