@@ -8,8 +8,7 @@
 #include <stddef.h>
 #include <stdint.h>
 
-#include "limits.h"
-#include "refusals.h"
+#include "reply.h"
 
 #ifdef __cplusplus
 extern "C" {
@@ -31,10 +30,8 @@ extern "C" {
    fails where it is more. */
 uint64_t order_job(const uint8_t *job, size_t job_count, uint8_t *listing, size_t listing_count);
 
-/* A returned number, taken apart. */
-#define ORDER_CODE(returned) ((unsigned)((returned) % ORDER_REPLY_RADIX))      /* 0 if the job was accepted */
-#define ORDER_LENGTH(returned) ((size_t)((returned) / ORDER_REPLY_RADIX))      /* the listing's, if it was */
-#define ORDER_LINE(returned) ((unsigned long)((returned) / ORDER_REPLY_RADIX)) /* the refusal's, if it was not */
+/* A returned number is taken apart by ORDER_CODE and ORDER_LINE of reply.h, and by this one. */
+#define ORDER_LENGTH(returned) ((size_t)((returned) / ORDER_REPLY_RADIX)) /* the listing's, if the job was accepted */
 
 #ifdef __cplusplus
 }

@@ -9,7 +9,14 @@ use std::path::{Path, PathBuf};
 use std::process::{exit, Command, Output};
 
 /// Each crate with exported calls. An archive's only global names are these, so that all go into one program.
-const CRATES: [&str; 5] = ["host", "replay", "alone_replay", "order_entries", "summary"];
+const CRATES: [&str; 6] = [
+    "host",
+    "jobneeds",
+    "replay",
+    "alone_replay",
+    "order_entries",
+    "summary",
+];
 /// The library of an installation, with the calls of all of them.
 const INSTALLED: [&str; 1] = ["order"];
 

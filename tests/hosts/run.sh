@@ -107,6 +107,7 @@ for compiler in 'gcc -std=c99' 'g++ -std=c++11 -x c++' 'clang -std=c99' 'clang++
   fi
 done
 archives=$(printf 'target/staticlib/lib%s.a ' $(grep -l 'pub extern "C" fn' crates/*/src/lib.rt | cut -d/ -f2))
+printf '%s\n' registrations=4 pool=7 flushes=0 most_spans=40 >"$work/j1.needs"
 headers=0
 for compiler in "${compilers[@]}"; do
   strict="$compiler -Wall -Wextra -pedantic -Werror -O2"
@@ -127,6 +128,8 @@ for compiler in "${compilers[@]}"; do
   diff <(grep ^order= crates/order/stdout) <("$work/replay_example") || fail "replay_example by $compiler"
   diff <(grep ^order= crates/order/stdout) <("$work/storage_example" | grep ^order=) || fail "storage_example by $compiler"
   "$work/storage" || fail "storage by $compiler"
+  diff "$work/j1.needs" <("$work/needs_example" <crates/order/stdin) || fail "needs_example by $compiler"
+  diff "$work/j1.needs" <("$work/needs_example" crates/order/stdin) || fail "needs_example with a file by $compiler"
   diff - <("$work/guide_example") <<'TEXT' || fail "guide_example by $compiler"
 request 0: span 1, position 0
 request 1: span 2, position 0
@@ -145,10 +148,18 @@ TEXT
   done
   refuses 2 "and nothing else" "$work/order_example" 5 5
   refuses 1 "" "$work/order_example" 65536
+  refuses 1 "" "$work/needs_example"
+  grep -q '^refused with 15 on line 1: a line is malformed' "$work/out" || fail "needs_example on no bytes"
+  refuses 1 "" "$work/needs_example" <(head -c 65537 /dev/zero)
+  grep -q '^refused with 16 on line 1: the job has more' "$work/out" || fail "needs_example on 65,537 bytes"
+  refuses 2 "the job cannot be read" "$work/needs_example" "$work/nothing"
+  refuses 2 "the job cannot be read" "$work/needs_example" docs
+  refuses 2 "and nothing else" "$work/needs_example" crates/order/stdin crates/order/stdin
+  refuses 2 "the answer cannot be written" bash -c "'$work/needs_example' crates/order/stdin >/dev/full"
 done
 gcc -g -fsanitize=address,undefined -fno-sanitize-recover -Ihosts tests/hosts/storage.c $archives -o "$work/storage"
 "$work/storage" || fail "storage with the sanitizers"
-echo "hosts: $headers headers, four examples and replay_storage's test by: ${compilers[*]%% *}; and with sanitizers"
+echo "hosts: $headers headers, five examples and replay_storage's test by: ${compilers[*]%% *}; and with sanitizers"
 
 # A host with nothing but pkg-config from the installation, in a folder of its own: shared, static and C++.
 elsewhere=$(mktemp -d)
@@ -156,12 +167,12 @@ trap 'rm -rf "$elsewhere"' EXIT
 outside() (
   set -e
   trap 'echo "$0: line $LINENO ended with $?: $BASH_COMMAND" >&2' ERR
-  listing=$PWD/crates/order/stdout job=$PWD/crates/order/stdin prints=$PWD/tests/prints.sh
+  listing=$PWD/crates/order/stdout job=$PWD/crates/order/stdin needs=$work/j1.needs prints=$PWD/tests/prints.sh
   export PKG_CONFIG_PATH=$prefix/lib/pkgconfig LD_LIBRARY_PATH=$prefix/lib
   cp "$prefix"/share/order/examples/*.c "$elsewhere"
   cd "$elsewhere"
   [ "$(pkg-config --modversion order)" = "$(cat "$prefix/share/order/VERSION")" ]
-  for example in order replay storage guide; do
+  for example in order needs replay storage guide; do
     source=${example}_example.c
     gcc -std=c99 $(pkg-config --cflags order) $source $(pkg-config --libs order) -o $example-shared
     gcc -static $(pkg-config --cflags order) $source $(pkg-config --static --libs order) -o $example-static
@@ -169,6 +180,7 @@ outside() (
       g++ -std=c++11 -x c++ $(pkg-config --cflags order) $source -x none $(pkg-config --libs order) -o $example-c++
   done
   for program in order-*; do $(realpath $program) <"$job" | diff - "$listing"; done
+  for program in needs-*; do $(realpath $program) <"$job" | diff - "$needs"; done
   for program in replay-* storage-*; do
     $(realpath $program) | grep ^order= | diff - <(grep ^order= "$listing")
   done
@@ -187,7 +199,7 @@ if command -v pkg-config >/dev/null; then
   ended=$?
   set -e
   [ $ended -eq 0 ] || fail "a host built from the installation"
-  echo "hosts: four C programs built with pkg-config alone, shared, static and as C++; the prefix may be moved"
+  echo "hosts: five C programs built with pkg-config alone, shared, static and as C++; the prefix may be moved"
 else
   echo "hosts: no pkg-config: NOTHING is built from the installation"
 fi
@@ -328,11 +340,12 @@ for job in "${jobs[@]}"; do
 done
 echo "hosts: ${#jobs[@]} refusals in words, the same by order-job and order-large"
 # The module for Python, as installed: J1 by the installed library.
-diff <(cat crates/order/stdout && echo "$prefix/lib/liborder.so") <(
+diff <(cat crates/order/stdout && echo "4 7 0 40 $prefix/lib/liborder.so") <(
   env -u ORDER_LIBS PYTHONDONTWRITEBYTECODE=1 PYTHONPATH="$prefix/share/order/python" python3 -c '
 import sys, witness_order, witness_order.libraries
-print(witness_order.run_job(sys.stdin.read()), end="")
-print(witness_order.libraries.path())' <crates/order/stdin) || fail "the module for Python as installed"
+job = sys.stdin.read()
+print(witness_order.run_job(job), end="")
+print(*witness_order.job_needs(job), witness_order.libraries.path())' <crates/order/stdin) || fail "the module for Python as installed"
 echo "hosts: the module for Python as installed: J1"
 echo "hosts: order-job: listings as the program prints them, refusals and failures in words with their status"
 

@@ -84,6 +84,67 @@ class Jobs(unittest.TestCase):
         self.assertRaisesRegex(MemoryError, "no memory for", order.run_job, "", 2**63)
 
 
+def counted(text):
+    """What a well-formed job needs, by its lines."""
+    lines = text.splitlines()
+    lists = [line.partition("=")[2] for line in lines if line.startswith(("in=", "out="))]
+    flushes = lines.count("flush=1")
+    return len(lists) // 2, sum(len(one.split(",")) for one in lists if one), flushes, len(lists) + 32 * (flushes + 1)
+
+
+class Needs(unittest.TestCase):
+    def test_j1(self):
+        text = read("crates", "order", "stdin")
+        needs = order.job_needs(text)
+        self.assertEqual((needs.registrations, needs.pool, needs.flushes, needs.most_spans), (4, 7, 0, 40))
+        self.assertEqual(order.job_needs(text.encode()), needs)
+        self.assertEqual(order.job_needs("parallelism=0\nplaces=0\nfinal=1\n"), (0, 0, 0, 32))
+
+    def test_examples(self):
+        """An accepted job has as many entries as it needs registrations."""
+        names = [name for name in sorted(os.listdir(os.path.join(ROOT, "examples"))) if name.endswith(".job")]
+        self.assertTrue(names)
+        for name in names:
+            text = read("examples", name)
+            self.assertEqual(order.job_needs(text), counted(text), name)
+            self.assertEqual(order.job_needs(text).registrations, len(order.run_job(text).entries), name)
+
+    def test_refused(self):
+        """What is refused for its text is refused alike; what is refused for its head or a call has needs."""
+        jobs = {"long": "#" * 65_537}
+        for name in sorted(os.listdir(os.path.join(ROOT, "examples", "refused"))):
+            if name.endswith(".job"):
+                jobs[name] = read("examples", "refused", name)
+        numbers = set()
+        for name, text in jobs.items():
+            with self.assertRaises(order.Rejected) as run:
+                order.run_job(text)
+            numbers.add(run.exception.refusal)
+            if run.exception.refusal in (order.Refusal.MALFORMED, order.Refusal.LONG_JOB):
+                with self.assertRaises(order.Rejected) as refused:
+                    order.job_needs(text)
+                self.assertEqual(str(refused.exception), str(run.exception), name)
+            else:
+                self.assertEqual(order.job_needs(text), counted(text), name)
+        self.assertEqual(numbers, {1, 2, 4, 5, 6, 8, 9, 10, 12, 15, 16})
+
+    def test_random(self):
+        """Lists with refused calls among them: the pool holds all list numbers."""
+        for seed in range(400):
+            parallelism, places, calls, lines = random_list(seed)
+            text = "\n".join([f"parallelism={parallelism}", f"places={places}", *sum(lines, []), ""])
+            needs = order.job_needs(text)
+            self.assertEqual(needs, counted(text), seed)
+            self.assertEqual(needs.pool, calls.pooled, seed)
+            with self.assertRaises(order.Rejected) as refused:
+                order.job_needs(text + "final=1\n")
+            self.assertEqual((refused.exception.refusal, refused.exception.line), (order.Refusal.MALFORMED, text.count("\n") + 1))
+
+    def test_bad_arguments(self):
+        for bad in (5, None, [1, 2], memoryview(b"x")):
+            self.assertRaisesRegex(TypeError, "a job is text or bytes", order.job_needs, bad)
+
+
 class Lists(unittest.TestCase):
     def test_beside_jobs(self):
         """The calls that are accepted, as a job, give the order that the whole list gives."""

@@ -1,9 +1,10 @@
 """Host code, not proved: execution orders of circuits, by the proved libraries.
 
-    from witness_order import Calls, held, replay, run_job
+    from witness_order import Calls, held, job_needs, replay, run_job
 
-    listing = run_job("parallelism=2\nplaces=2\nin=\nout=0\nin=0\nout=1\nfinal=1\n")
-    for entry in listing.entries:
+    job = "parallelism=2\nplaces=2\nin=\nout=0\nin=0\nout=1\nfinal=1\n"
+    print(job_needs(job).pool)
+    for entry in run_job(job).entries:
         print(entry.added, entry.parallelism)
 
     calls = Calls().set(0).add([0], [1, 2]).add([2], [3]).final()
@@ -23,8 +24,9 @@ from .libraries import LibraryMissing
 from .refusals import Refusal
 from .calls import Calls, Rejected, Replayed, held, replay
 from .job import Listed, Listing, run_job
+from .needs import Needs, job_needs
 
 __all__ = [
-    "Calls", "Entry", "Figures", "LibraryMissing", "Listed", "Listing", "Refusal", "Rejected", "Replayed", "Row", "held", "replay",
-    "run_job",
+    "Calls", "Entry", "Figures", "LibraryMissing", "Listed", "Listing", "Needs", "Refusal", "Rejected", "Replayed", "Row", "held",
+    "job_needs", "replay", "run_job",
 ]

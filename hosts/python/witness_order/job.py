@@ -31,15 +31,25 @@ class Listing:
         return self.text
 
 
-def run_job(job, room=LISTING_BYTES):
-    """Runs a job, given as text or bytes, with so many bytes for its listing. Raises Rejected where it is refused."""
+def bytes_of(job):
+    """A job, which is text or bytes, as an array."""
     if not isinstance(job, (str, bytes, bytearray)):
         raise TypeError(f"a job is text or bytes, and not {type(job).__name__}")
     data = job.encode() if isinstance(job, str) else bytes(job)
-    text = (ctypes.c_uint8 * len(data)).from_buffer_copy(data) if data else (ctypes.c_uint8 * 0)()
-    listing = array(ctypes.c_uint8, *numbers_of([room]))
-    result = function("order_job")(*as_arguments(text, listing))
+    return (ctypes.c_uint8 * len(data)).from_buffer_copy(data) if data else (ctypes.c_uint8 * 0)()
+
+
+def answer_of(result):
+    """What a call that reads a job says of an accepted one. Raises Rejected where it was refused."""
     rest, number = divmod(result, REPLY_RADIX)
     if number:
         raise Rejected(number, rest)
-    return Listing(bytes(listing[:rest]).decode("ascii"))
+    return rest
+
+
+def run_job(job, room=LISTING_BYTES):
+    """Runs a job, given as text or bytes, with so many bytes for its listing. Raises Rejected where it is refused."""
+    text = bytes_of(job)
+    listing = array(ctypes.c_uint8, *numbers_of([room]))
+    length = answer_of(function("order_job")(*as_arguments(text, listing)))
+    return Listing(bytes(listing[:length]).decode("ascii"))

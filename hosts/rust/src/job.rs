@@ -46,9 +46,13 @@ pub fn run(job: &[u8]) -> Result<String, Rejected> {
 /// Runs a job and returns its listing's length. The listing stands at the start of `listing`, and what
 /// lies behind it is untouched; a refused job leaves all of it untouched.
 pub fn run_into(job: &[u8], listing: &mut [u8]) -> Result<usize, Rejected> {
-    let returned = sys::job(job, listing);
+    taken_apart(sys::job(job, listing)).map(|length| length as usize)
+}
+
+/// What a call that reads a job returns: for an accepted job a number of its own, else the refusal.
+pub(crate) fn taken_apart(returned: u64) -> Result<u64, Rejected> {
     match returned % REPLY_RADIX {
-        0 => Ok((returned / REPLY_RADIX) as usize),
+        0 => Ok(returned / REPLY_RADIX),
         number => Err(Rejected {
             refusal: crate::refusal(number),
             line: returned / REPLY_RADIX,

@@ -41,6 +41,9 @@ pub const MOST_LISTED: usize = limits::MOST_IN_A_LIST as usize;
 /// The greatest job and listing of `order_job`, in bytes.
 pub const JOB_BYTES: usize = limits::MOST_JOB_BYTES as usize;
 
+/// Numbers of a job's needs: registrations, list numbers, plain flushes, the ceiling on spans.
+pub const JOB_NEEDS: usize = 4;
+
 /// What starts a call in an encoded list.
 pub const TAG_SET: u64 = 1;
 pub const TAG_ADD: u64 = 2;

@@ -10,6 +10,7 @@
 //! | [`mod@replay`] | `replay_calls` | a list of calls ([`calls`]) on a session of any size |
 //! | [`held`] | `replay_held` | the same, and how many entries the window holds then |
 //! | [`job`] | `order_job` | a job's text, of at most 65,536 bytes, to its listing |
+//! | [`needs`] | `job_needs` | what such a job needs, without running it |
 //! | [`summary`] | `order_summary` | average, median and counts of a tally |
 //! | [`guide`] | `guide_replay` | requests to the guide alone |
 //! | [`entries`] | `order_append_new` | the order as a slice of structs |
@@ -76,6 +77,7 @@ pub mod guide;
 pub mod job;
 pub mod large;
 pub mod layout;
+pub mod needs;
 pub mod refusal;
 pub mod replay;
 pub mod summary;
@@ -83,6 +85,7 @@ mod sys;
 
 pub use calls::{Call, Calls};
 pub use layout::{limits, Entry, Location, Row};
+pub use needs::Needs;
 pub use refusal::Refusal;
 pub use replay::{held, replay, Replayed, Storage, StorageError};
 pub use summary::Summary;

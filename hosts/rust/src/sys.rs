@@ -6,6 +6,8 @@ extern "C" {
     fn order_job(job: *const u8, job_length: usize, listing: *mut u8, listing_length: usize)
         -> u64;
 
+    fn job_needs(job: *const u8, job_length: usize, needs: *mut [u64; 4]) -> u64;
+
     fn guide_replay(
         p: u64,
         v: u64,
@@ -72,12 +74,18 @@ macro_rules! replay_functions {
 
 replay_functions!(replay_calls, replay_held);
 
-// SAFETY, for every call below: each pointer and length is a whole slice that is borrowed for the call,
-// exclusively where it is written, so that no two overlap and none is null. The calls ask nothing else.
+// SAFETY, for every call below: each pointer and length is a whole slice, and the needs are a whole array,
+// borrowed for the call, exclusively where it is written, so that no two overlap and none is null. The
+// calls ask nothing else.
 
 /// Runs a job: 64 times the listing's length, or for a refusal 64 times the line plus its number.
 pub fn job(job: &[u8], listing: &mut [u8]) -> u64 {
     unsafe { order_job(job.as_ptr(), job.len(), listing.as_mut_ptr(), listing.len()) }
+}
+
+/// Fills `needs` with what a job needs: 0, or for a refusal 64 times the line plus its number.
+pub fn needs(job: &[u8], needs: &mut [u64; 4]) -> u64 {
+    unsafe { job_needs(job.as_ptr(), job.len(), needs) }
 }
 
 /// What a session works on.
