@@ -16,7 +16,7 @@ use Rattle.rules.specs.Job as job-rule
 use Rattle.rules.specs.Job.{lines, ragged}
 use Rattle.rules.specs.Needs as rule
 use Rattle.rules.specs.Needs.{no-needs, with-call, ending, need-lines, need-places, need-job, needs}
-use Rattle.laws.specs.Needs.{needed}
+use Rattle.laws.specs.NeedsProof.{needed}
 use Rattle.jobcalls.specs.declared.Call.{Call}
 use Rattle.jobcalls.specs.declared.Call.the-variants as call
 use Rattle.jobcalls.specs.declared.Next.{Next}

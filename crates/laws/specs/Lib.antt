@@ -1,5 +1,5 @@
 -- Theorems about the definitions of `rules`. The main ones: `demand-3` (DemandProof), `numbers-fit` (Widths), `sound` and `between`
--- (Sound), `placeable` (Placeable), `alone-sound` (Alone), `alone-numbers-fit` (AloneWidths), `needed` (Needs).
+-- (Sound), `placeable` (Placeable), `alone-sound` (Alone), `alone-numbers-fit` (AloneWidths), `needed` (NeedsProof).
 pub mod Width
 pub mod History
 pub mod Together
@@ -30,3 +30,4 @@ pub mod Widths
 pub mod Alone
 pub mod AloneWidths
 pub mod Needs
+pub mod NeedsProof
