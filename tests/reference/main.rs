@@ -4,6 +4,8 @@
 //!   reference job               a job, answered as the program answers it
 //!   reference host LENT         a job, answered as the host's call does with LENT listing bytes: the
 //!                               returned number on a line, then the listing
+//!   reference needs             a job: what it needs by its text alone, or its refusal; and what it used,
+//!                               where it is accepted
 //!   reference random KIND SEED COUNT
 //!                               random runs, KIND session, guide, session-refused, guide-refused
 //!   reference exhaustive KIND   all short runs, KIND session or guide
@@ -15,7 +17,7 @@ mod generate;
 mod jobs;
 mod model;
 
-use model::{Code, Entry, Guide, Lent, Location, Session, Summary, Window, SPANS};
+use model::{Code, Entry, Guide, Lent, Location, Needs, Session, Summary, Window, SPANS};
 use std::fmt::{Display, Write as _};
 use std::io::{Read, Write};
 use std::process::exit;
@@ -32,6 +34,7 @@ fn main() {
             put(&mut out, format!("{returned}\n").as_bytes());
             put(&mut out, &listing);
         }
+        ["needs"] => put(&mut out, needs_text(&read_input()).as_bytes()),
         ["random", kind, seed, count] => {
             generate::random(kind, plain(seed), plain(count), &mut |run| put(&mut out, run))
         }
@@ -39,7 +42,7 @@ fn main() {
             jobs::cases(plain(seed), plain(count), &mut |case| put(&mut out, case))
         }
         ["exhaustive", kind] => generate::exhaustive(kind, &mut |run| put(&mut out, run)),
-        _ => fail("use: runs | job | host LENT | random KIND SEED COUNT | exhaustive KIND | jobs SEED COUNT"),
+        _ => fail("use: runs | job | host LENT | needs | random KIND SEED COUNT | exhaustive KIND | jobs SEED COUNT"),
     }
     let _ = out.flush();
 }
@@ -65,6 +68,26 @@ fn read_input() -> Vec<u8> {
 fn put(out: &mut impl Write, bytes: &[u8]) {
     if out.write_all(bytes).is_err() {
         exit(1)
+    }
+}
+
+/// Registrations, list numbers, plain flushes and the ceiling on spans; after a run the spans released.
+fn needs_text(job: &[u8]) -> String {
+    let line = |word, needs: &Needs, spans: u64| {
+        let Needs {
+            registrations,
+            list_numbers,
+            flushes,
+        } = needs;
+        format!("{word} {registrations} {list_numbers} {flushes} {spans}\n")
+    };
+    match model::job_needs(job) {
+        Ok(needs) => {
+            let used = model::finish_job(job)
+                .map(|(session, _)| line("used", &session.used(), session.window.first));
+            line("needs", &needs, needs.ceiling()) + &used.unwrap_or_default()
+        }
+        Err(refusal) => refusal.text(),
     }
 }
 

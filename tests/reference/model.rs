@@ -374,6 +374,15 @@ impl Session {
         Ok(Summary::of(&self.window.tally))
     }
 
+    /// What the accepted calls came to.
+    pub fn used(&self) -> Needs {
+        Needs {
+            registrations: self.registrations.len() as u64,
+            list_numbers: self.list_numbers,
+            flushes: self.plain_flushes,
+        }
+    }
+
     // The checks, in the paper's order. Each goes over all places of the call before the next.
 
     fn check_set(&self, place: u64) -> Code {
@@ -643,10 +652,39 @@ const JOB_BYTES: usize = 65_536;
 /// The listing bytes that the program lends.
 pub const LISTING_BYTES: usize = 65_536;
 
+/// What a job needs, or what one has used.
+#[derive(Clone, Copy, Default, PartialEq, Eq, Debug)]
+pub struct Needs {
+    pub registrations: u64,
+    /// The numbers in the lists of all registrations.
+    pub list_numbers: u64,
+    /// The plain flushes.
+    pub flushes: u64,
+}
+
+impl Needs {
+    /// No more spans are released: a registration opens two at most, a flush and final release all 32.
+    pub fn ceiling(&self) -> u64 {
+        2 * self.registrations + SPANS as u64 * (self.flushes + 1)
+    }
+}
+
 /// A refused job: the number and the line.
 pub struct Refusal {
     pub code: Code,
     pub line: u64,
+}
+
+impl Refusal {
+    /// As the host's calls return it.
+    pub fn returned(&self) -> u64 {
+        64 * self.line + self.code
+    }
+
+    /// As the program prints it.
+    pub fn text(&self) -> String {
+        format!("status={}\nline={}\n", self.code, self.line)
+    }
 }
 
 /// The lines of a job, each ended by byte 10; what comes after the last byte 10 is no line.
@@ -657,19 +695,37 @@ struct Lines<'a> {
 }
 
 impl<'a> Lines<'a> {
+    /// Those of a job, unless it has too many bytes.
+    fn of(job: &'a [u8]) -> Result<Self, Refusal> {
+        if job.len() > JOB_BYTES {
+            return Err(Refusal { code: 16, line: 1 });
+        }
+        Ok(Self { rest: job, next: 1 })
+    }
+
     /// The next line without its byte 10; where there is none, the refusal of a missing line.
     fn take(&mut self) -> Result<&'a [u8], Refusal> {
-        match self.rest.iter().position(|&byte| byte == 10) {
-            Some(end) => {
-                let line = &self.rest[..end];
-                self.rest = &self.rest[end + 1..];
-                self.next += 1;
-                Ok(line)
-            }
-            None => Err(Refusal {
-                code: 15,
-                line: self.next,
-            }),
+        let end = self.rest.iter().position(|&byte| byte == 10);
+        let end = end.ok_or_else(|| self.refuse_next())?;
+        let line = &self.rest[..end];
+        self.rest = &self.rest[end + 1..];
+        self.next += 1;
+        Ok(line)
+    }
+
+    /// Nothing may follow, not even a part of a line.
+    fn end(&self) -> Result<(), Refusal> {
+        match self.rest {
+            [] => Ok(()),
+            _ => Err(self.refuse_next()),
+        }
+    }
+
+    /// The refusal of a missing line, or of a surplus one: at the line that comes next.
+    fn refuse_next(&self) -> Refusal {
+        Refusal {
+            code: 15,
+            line: self.next,
         }
     }
 
@@ -690,32 +746,57 @@ impl<'a> Lines<'a> {
         }
     }
 
+    /// What was read of the line that was taken last, unless that is malformed.
+    fn formed<T>(&self, read: Option<T>) -> Result<T, Refusal> {
+        read.ok_or_else(|| self.refuse(15))
+    }
+
     /// The value of a line `key=value` that must come next.
     fn take_value(&mut self, key: &str) -> Result<&'a [u8], Refusal> {
         let line = self.take()?;
-        value_of(line, key).ok_or_else(|| self.refuse(15))
+        self.formed(value_of(line, key))
     }
+
+    /// P and V by the two head lines.
+    fn take_head(&mut self) -> Result<(u64, u64), Refusal> {
+        let mut head = |key| {
+            let value = self.take_value(key)?;
+            self.formed(number(value))
+        };
+        Ok((head("parallelism")?, head("places")?))
+    }
+
+    /// The call that the next line makes (with its `out=` line, for an add).
+    fn take_call(&mut self) -> Result<JobCall, Refusal> {
+        let line = self.take()?;
+        if let Some(value) = value_of(line, "set") {
+            return self.formed(number(value)).map(JobCall::Set);
+        }
+        if let Some(value) = value_of(line, "in") {
+            let inputs = self.formed(numbers(value))?;
+            let value = self.take_value("out")?;
+            let outputs = self.formed(numbers(value))?;
+            return Ok(JobCall::Add(inputs, outputs));
+        }
+        match line {
+            b"flush=1" => Ok(JobCall::Flush),
+            b"final=1" => Ok(JobCall::Final),
+            _ => Err(self.refuse(15)),
+        }
+    }
+}
+
+/// A call of a job as it is read.
+enum JobCall {
+    Set(u64),
+    Add(Vec<u64>, Vec<u64>),
+    Flush,
+    Final,
 }
 
 /// Runs a job and gives its listing. `lent` is the count of lent listing bytes.
 pub fn run_job(job: &[u8], lent: usize) -> Result<Vec<u8>, Refusal> {
-    if job.len() > JOB_BYTES {
-        return Err(Refusal { code: 16, line: 1 });
-    }
-    let mut lines = Lines { rest: job, next: 1 };
-    let mut session = open_job(&mut lines)?;
-    let summary = loop {
-        let line = lines.take()?;
-        if let Some(summary) = run_line(line, &mut lines, &mut session)? {
-            break summary;
-        }
-    };
-    if !lines.rest.is_empty() {
-        return Err(Refusal {
-            code: 15,
-            line: lines.next,
-        });
-    }
+    let (session, summary) = finish_job(job)?;
     let listing = list(&session, &summary);
     if listing.len() > lent {
         return Err(Refusal { code: 17, line: 1 });
@@ -723,44 +804,47 @@ pub fn run_job(job: &[u8], lent: usize) -> Result<Vec<u8>, Refusal> {
     Ok(listing)
 }
 
-/// The two head lines. Opening is judged once both are well formed.
-fn open_job(lines: &mut Lines) -> Result<Session, Refusal> {
-    let mut head = |key| -> Result<u64, Refusal> {
-        let value = lines.take_value(key)?;
-        number(value).ok_or_else(|| lines.refuse(15))
+/// Runs a job and gives the session at its end.
+pub fn finish_job(job: &[u8]) -> Result<(Session, Summary), Refusal> {
+    let mut lines = Lines::of(job)?;
+    let mut session = open_job(&mut lines)?;
+    let summary = loop {
+        match lines.take_call()? {
+            JobCall::Set(place) => lines.demand(session.set(place))?,
+            JobCall::Add(inputs, outputs) => lines.demand(session.add(&inputs, &outputs))?,
+            JobCall::Flush => lines.demand(session.flush())?,
+            JobCall::Final => break session.final_flush().map_err(|code| lines.refuse(code))?,
+        }
     };
-    let p = head("parallelism")?;
-    let v = head("places")?;
+    lines.end()?;
+    Ok((session, summary))
+}
+
+/// Opening is judged once both head lines are well formed.
+fn open_job(lines: &mut Lines) -> Result<Session, Refusal> {
+    let (p, v) = lines.take_head()?;
     let lent = Lent::for_session(JOB_PARALLELISM, JOB_PLACES, JOB_POOL);
     Session::open(p, v, &lent).map_err(|code| lines.refuse(code))
 }
 
-/// Runs one line after the head (with its `out=` line, for an add); final's gives the summary.
-fn run_line(
-    line: &[u8],
-    lines: &mut Lines,
-    session: &mut Session,
-) -> Result<Option<Summary>, Refusal> {
-    let malformed = |lines: &Lines| lines.refuse(15);
-    if let Some(value) = value_of(line, "set") {
-        let place = number(value).ok_or_else(|| malformed(lines))?;
-        lines.demand(session.set(place))?;
-    } else if let Some(value) = value_of(line, "in") {
-        let inputs = numbers(value).ok_or_else(|| malformed(lines))?;
-        let value = lines.take_value("out")?;
-        let outputs = numbers(value).ok_or_else(|| malformed(lines))?;
-        lines.demand(session.add(&inputs, &outputs))?;
-    } else if line == b"flush=1" {
-        lines.demand(session.flush())?;
-    } else if line == b"final=1" {
-        return session
-            .final_flush()
-            .map(Some)
-            .map_err(|code| lines.refuse(code));
-    } else {
-        return Err(malformed(lines));
+/// What a job needs, by its text alone: every line is read, and nothing that it says is judged.
+pub fn job_needs(job: &[u8]) -> Result<Needs, Refusal> {
+    let mut lines = Lines::of(job)?;
+    lines.take_head()?;
+    let mut needs = Needs::default();
+    loop {
+        match lines.take_call()? {
+            JobCall::Set(_) => {}
+            JobCall::Add(inputs, outputs) => {
+                needs.registrations += 1;
+                needs.list_numbers += (inputs.len() + outputs.len()) as u64;
+            }
+            JobCall::Flush => needs.flushes += 1,
+            JobCall::Final => break,
+        }
     }
-    Ok(None)
+    lines.end()?;
+    Ok(needs)
 }
 
 fn value_of<'a>(line: &'a [u8], key: &str) -> Option<&'a [u8]> {
@@ -820,7 +904,7 @@ fn list(session: &Session, summary: &Summary) -> Vec<u8> {
 pub fn program(job: &[u8]) -> Vec<u8> {
     match run_job(job, LISTING_BYTES) {
         Ok(listing) => listing,
-        Err(Refusal { code, line }) => format!("status={code}\nline={line}\n").into_bytes(),
+        Err(refusal) => refusal.text().into_bytes(),
     }
 }
 
@@ -828,6 +912,6 @@ pub fn program(job: &[u8]) -> Vec<u8> {
 pub fn host(job: &[u8], lent: usize) -> (u64, Vec<u8>) {
     match run_job(job, lent) {
         Ok(listing) => (64 * listing.len() as u64, listing),
-        Err(Refusal { code, line }) => (64 * line + code, Vec::new()),
+        Err(refusal) => (refusal.returned(), Vec::new()),
     }
 }
