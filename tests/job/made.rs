@@ -17,7 +17,8 @@ pub fn random_jobs(seed: u64, count: u64) -> Vec<(Vec<u8>, usize)> {
     lines.chunks(3).map(case).collect()
 }
 
-fn unescaped(text: &str) -> Vec<u8> {
+/// The bytes behind the text of a case (reference/jobs.rs).
+pub fn unescaped(text: &str) -> Vec<u8> {
     let mut bytes = Vec::new();
     let mut rest = text.as_bytes();
     while let [first, tail @ ..] = rest {
@@ -93,6 +94,18 @@ pub fn random_bytes(seed: u64, count: u64) -> Vec<(Vec<u8>, usize)> {
 
 /// Jobs at the boundaries, each with listing bytes for all of it, for all but one, and for none.
 pub fn edges() -> Vec<(Vec<u8>, usize)> {
+    let mut all = Vec::new();
+    for job in edge_jobs() {
+        let length = model::host(&job, 65_536).1.len();
+        for lent in [65_536, length, length.saturating_sub(1), 0] {
+            all.push((job.clone(), lent));
+        }
+    }
+    all
+}
+
+/// The jobs at the boundaries.
+pub fn edge_jobs() -> Vec<Vec<u8>> {
     let mut made = vec![String::new()];
     let head = |p: &str, v: &str| format!("parallelism={p}\nplaces={v}\n");
     for p in [
@@ -244,12 +257,5 @@ pub fn edges() -> Vec<(Vec<u8>, usize)> {
             "1,".repeat((size - 50) / 2)
         ));
     }
-    let mut all = Vec::new();
-    for job in made {
-        let length = model::host(job.as_bytes(), 65_536).1.len();
-        for lent in [65_536, length, length.saturating_sub(1), 0] {
-            all.push((job.clone().into_bytes(), lent));
-        }
-    }
-    all
+    made.into_iter().map(String::into_bytes).collect()
 }
