@@ -36,6 +36,7 @@ rustc --edition 2021 -O -D warnings -C link-arg="$library" -C link-arg="$host" -
 wait $! || fail "the reference model is not built"
 
 $work/needs worked
+$reference needs <crates/order/stdin | diff - <(printf '%s\n' 'needs 4 7 0 40' 'used 4 7 0 34') || fail "J1 by the model"
 python3 tests/needs/hand_worked.py >$work/worked.cases
 $work/needs compare "$seed" $((2000 * times)) $((5000 * times)) $work/worked.cases crates/order/stdin docs/example.job \
   examples/*.job examples/refused/*.job
@@ -53,5 +54,6 @@ fi
 # The stack, beside the figures that host code tells.
 told() { sed -n "s/.*needs less than \([0-9]*\) KB of it.*/\1/p" "$1"; }
 call=$(told hosts/needs.h)
-[ -n "$call" ] && [ "$call" = "$(told hosts/rust/src/needs.rs)" ] || fail "hosts/needs.h and hosts/rust/src/needs.rs tell other stacks of the call"
+[ -n "$call" ] && [ "$call" = "$(told hosts/rust/src/needs.rs)" ] ||
+  fail "hosts/needs.h and hosts/rust/src/needs.rs tell other stacks of the call"
 $work/needs stack "$call"

@@ -3,22 +3,23 @@
 use crate::{sources, sys, worked};
 use std::process::exit;
 
-/// The sizes that are tried: from 64 KB on in steps of 4 KB.
+/// The sizes that are tried.
 const FIRST: usize = 64 << 10;
 const STEP: usize = 4 << 10;
+const MOST: usize = 8 << 20;
 
 /// The least stack on which the call returns for each of a few jobs; it must be less than so many KB.
 pub fn check(most: usize) -> Result<String, String> {
-    let mut needed = 0;
+    let mut needed = FIRST;
     let mut jobs: Vec<Vec<u8>> = worked::largest().into_iter().map(|worked| worked.job).collect();
     jobs.push(sources::J1.into());
     jobs.push(Vec::new());
     for job in jobs {
         let path = std::env::temp_dir().join(format!("needs-stack-{}", std::process::id()));
         std::fs::write(&path, job).expect("a file");
-        let fits = (FIRST..8 << 20).step_by(STEP).find(|&size| fits(&path, size));
+        let fits = (needed..=MOST).step_by(STEP).find(|&size| fits(&path, size));
         std::fs::remove_file(&path).expect("removed");
-        needed = needed.max(fits.ok_or("no stack suffices")?);
+        needed = fits.ok_or("no stack suffices")?;
     }
     let told = format!("stack: a thread of {} KB suffices for the call", needed >> 10);
     if needed >> 10 >= most {
