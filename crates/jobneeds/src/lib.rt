@@ -8,10 +8,10 @@ use jobcalls::Call;
 use jobcalls::Head;
 use jobcalls::Next;
 
-// The most spans that placing a registration releases, and that a flush does.
-const A_REGISTRATION: u64 = 2;
+// The most spans that placing a registration releases, and those that a flush does.
+const SPANS_A_PLACING: u64 = 2;
 
-const A_FLUSH: u64 = 32;
+const SPANS_A_FLUSH: u64 = window::SPANS as u64;
 
 pub struct Needs {
     pub registrations: u64,
@@ -109,7 +109,7 @@ fn most_spans(c: Needs) -> u64
     requires { ⌜ Few (needs-of c) ⌝ }
     ensures { λ r. ⌜ r ≡ rules.most-spans (needs-of c) ⌝ }
 {
-    A_REGISTRATION * c.registrations + A_FLUSH * (c.flushes + 1)
+    SPANS_A_PLACING * c.registrations + SPANS_A_FLUSH * (c.flushes + 1)
 }
 
 // What a job needs, for hosts: 0, and in `needs` its registrations, the numbers in their lists, its plain flushes and the most spans that
