@@ -1,7 +1,8 @@
 #!/usr/bin/env python3
 """Holds the reading list of README.md to the crates: its files and single definitions are all that the exported calls'
-contracts and the claim about every list of calls are made of, and its last column counts their lines. With --write the
-counts are put right instead, and with --list everything that must be read is printed, with where it stands."""
+contracts and the claims about every list of calls and every job's needs are made of, and its last column counts their
+lines. With --write the counts are put right instead, and with --list everything that must be read is printed, with where
+it stands."""
 import pathlib
 import re
 import sys
@@ -10,10 +11,10 @@ sys.path.insert(0, str(pathlib.Path(__file__).resolve().parent.parent / "tools")
 import sources
 
 ROW = re.compile(r"^(\| [^|]+ \| )((?:[a-z_]+/[A-Z]\w*(?:\.[\w-]+)?(?:, )?)+)( \| )([\d,]+)( \|)$")
-# What a user is promised: the contracts of the exported functions and of what the program answers, and this record.
+# What a user is promised: the contracts of the exported functions and of what the program answers, and these records.
 PROMISED = re.compile(r'^pub extern "C" fn \w+\(.*?\n\{', re.S | re.M)
 ANSWER = ("job_reply", re.compile(r"^pub fn answer\(.*?\n\{", re.S | re.M))
-CLAIM = ("laws", "Demand", "Demand")
+CLAIMS = [("laws", "Demand", "Demand"), ("laws", "Needs", "Needed")]
 
 
 class Words:
@@ -63,7 +64,7 @@ class Reading:
 
     def __init__(self, root):
         self.root, self.files, self.reached = root, {}, {}
-        todo = [(self.spec(*CLAIM[:2]), CLAIM[2])]
+        todo = [(self.spec(crate, module), name) for crate, module, name in CLAIMS]
         for path in sorted((root / "crates").glob("*/src/lib.rt")):
             todo += self.contracts(path, PROMISED)
         todo += self.contracts(root / "crates" / ANSWER[0] / "src" / "lib.rt", ANSWER[1])

@@ -1,6 +1,6 @@
 -- Laws of a turn: a malformed call, one that is refused or goes on, and final. Assumes nothing.
-use mathlib.Core.Bool.{Bool, true, false}
-use mathlib.Core.List.{List, [], _∷_}
+use mathlib.Core.Bool.{Bool}
+use mathlib.Core.List.{List}
 use mathlib.Core.Logic.{_⊎_, inl, inr}
 use mathlib.Core.Path.{_≡_, refl, sym, ap, _∙_, subst}
 use mathlib.Core.Option.{none}
@@ -35,7 +35,7 @@ use Rattle.jobcalls.specs.Runs.{reads, makes, goes, call-runs}
 use Rattle.jobturn.specs.declared.End.the-variants as end
 use Rattle.jobturn.specs.declared.Step.{Step}
 use Rattle.jobturn.specs.declared.Step.the-variants as step′
-use Rattle.jobturn.specs.Turned.{Code, AfterCall, AfterFinal, remains, StandsFor, Accepts, EndFigures, Turned}
+use Rattle.jobturn.specs.Turned.{AfterCall, AfterFinal, remains, StandsFor, Accepts, EndFigures, Turned}
 
 -- the end of a job: nothing may follow final
 ends : (P n : ℕ) (k : Model) (l : List ℕ) → length l ≡ 0 → closing P n (lines l) (ragged l) k ≡ finished P k

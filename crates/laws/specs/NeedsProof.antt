@@ -7,11 +7,12 @@ use mathlib.Core.Option.{Option, some, none}
 use Prim.Native.Nat.{ℕ, suc, _+_, _*_, _≤_, _<_}
 use native.Mathlib.Omega.{arith}
 use lib.ListN.{length, length-append}
-use lib.Dec.{ltb, eqb, leb}
+use lib.Dec.{ltb, eqb}
 use borrow.Author.Tests.{eqb-true, ltb-false}
 use Rattle.rules.specs.Limits.{most-job-bytes, job-pool, most-parallelism}
 use Rattle.rules.specs.Refusals as refusal
-use Rattle.rules.specs.Model.{Reg, Model, initial, with-record, note-add, note-flush, note-final, with-add, with-flush, do-add, do-flush, do-final}
+use Rattle.rules.specs.Text.{newline, comma}
+use Rattle.rules.specs.Model.{Reg, Model, initial, with-record, note-add, note-flush, note-final, with-add, with-flush, do-flush, do-final}
 use Rattle.rules.specs.Checks.{verdict, pooled, check-range, check-open}
 use Rattle.rules.specs.Calls.{Call, set, add, flush, final, answer, apply-call, step}
 use Rattle.rules.specs.Job.{Line, parallelism-line, places-line, set-line, in-line, out-line, flush-line, final-line, malformed, Start, single, inputs, last, start-of, outputs-of}
@@ -42,6 +43,7 @@ module _ (P N : ℕ) (k : Model) where
   call-used flush = refl
   call-used final = refl
 
+  -- an accepted call uses what it counts for
   used-more : (W : ℕ) (c : Call) → answer N W c k ≡ 0 → used (step P N W c k) ≡ with-call c (used k)
   unfolding step
   used-more W c e = ap used (accepted-is (answer N W c k) k (apply-call P N c k) e) ∙ call-used c
@@ -135,16 +137,16 @@ job-agrees (l ∷ ls) rag = go (parallelism-of (line-of l)) refl
 -- ---- how much a job's bytes hold
 
 -- the bytes of some lines, each with its byte 10
-unfoldable pub total : List (List ℕ) → ℕ
+unfoldable total : List (List ℕ) → ℕ
 total [] = 0
 total (l ∷ ls) = suc (length l) + total ls
 
 lines-total : (so-far bs : List ℕ) → total (lines-from so-far bs) ≤ length so-far + length bs
 unfolding lines-from total
 lines-total so-far [] = omega arith
-lines-total so-far (b ∷ bs) = go (bool-cases (eqb b 10)) (lines-total [] bs) (lines-total (so-far ++ (b ∷ [])) bs)
+lines-total so-far (b ∷ bs) = go (bool-cases (eqb b newline)) (lines-total [] bs) (lines-total (so-far ++ (b ∷ [])) bs)
   where
-    go : (eqb b 10 ≡ true) ⊎ (eqb b 10 ≡ false) → total (lines-from [] bs) ≤ 0 + length bs → total (lines-from (so-far ++ (b ∷ [])) bs) ≤ length (so-far ++ (b ∷ [])) + length bs
+    go : (eqb b newline ≡ true) ⊎ (eqb b newline ≡ false) → total (lines-from [] bs) ≤ 0 + length bs → total (lines-from (so-far ++ (b ∷ [])) bs) ≤ length (so-far ++ (b ∷ [])) + length bs
         → total (lines-from so-far (b ∷ bs)) ≤ length so-far + suc (length bs)
     go (inl e) f g = rw (lines-from, e) (omega (arith, f))
     go (inr e) f g = rw (lines-from, e) (omega (arith, g, length-append so-far (b ∷ [])))
@@ -163,9 +165,9 @@ listed malformed = 0
 fields-few : (so-far bs : List ℕ) → length (fields-from so-far bs) ≤ suc (length bs)
 unfolding fields-from
 fields-few so-far [] = omega arith
-fields-few so-far (b ∷ bs) = go (bool-cases (eqb b 44)) (fields-few [] bs) (fields-few (so-far ++ (b ∷ [])) bs)
+fields-few so-far (b ∷ bs) = go (bool-cases (eqb b comma)) (fields-few [] bs) (fields-few (so-far ++ (b ∷ [])) bs)
   where
-    go : (eqb b 44 ≡ true) ⊎ (eqb b 44 ≡ false) → length (fields-from [] bs) ≤ suc (length bs) → length (fields-from (so-far ++ (b ∷ [])) bs) ≤ suc (length bs)
+    go : (eqb b comma ≡ true) ⊎ (eqb b comma ≡ false) → length (fields-from [] bs) ≤ suc (length bs) → length (fields-from (so-far ++ (b ∷ [])) bs) ≤ suc (length bs)
         → length (fields-from so-far (b ∷ bs)) ≤ suc (suc (length bs))
     go (inl e) f g = rw (fields-from, e) (omega (arith, f))
     go (inr e) f g = rw (fields-from, e) (omega (arith, g))
