@@ -22,6 +22,7 @@ use Rattle.jobline.specs.Lines.{line-as, listed, LineRead}
 use Rattle.jobcalls.specs.Told.{first-line, other-lines, LineAt, FirstCall, found, malformed, added, started, first-call, Follows, NextCall}
 use Rattle.jobcalls.specs.Told.{heading-2, heading-1, heading, HeadRead}
 use Rattle.jobcalls.specs.declared.Call.the-variants as call
+use Rattle.jobcalls.specs.declared.Next.{Next}
 use Rattle.jobcalls.specs.declared.Next.the-variants as next
 use Rattle.jobcalls.specs.declared.Head.the-variants as head
 
@@ -153,6 +154,10 @@ module _ {s entry mid : List ℕ} {at after : ℕ} (i : ℕ) (a : LineAt s at en
         into = (b .room, keeps-past b well′ (i + o) (omega arith) ∙ keeps-past a well (i + o) (omega arith));
         into-beyond = both-beyond n b;
       }
+
+-- a call by what is told of it
+pub read-as : {s entry read : List ℕ} {at n : ℕ} {r x : Next} → NextCall s at n entry read r → r ≡ x → NextCall s at n entry read x
+read-as {s} {entry} {read} {at} {n} c e = subst (λ (y : Next). NextCall s at n entry read y) e c
 
 -- what follows a call, where nothing does and where something does: a line, or text without byte 10
 abbrev pub SomeLeft : List (List ℕ) → Bool → Type 0

@@ -143,24 +143,18 @@ module _ {job entry read : List ℕ} {start room at n : ℕ} {c : Needs} (M : Ma
       C .is ∙ need-first (ragged (drop at job)) (needs-of c) n (lines (drop at job))
       ∙ ap (λ (f : FirstCall). goes f (ragged (drop at job)) (needs-of c)) (d .is)
 
-  pub reads-malformed : (m : ℕ) {r : Next} → NextCall job at n entry read r → r ≡ next.Malformed m
-      → reading-as (reading.Unread m refusal.malformed) ≡ remains job start 3 no-needs
-  unfolding goes
-  reads-malformed m d e = sym (begins (subst (λ (x : Next). NextCall job at n entry read x) e d))
-
   -- the line after a call's has a number
-  pub line-after : {r y : Next} → NextCall job at n entry read r → r ≡ y → line-of (first-as job read y) + 1 < 2 ^ 64
-  line-after {r} {y} d e =
-      let f : first-call n (lines (drop at job)) ≡ first-as job read y = d .is ∙ ap (first-as job read) e in
-      omega (arith, C .low, C .inside, M .short, line-near n (lines (drop at job)), ap line-of f)
+  pub line-after : {r : Next} → NextCall job at n entry read r → line-of (first-as job read r) + 1 < 2 ^ 64
+  line-after d = omega (arith, C .low, C .inside, M .short, line-near n (lines (drop at job)), ap line-of (d .is))
 
-  module _ {r : Next} (d : NextCall job at n entry read r) (m after : ℕ) (e : r ≡ next.Final m after) where
-    d′ : NextCall job at n entry read (next.Final m after)
-    d′ = subst (λ (x : Next). NextCall job at n entry read x) e d
+  pub reads-malformed : (m : ℕ) → NextCall job at n entry read (next.Malformed m) → reading-as (reading.Unread m refusal.malformed) ≡ remains job start 3 no-needs
+  unfolding goes
+  reads-malformed m d = sym (begins d)
 
+  module _ (m after : ℕ) (d : NextCall job at n entry read (next.Final m after)) where
     finals : remains job start 3 no-needs ≡ ending (suc m) (lines (drop after job)) (ragged (drop after job)) (needs-of c)
     unfolding goes with-call
-    finals = begins d′ ∙ ap (λ (b : Bool). ending (suc m) (lines (drop after job)) b (needs-of c)) (sym (d′ .next .end))
+    finals = begins d ∙ ap (λ (b : Bool). ending (suc m) (lines (drop after job)) b (needs-of c)) (sym (d .next .end))
 
     pub reads-all : after ≡ length job → reading-as (reading.Needing c) ≡ remains job start 3 no-needs
     reads-all z = sym (finals ∙ ends (suc m) (needs-of c) (drop after job) (rw (length-drop after job) (omega arith)))
@@ -168,37 +162,34 @@ module _ {job entry read : List ℕ} {start room at n : ℕ} {c : Needs} (M : Ma
     pub reads-surplus : (after ≡ length job → ⊥) → reading-as (reading.Unread (m + 1) refusal.malformed) ≡ remains job start 3 no-needs
     reads-surplus z =
         ap (λ (x : ℕ). rule.unread x refusal.malformed) (add-one m)
-        ∙ sym (finals ∙ surplus (suc m) (needs-of c) (drop after job) (λ y. z (omega (arith, d′ .next .within, sym (length-drop after job) ∙ y))))
+        ∙ sym (finals ∙ surplus (suc m) (needs-of c) (drop after job) (λ y. z (omega (arith, d .next .within, sym (length-drop after job) ∙ y))))
 
-  module _ {r : Next} (d : NextCall job at n entry read r) (x : Call) (m after : ℕ) (e : r ≡ next.Call x m after) (same : length read ≡ room) where
-    k : NextCall job at n entry read (next.Call x m after)
-    k = subst (λ (y : Next). NextCall job at n entry read y) e d
-
+  module _ (x : Call) (m after : ℕ) (d : NextCall job at n entry read (next.Call x m after)) (same : length read ≡ room) where
     near : n ≤ m
-    near = omega (arith, line-near n (lines (drop at job)), ap line-of (k .is))
+    near = omega (arith, line-near n (lines (drop at job)), ap line-of (d .is))
 
     pub may-count : Countable c x
     may-count =
         record {
           registrations = omega (arith, C .few, C .inside, M .short);
-          pool = omega (arith, C .small, C .inside, M .short, M .room-is, k .into .0);
+          pool = omega (arith, C .small, C .inside, M .short, M .room-is, d .into .0);
           flushes = omega (arith, C .few, C .inside, M .short);
         }
 
     pub falls : (at < after) × (after ≤ length job)
-    falls = (omega (arith, near, k .next .past), k .next .within)
+    falls = (omega (arith, near, d .next .past), d .next .within)
 
     pub counts-on : {c′ : Needs} → Counts c x c′ → Counting job start after (m + 1) c′
     unfolding remains
     counts-on {c′} q =
-        let p = q read (k .into .0) in
+        let p = q read (d .into .0) in
         record {
-          inside = k .next .within;
-          low = omega (arith, k .next .past, C .low);
+          inside = d .next .within;
+          low = omega (arith, d .next .past, C .low);
           few = omega (arith, falls, C .few, ap (λ (y : rule.Needs). y .registrations + y .flushes) p, raised-few (call-of x read) (needs-of c));
-          small = omega (arith, falls, C .small, ap (λ (y : rule.Needs). y .pool) p, raised-small x read (needs-of c), k .into .0, M .room-is, same);
-          is = begins k ∙ need-on x read m (lines (drop after job)) (ragged (drop at job)) (needs-of c)
-              ∙ ap (λ (b : Bool). need-lines (suc m) none (lines (drop after job)) b (with-call (call-of x read) (needs-of c))) (sym (k .next .end))
+          small = omega (arith, falls, C .small, ap (λ (y : rule.Needs). y .pool) p, raised-small x read (needs-of c), d .into .0, M .room-is, same);
+          is = begins d ∙ need-on x read m (lines (drop after job)) (ragged (drop at job)) (needs-of c)
+              ∙ ap (λ (b : Bool). need-lines (suc m) none (lines (drop after job)) b (with-call (call-of x read) (needs-of c))) (sym (d .next .end))
               ∙ ap (λ (y : rule.Needs). need-lines (suc m) none (lines (drop after job)) (ragged (drop after job)) y) (sym p)
               ∙ ap (λ (i : ℕ). need-lines i none (lines (drop after job)) (ragged (drop after job)) (needs-of c′)) (sym (add-one m));
         }

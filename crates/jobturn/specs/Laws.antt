@@ -84,10 +84,6 @@ by-number : (n : ℕ) → (n ≡ 0) ⊎ (n ≡ 0 → ⊥)
 by-number zero = inl refl
 by-number (suc n) = inr (λ e. suc-ne-zero n e)
 
--- a call by what is told of it
-pub read-as : {job entry read : List ℕ} {at n : ℕ} {r x : Next} → NextCall job at n entry read r → r ≡ x → NextCall job at n entry read x
-read-as {job} {entry} {read} {at} {n} c e = subst (λ (y : Next). NextCall job at n entry read y) e c
-
 module _ {job entry read : List ℕ} {at n : ℕ} {r : Next} (c : NextCall job at n entry read r) where
   begins : (P N W : ℕ) (k : Model) → remains P N W job at n k ≡ goes P N W (first-as job read r) (ragged (drop at job)) k
   unfolding remains

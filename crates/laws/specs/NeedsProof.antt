@@ -191,8 +191,9 @@ unfolding list
 list-few [] = omega arith
 list-few (b ∷ bs) = omega (arith, numbers-few (fields-from [] (b ∷ bs)), fields-few [] (b ∷ bs))
 
-abbrev Fits : List ℕ → Line → Type 0
-Fits bs l = listed l ≤ suc (length bs)
+-- so many bytes can hold the numbers that the line lists
+abbrev FewListed : List ℕ → Line → Type 0
+FewListed bs l = listed l ≤ suc (length bs)
 
 -- what follows a key is no longer than the line
 rest-few : (key bs : List ℕ) (r : List ℕ) → after-key key bs ≡ some r → length r ≤ length bs
@@ -205,15 +206,15 @@ rest-few (c ∷ cs) (b ∷ bs) r e = go (bool-cases (eqb b c)) (rest-few cs bs r
     go (inl h) f = omega (arith, f (rw (after-key, h) at e))
     go (inr h) f = let y : none ≡ some r = rw (after-key, h) at e in let z : _≡_ {A = ℕ} 0 1 = cc in absurd (omega arith)
 
-key-fits : (key bs : List ℕ) (f : List ℕ → Line) (other : Line) → ((r : List ℕ) → listed (f r) ≤ suc (length r)) → Fits bs other → Fits bs (key-or (after-key key bs) f other)
+key-fits : (key bs : List ℕ) (f : List ℕ → Line) (other : Line) → ((r : List ℕ) → listed (f r) ≤ suc (length r)) → FewListed bs other → FewListed bs (key-or (after-key key bs) f other)
 unfolding key-or
 key-fits key bs f other h o = go (after-key key bs) refl
   where
-    go : (x : Option (List ℕ)) → after-key key bs ≡ x → Fits bs (key-or x f other)
+    go : (x : Option (List ℕ)) → after-key key bs ≡ x → FewListed bs (key-or x f other)
     go none e = o
     go (some r) e = omega (arith, h r, rest-few key bs r e)
 
-line-few : (bs : List ℕ) → Fits bs (line-of bs)
+line-few : (bs : List ℕ) → FewListed bs (line-of bs)
 unfolding line-of with-number with-list whole
 line-few bs =
     key-fits key-parallelism bs _ _ (bare parallelism-line (λ n. refl))
@@ -263,16 +264,16 @@ ending-few n [] true c = (refl, omega arith)
 ending-few n (l ∷ ls) rag c = (refl, omega arith)
 
 -- the lines from line n on hold no more calls and numbers than bytes
-abbrev Hold : List (List ℕ) → Bool → Type 0
-Hold ls rag = (n : ℕ) (begun : Option (List ℕ)) (c : Needs)
+abbrev FewFrom : List (List ℕ) → Bool → Type 0
+FewFrom ls rag = (n : ℕ) (begun : Option (List ℕ)) (c : Needs)
     → Few (c .registrations + c .flushes + total ls) (c .pool + held-in begun + total ls) (n + total ls) (need-lines n begun ls rag c)
 
-lines-few : (ls : List (List ℕ)) (rag : Bool) → Hold ls rag
+lines-few : (ls : List (List ℕ)) (rag : Bool) → FewFrom ls rag
 unfolding need-lines total with-call
 lines-few [] rag n begun c = malformed-few _ _ n (omega arith)
 lines-few (l ∷ ls) rag n none c = go (line-of l) refl (line-few l) (lines-few ls rag)
   where
-    go : (x : Line) → line-of l ≡ x → Fits l x → Hold ls rag
+    go : (x : Line) → line-of l ≡ x → FewListed l x → FewFrom ls rag
         → Few (c .registrations + c .flushes + total (l ∷ ls)) (c .pool + 0 + total (l ∷ ls)) (n + total (l ∷ ls)) (need-lines n none (l ∷ ls) rag c)
     go (set-line x) e h f = rw (need-lines, e) (few-more _ (f (suc n) none c) (omega arith) (omega arith) (omega arith))
     go (in-line ins) e h f = rw (need-lines, e) (few-more _ (f (suc n) (some ins) c) (omega arith) (omega (arith, h)) (omega arith))
@@ -284,7 +285,7 @@ lines-few (l ∷ ls) rag n none c = go (line-of l) refl (line-few l) (lines-few 
     go malformed e h f = rw (need-lines, e) (malformed-few _ _ n (omega arith))
 lines-few (l ∷ ls) rag n (some ins) c = go (line-of l) refl (line-few l) (lines-few ls rag)
   where
-    go : (x : Line) → line-of l ≡ x → Fits l x → Hold ls rag
+    go : (x : Line) → line-of l ≡ x → FewListed l x → FewFrom ls rag
         → Few (c .registrations + c .flushes + total (l ∷ ls)) (c .pool + length ins + total (l ∷ ls)) (n + total (l ∷ ls)) (need-lines n (some ins) (l ∷ ls) rag c)
     go (out-line outs) e h f = rw (need-lines, e) (few-more _ (f (suc n) none (with-call (add ins outs) c)) (omega arith) (omega (arith, h)) (omega arith))
     go (set-line x) e h f = rw (need-lines, e) (malformed-few _ _ n (omega arith))

@@ -3,6 +3,7 @@ use mathlib.Core.Path.{_≡_, refl, _∙_}
 use Prim.Native.Nat.{_-_}
 use native.Mathlib.Omega.{arith}
 use lib.ListN.{length}
+use Rattle.jobcalls.specs.Laws.{read-as}
 use Rattle.jobneeds.specs.Laws.{Counting, counting-begins, line-after, may-count, falls, counts-on, reads-all, reads-surplus, reads-malformed}
 use borrow.Author.Needs.{needs}
 use Rattle.jobneeds.proofs.read_calls.Statement.{statement}
@@ -42,21 +43,21 @@ count-requires c κs =
     let told = c .before in
     let read = read (told .before .before) in
     let turn = turn read in
-    may-count (start turn .pre) (turn .loop .inv .1) (read .next-call .ensures) _ _ _ (told .read .given .1) (read .next-call .kept .1 .1 .1 .0 ∙ turn .loop .inv .0)
+    may-count (start turn .pre) (turn .loop .inv .1) _ _ _ (read-as (read .next-call .ensures) (told .read .given .1)) (read .next-call .kept .1 .1 .1 .0 ∙ turn .loop .inv .0)
 
 add-line : tie.Need-add-line Inv-loop μ-loop
 add-line c =
     let told = c .before .before in
     let read = read (told .before .before) in
     let turn = turn read in
-    omega (arith, line-after (start turn .pre) (turn .loop .inv .1) (read .next-call .ensures) (told .read .given .1))
+    omega (arith, line-after (start turn .pre) (turn .loop .inv .1) (read-as (read .next-call .ensures) (told .read .given .1)))
 
 loop-less : tie.Need-loop-less Inv-loop μ-loop
 loop-less c =
     let told = c .before .before in
     let read = read (told .before .before) in
     let turn = turn read in
-    omega (arith, falls (start turn .pre) (turn .loop .inv .1) (read .next-call .ensures) _ _ _ (told .read .given .1) (read .next-call .kept .1 .1 .1 .0 ∙ turn .loop .inv .0))
+    omega (arith, falls (start turn .pre) (turn .loop .inv .1) _ _ _ (read-as (read .next-call .ensures) (told .read .given .1)) (read .next-call .kept .1 .1 .1 .0 ∙ turn .loop .inv .0))
 
 loop-again : tie.Need-loop-again Inv-loop μ-loop
 loop-again c =
@@ -64,7 +65,7 @@ loop-again c =
     let read = read (told .before .before) in
     let turn = turn read in
     let same = read .next-call .kept .1 .1 .1 .0 ∙ turn .loop .inv .0 in
-    (same, counts-on (start turn .pre) (turn .loop .inv .1) (read .next-call .ensures) _ _ _ (told .read .given .1) same (c .count .ensures))
+    (same, counts-on (start turn .pre) (turn .loop .inv .1) _ _ _ (read-as (read .next-call .ensures) (told .read .given .1)) same (c .count .ensures))
 
 enum-known-read-2 : tie.Need-enum-known-read-2 Inv-loop μ-loop
 enum-known-read-2 c = search needs
@@ -79,14 +80,14 @@ returns c =
     let told = c .before .before in
     let read = read (told .before .before) in
     let turn = turn read in
-    reads-all (start turn .pre) (turn .loop .inv .1) (read .next-call .ensures) _ _ (told .read2 .given .1) (c .if1 .taken)
+    reads-all (start turn .pre) (turn .loop .inv .1) _ _ (read-as (read .next-call .ensures) (told .read2 .given .1)) (c .if1 .taken)
 
 add-line-2 : tie.Need-add-line-2 Inv-loop μ-loop
 add-line-2 c =
     let told = c .before .before in
     let read = read (told .before .before) in
     let turn = turn read in
-    omega (arith, line-after (start turn .pre) (turn .loop .inv .1) (read .next-call .ensures) (told .read2 .given .1))
+    omega (arith, line-after (start turn .pre) (turn .loop .inv .1) (read-as (read .next-call .ensures) (told .read2 .given .1)))
 
 same-length-2 : tie.Need-same-length-2 Inv-loop μ-loop
 same-length-2 c =
@@ -98,7 +99,7 @@ returns-2 c =
     let told = c .before .before in
     let read = read (told .before .before) in
     let turn = turn read in
-    reads-surplus (start turn .pre) (turn .loop .inv .1) (read .next-call .ensures) _ _ (told .read2 .given .1) (c .if1 .left)
+    reads-surplus (start turn .pre) (turn .loop .inv .1) _ _ (read-as (read .next-call .ensures) (told .read2 .given .1)) (c .if1 .left)
 
 enum-known-read-3 : tie.Need-enum-known-read-3 Inv-loop μ-loop
 enum-known-read-3 c = search needs
@@ -113,7 +114,7 @@ returns-3 c =
     let told = c .before in
     let read = read (told .before .before) in
     let turn = turn read in
-    reads-malformed (start turn .pre) (turn .loop .inv .1) _ (read .next-call .ensures) (told .read3 .given .1)
+    reads-malformed (start turn .pre) (turn .loop .inv .1) _ (read-as (read .next-call .ensures) (told .read3 .given .1))
 
 pub read-calls-spec : {M : Type 1} → statement M
 read-calls-spec =

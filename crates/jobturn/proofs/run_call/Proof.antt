@@ -1,6 +1,7 @@
 -- A malformed call, one that was made, and final: each way out is a law of what was read and of what was made. Assumes nothing.
 use native.Mathlib.Omega.{arith}
-use Rattle.jobturn.specs.Laws.{read-as, near, turn-malformed, turn-call, turn-final}
+use Rattle.jobcalls.specs.Laws.{read-as}
+use Rattle.jobturn.specs.Laws.{near, turn-malformed, turn-call, turn-final}
 use borrow.Author.Needs.{needs}
 use Rattle.jobturn.proofs.run_call.Statement.{statement}
 use Rattle.jobturn.proofs.run_call.Tie as tie
