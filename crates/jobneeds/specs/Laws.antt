@@ -104,18 +104,19 @@ module _ (c : Needs) {x : Call} where
   unfolding with-call
   counts-set place e = subst (λ (y : Call). Counts c y c) (sym e) (λ read h. refl)
 
-  pub lists-fit : (i o : ℕ) → x ≡ call.Add i o → Countable c x → c .pool + i + o < 2 ^ 64
+  pub lists-fit : (i o : ℕ) → x ≡ call.Add i o → Countable c x → c .pool + (i + o) < 2 ^ 64
   lists-fit i o e m = omega (arith, m .pool, ap taken-by e)
 
-  pub counts-add : (i o : ℕ) → x ≡ call.Add i o → Counts c x (record { registrations = c .registrations + 1; pool = c .pool + i + o; flushes = c .flushes })
+  pub counts-add : (i o : ℕ) → x ≡ call.Add i o → Counts c x (record { registrations = c .registrations + 1; pool = c .pool + (i + o); flushes = c .flushes })
   unfolding with-call
-  counts-add i o e = subst (λ (y : Call). Counts c y (record { registrations = c .registrations + 1; pool = c .pool + i + o; flushes = c .flushes })) (sym e) added-is
+  counts-add i o e = subst (λ (y : Call). Counts c y (record { registrations = c .registrations + 1; pool = c .pool + (i + o); flushes = c .flushes })) (sym e) added-is
     where
-      added-is : Counts c (call.Add i o) (record { registrations = c .registrations + 1; pool = c .pool + i + o; flushes = c .flushes })
+      added-is : Counts c (call.Add i o) (record { registrations = c .registrations + 1; pool = c .pool + (i + o); flushes = c .flushes })
       added-is read h =
           let p : length (take i read) ≡ i = rw (length-take i read) (omega arith) in
           let q : length (take o (drop i read)) ≡ o = rw (length-take o (drop i read), length-drop i read) (omega arith) in
-          rw (p, q, add-one (c .registrations))
+          let r : c .pool + (i + o) ≡ c .pool + i + o = omega arith in
+          rw (p, q, r, add-one (c .registrations))
 
   pub counts-flush : x ≡ call.Flush → Counts c x (record { registrations = c .registrations; pool = c .pool; flushes = c .flushes + 1 })
   unfolding with-call

@@ -32,11 +32,14 @@ fn count(c: Needs, call: Call) -> Needs
 {
     match call {
         Call::Set { .. } => c,
-        Call::Add { inputs, outputs } => Needs {
-            registrations: c.registrations + 1,
-            pool: c.pool + inputs as u64 + outputs as u64,
-            flushes: c.flushes,
-        },
+        Call::Add { inputs, outputs } => {
+            let numbers = inputs + outputs;
+            Needs {
+                registrations: c.registrations + 1,
+                pool: c.pool + numbers as u64,
+                flushes: c.flushes,
+            }
+        }
         Call::Flush => Needs {
             registrations: c.registrations,
             pool: c.pool,
