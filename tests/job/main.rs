@@ -16,6 +16,7 @@ mod made;
 #[path = "../reference/model.rs"]
 #[allow(dead_code)]
 mod model;
+mod stack;
 #[path = "../../hosts/rust/src/sys.rs"]
 #[allow(dead_code)]
 mod sys;
@@ -33,8 +34,8 @@ fn main() {
         ["jobs", seed, count] => on_thread(random_jobs(number(seed), number(count))),
         ["bytes", seed, count] => on_thread(random_bytes(number(seed), number(count))),
         ["edges"] => on_thread(edges()),
-        ["stack", most] => return stack(number(most) as usize),
-        ["on", size, path] => return on(number(size) as usize, path),
+        ["stack", most] => return measure(number(most) as usize),
+        ["on", size, path] => return stack::on(number(size) as usize, path, accepted),
         _ => fail("jobs SEED COUNT | bytes SEED COUNT | edges | stack KB"),
     };
     let codes: Vec<String> = done.codes.iter().map(u64::to_string).collect();
@@ -101,44 +102,21 @@ fn compare(job: &[u8], lent: usize, done: &mut Done) {
     }
 }
 
-/// The least stack, in steps of 16 KB, on which three jobs run; it must be less than so many KB.
-fn stack(most: usize) {
+/// The stack that the call needs for three jobs, which must be less than so many KB.
+fn measure(most: usize) {
     let chain: String = (1..512).map(|x| format!("in={}\nout={x}\n", x - 1)).collect();
-    let mut needed = 0;
-    for job in [
+    let jobs = [
         "parallelism=2\nplaces=6\nset=0\nin=0\nout=1\nin=1\nout=2\nin=0\nout=3\nin=\nout=4\nfinal=1\n".to_string(),
         format!("parallelism=64\nplaces=512\nset=0\n{chain}final=1\n"),
         format!("parallelism=1\nplaces=512\n{chain}set=0\nfinal=1\n"),
-    ] {
-        let path = std::env::temp_dir().join(format!("job-stack-{}", std::process::id()));
-        std::fs::write(&path, job).expect("a file");
-        let mut size = 256 << 10;
-        while !fits(&path, size) {
-            size += 16 << 10;
-        }
-        std::fs::remove_file(&path).expect("removed");
-        needed = needed.max(size);
-    }
-    println!("job: stack: a thread of {} KB suffices for the call", needed >> 10);
-    if needed >> 10 >= most {
-        println!("job: stack: which is not less than {most} KB");
-        exit(1);
+    ];
+    match stack::check(jobs.map(String::into_bytes).into(), most) {
+        Ok(told) => println!("job: {told}"),
+        Err(message) => fail(&message),
     }
 }
 
-/// Whether the call runs on so much stack: tried in a process of its own, which dies if not.
-fn fits(path: &std::path::Path, size: usize) -> bool {
-    let me = std::env::current_exe().expect("a path");
-    let quiet = std::process::Stdio::null;
-    let mut child = std::process::Command::new(me);
-    child.args(["on", &size.to_string()]).arg(path).stdout(quiet()).stderr(quiet());
-    child.status().expect("a process").success()
-}
-
-/// One call on a thread with so much stack. The listing's bytes are not on it.
-fn on(size: usize, path: &str) {
-    let job = std::fs::read(path).expect("a job");
-    let mut listing = vec![0; model::LISTING_BYTES];
-    let call = move || assert!(sys::job(&job, &mut listing) % 64 == 0, "accepted");
-    std::thread::Builder::new().stack_size(size).spawn(call).expect("a thread").join().expect("no panic");
+/// The call accepts the job. The listing's bytes are not on the stack.
+fn accepted(job: &[u8]) -> bool {
+    sys::job(job, &mut vec![0; model::LISTING_BYTES]) % 64 == 0
 }

@@ -24,6 +24,7 @@ mod made;
 mod model;
 mod runs;
 mod sources;
+#[path = "../job/stack.rs"]
 mod stack;
 #[path = "../../hosts/rust/src/sys.rs"]
 #[allow(dead_code)]
@@ -41,8 +42,8 @@ fn main() {
             sources::check(number(seed), number(jobs), number(bytes), paths)
         }
         ["runs"] => runs::check(std::io::stdin().lock()),
-        ["stack", most] => stack::check(number(most) as usize),
-        ["on", size, path] => return stack::call_on(number(size) as usize, path),
+        ["stack", most] => stack::check(stacked(), number(most) as usize),
+        ["on", size, path] => return stack::on(number(size) as usize, path, read),
         _ => fail("worked | compare SEED JOBS BYTES PATH.. | runs | stack KB"),
     };
     match done {
@@ -52,6 +53,17 @@ fn main() {
             exit(1)
         }
     }
+}
+
+/// The jobs by which the stack is measured.
+fn stacked() -> Vec<Vec<u8>> {
+    let largest = worked::largest().into_iter().map(|worked| worked.job);
+    largest.chain([sources::J1.into(), Vec::new()]).collect()
+}
+
+/// The call gives the job's needs, or that it is malformed.
+fn read(job: &[u8]) -> bool {
+    matches!(sys::needs(job, &mut [0; 4]) % 64, 0 | 15)
 }
 
 fn number(word: &str) -> u64 {

@@ -312,6 +312,13 @@ abbrev reads : Reading → List ℕ
 reads (needing c) = 0 ∷ c .registrations ∷ c .pool ∷ c .flushes ∷ most-spans c ∷ []
 reads (unread n code) = n ∷ code ∷ []
 
+-- malformed at line n; n, w, f and the ceiling
+abbrev bad : ℕ → List ℕ
+bad n = n ∷ 15 ∷ []
+
+abbrev four : ℕ → ℕ → ℕ → ℕ → List ℕ
+four n w f spans = 0 ∷ n ∷ w ∷ f ∷ spans ∷ []
+
 -- the same jobs; J1; lists of other lengths, with two flushes; P of 65 bits; no `out=` line after an opening and a call that are refused
 pub needs-got : List (List ℕ)
 needs-got =
@@ -326,57 +333,29 @@ needs-got =
 
 pub needs-want : List (List ℕ)
 needs-want =
-    (1 ∷ 15 ∷ [])
-    ∷ (1 ∷ 15 ∷ [])
-    ∷ (1 ∷ 15 ∷ [])
-    ∷ (2 ∷ 15 ∷ [])
-    ∷ (3 ∷ 15 ∷ [])
-    ∷ (2 ∷ 15 ∷ [])
-    ∷ (3 ∷ 15 ∷ [])
-    ∷ (5 ∷ 15 ∷ [])
-    ∷ (1 ∷ 15 ∷ [])
-    ∷ (2 ∷ 15 ∷ [])
-    ∷ (3 ∷ 15 ∷ [])
-    ∷ (0 ∷ 0 ∷ 0 ∷ 0 ∷ 32 ∷ [])
-    ∷ (0 ∷ 0 ∷ 0 ∷ 0 ∷ 32 ∷ [])
-    ∷ (0 ∷ 0 ∷ 0 ∷ 0 ∷ 32 ∷ [])
-    ∷ (0 ∷ 0 ∷ 0 ∷ 0 ∷ 32 ∷ [])
-    ∷ (0 ∷ 0 ∷ 0 ∷ 0 ∷ 32 ∷ [])
-    ∷ (0 ∷ 0 ∷ 0 ∷ 0 ∷ 32 ∷ [])
-    ∷ (0 ∷ 0 ∷ 0 ∷ 0 ∷ 32 ∷ [])
-    ∷ (0 ∷ 0 ∷ 0 ∷ 0 ∷ 32 ∷ [])
-    ∷ (0 ∷ 0 ∷ 0 ∷ 0 ∷ 32 ∷ [])
-    ∷ (0 ∷ 0 ∷ 0 ∷ 0 ∷ 32 ∷ [])
-    ∷ (0 ∷ 0 ∷ 0 ∷ 0 ∷ 32 ∷ [])
-    ∷ (2 ∷ 15 ∷ [])
-    ∷ (3 ∷ 15 ∷ [])
-    ∷ (4 ∷ 15 ∷ [])
-    ∷ (4 ∷ 15 ∷ [])
-    ∷ (4 ∷ 15 ∷ [])
-    ∷ (3 ∷ 15 ∷ [])
-    ∷ (0 ∷ 1 ∷ 2 ∷ 0 ∷ 34 ∷ [])
-    ∷ (4 ∷ 15 ∷ [])
-    ∷ (3 ∷ 15 ∷ [])
-    ∷ (4 ∷ 15 ∷ [])
-    ∷ (3 ∷ 15 ∷ [])
-    ∷ (0 ∷ 0 ∷ 0 ∷ 0 ∷ 32 ∷ [])
-    ∷ (0 ∷ 0 ∷ 0 ∷ 0 ∷ 32 ∷ [])
-    ∷ (0 ∷ 2 ∷ 0 ∷ 0 ∷ 36 ∷ [])
-    ∷ (0 ∷ 1 ∷ 1 ∷ 0 ∷ 34 ∷ [])
-    ∷ (6 ∷ 15 ∷ [])
-    ∷ (4 ∷ 15 ∷ [])
-    ∷ (4 ∷ 15 ∷ [])
-    ∷ (4 ∷ 15 ∷ [])
-    ∷ (4 ∷ 15 ∷ [])
-    ∷ (0 ∷ 0 ∷ 0 ∷ 0 ∷ 32 ∷ [])
-    ∷ (0 ∷ 1 ∷ 2 ∷ 1 ∷ 66 ∷ [])
-    ∷ (1 ∷ 15 ∷ [])
+    -- missing lines, the head's lines exchanged, twice and again
+    (bad 1 ∷ bad 1 ∷ bad 1 ∷ bad 2 ∷ bad 3 ∷ bad 2 ∷ bad 3 ∷ bad 5 ∷ bad 1 ∷ bad 2 ∷ bad 3 ∷ [])
+    -- openings, refused or not
+    ++ (replicate 11 (four 0 0 0 32)
+    -- a malformed line after a P of 0: when run, 1 in line 2 before the second
+    ++ ((bad 2 ∷ bad 3 ∷ [])
+    -- the two lines of an add
+    ++ ((bad 4 ∷ bad 4 ∷ bad 4 ∷ bad 3 ∷ four 1 2 0 34 ∷ bad 4 ∷ bad 3 ∷ [])
+    -- calls that are refused when run: 5 before a malformed line, and after it; 4, 8, 9 and 12; 12 before a surplus line
+    ++ ((bad 4 ∷ bad 3 ∷ four 0 0 0 32 ∷ four 0 0 0 32 ∷ four 2 0 0 36 ∷ four 1 1 0 34 ∷ bad 6 ∷ [])
+    -- nothing may follow final
+    ++ (replicate 4 (bad 4)
+    -- accepted; 65,536 bytes, and one more
+    ++ (four 0 0 0 32
+    ∷ four 1 2 1 66
+    ∷ bad 1
     ∷ (1 ∷ 16 ∷ [])
-    ∷ (0 ∷ 4 ∷ 7 ∷ 0 ∷ 40 ∷ [])
-    ∷ (0 ∷ 3 ∷ 6 ∷ 2 ∷ 102 ∷ [])
-    ∷ (1 ∷ 15 ∷ [])
-    ∷ (5 ∷ 15 ∷ [])
-    ∷ []
+    -- the others
+    ∷ four 4 7 0 40
+    ∷ four 3 6 2 102
+    ∷ bad 1
+    ∷ bad 5
+    ∷ []))))))
 
 pub needs-turn : needs-got ≡ needs-want
 unfolding needs-got needs-want digits decimal lines-from lines ragged digits-from leading-zero in-64-bits number fields-from both numbers list after-key with-number with-list whole
