@@ -9,7 +9,7 @@
 #include <stdint.h>
 
 #include "layout.h"
-#include "limits.h"
+#include "order_limits.h"
 #include "refusals.h"
 
 #ifdef __cplusplus

@@ -2,7 +2,7 @@
 #ifndef ORDER_REPLY_H
 #define ORDER_REPLY_H
 
-#include "limits.h"
+#include "order_limits.h"
 #include "refusals.h"
 
 #define ORDER_CODE(returned) ((unsigned)((returned) % ORDER_REPLY_RADIX))      /* 0 if the job was accepted */

@@ -7,7 +7,7 @@
 #include <stddef.h>
 #include <stdint.h>
 
-#include "limits.h"
+#include "order_limits.h"
 #include "refusals.h"
 
 #ifdef __cplusplus

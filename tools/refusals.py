@@ -9,7 +9,7 @@
 
 The lists: the enum in C with order_code_text (hosts/refusals.h), the enum in Rust
 (hosts/rust/src/refusal.rs), the one in Python (hosts/python/witness_order/refusals.py) and the table of docs/JOB.md,
-between two lines that say so; and the limits in C (hosts/limits.h), Rust (hosts/rust/src/limits.rs) and Python
+between two lines that say so; and the limits in C (hosts/order_limits.h), Rust (hosts/rust/src/limits.rs) and Python
 (hosts/python/witness_order/limits.py). One more refusal is one more line of its source, one more limit a definition."""
 
 import difflib
@@ -261,7 +261,7 @@ The limits of the specification under the names that the definitions have; what 
 def lists(rows):
     limits = defined(LIMITS)
     return {
-        "hosts/limits.h": limits_in_c(limits),
+        "hosts/order_limits.h": limits_in_c(limits),
         "hosts/rust/src/limits.rs": limits_in_rust(limits),
         "hosts/python/witness_order/limits.py": limits_in_python(limits),
         "hosts/refusals.h": in_c(rows),

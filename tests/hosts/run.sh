@@ -53,10 +53,10 @@ copy=$work/copy
 mkdir -p "$copy"/{crates/rules,docs,hosts/rust/src,hosts/python/witness_order,tools}
 fresh() {
   cp -r crates/rules/specs crates/rules/src "$copy/crates/rules/" && cp docs/JOB.md "$copy/docs/" && cp tools/refusals.py "$copy/tools/"
-  cp hosts/refusals.* hosts/limits.h "$copy/hosts/" && cp hosts/rust/src/{refusal,limits}.rs "$copy/hosts/rust/src/"
+  cp hosts/refusals.* hosts/order_limits.h "$copy/hosts/" && cp hosts/rust/src/{refusal,limits}.rs "$copy/hosts/rust/src/"
   cp hosts/python/witness_order/{refusals,limits}.py "$copy/hosts/python/witness_order/"
 }
-for list in hosts/refusals.h hosts/limits.h hosts/rust/src/refusal.rs hosts/rust/src/limits.rs \
+for list in hosts/refusals.h hosts/order_limits.h hosts/rust/src/refusal.rs hosts/rust/src/limits.rs \
   hosts/python/witness_order/refusals.py hosts/python/witness_order/limits.py docs/JOB.md; do
   fresh && sed -i -e 's/already set, written or promised/already set or written/' -e 's/64_\?999$/64998/' -e 's/64_999;/64998;/' "$copy/$list"
   refuses 1 "$list is not what" "$copy/tools/refusals.py" --check
@@ -114,6 +114,9 @@ for compiler in "${compilers[@]}"; do
   for header in hosts/*.h; do
     echo "#include \"$(basename "$header")\"" | sed 's/$/\nint main(void) { return 0; }/' >"$work/header.c"
     $strict -Ihosts -fsyntax-only "$work/header.c" || fail "$header by $compiler"
+    # With -Ihosts it would hide one of the system's, <limits.h> for one.
+    echo "#include <$(basename "$header")>" >"$work/header.c"
+    ! $compiler -fsyntax-only "$work/header.c" 2>/dev/null || fail "$header has the name of a header of the system's"
     headers=$((headers + 1))
   done
   # J1 with a call that is refused, and a guide's list with such a request: place 3 is written twice, no entry is at 7, 7.
