@@ -1,4 +1,5 @@
--- Document 01 as definitions, in the paper's order, after its limits, the numbers of its refusals and how texts stand for bytes.
+-- Document 01 as definitions, in the paper's order, after its limits, the numbers of its refusals and how texts stand for bytes; and of
+-- document 02 what a job needs.
 pub mod Limits
 pub mod Refusals
 pub mod Text
