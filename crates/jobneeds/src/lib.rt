@@ -13,6 +13,7 @@ const SPANS_A_PLACING: u64 = 2;
 
 const SPANS_A_FLUSH: u64 = window::SPANS as u64;
 
+// Registrations, the numbers in all their lists, and plain flushes.
 pub struct Needs {
     pub registrations: u64,
     pub pool: u64,
