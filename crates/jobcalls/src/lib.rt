@@ -15,7 +15,7 @@ pub fn line_at(job: &[u8], at: usize, into: &mut [u64], off: usize) -> Got
     requires { ⌜ (at ≤ length (now job)) × (2 * off + length (now job) ≤ 2 * length (now into) + at) ⌝ }
     ensures { λ r. ⌜ LineAt (now (job .entry)) at (now (into .entry)) (now (into .exit)) off (r .line) (r .next) ⌝ }
 {
-    let e = jobtext::find(job, at, b'\n');
+    let e = jobtext::line_end(job, at);
     if e == job.len() {
         return Got {
             line: Line::Malformed,

@@ -1,16 +1,18 @@
 -- Laws of the pieces between separators: the first byte of a kind, and the lines and fields of rules/Job told by it, with no text carried
 -- along. Assumes nothing.
 use mathlib.Core.List.{List, [], _∷_, _++_, append-assoc, append-nil}
-use mathlib.Core.Bool.{Bool, true, false}
+use mathlib.Core.Bool.{Bool, true, false, false≢true}
 use mathlib.Core.Logic.{_⊎_, inl, inr}
-use mathlib.Core.Path.{_≡_, refl, _∙_}
+use mathlib.Core.Path.{_≡_, refl, sym, ap, _∙_}
 use Prim.Native.Nat.{ℕ, suc, _+_, _≤_, _<_, zero-le, suc-le-suc}
 use native.Mathlib.Nat.{le-of-suc-le-suc, not-suc-le-zero}
 use native.Mathlib.Numerals.{add-one}
-use lib.ListN.{length, getD, take, drop}
-use lib.Seq.{drop-cons}
+use native.Mathlib.Omega.{arith}
+use lib.ListN.{length, getD, take, drop, length-take, length-drop, take-append-drop}
+use lib.Seq.{drop-cons, drop-drop}
 use lib.Dec.{eqb}
-use borrow.Author.Tests.{eq-eqb, ne-eqb}
+use borrow.Author.Tests.{eqb-false, eq-eqb, ne-eqb}
+use Rattle.rules.specs.Model.{member}
 use Rattle.rules.specs.Job.{lines-from, ragged, fields-from}
 use Rattle.jobtext.specs.Text.{before}
 
@@ -39,6 +41,24 @@ before-on b s i h n = rw (drop-cons s i 0 h, before, ne-eqb (getD s i 0) b n, ad
 pub before-end : (b : ℕ) → before b [] ≡ 0
 unfolding before
 before-end b = refl
+
+-- bytes without a b are passed over
+before-past : (b : ℕ) (l r : List ℕ) → member b l ≡ false → before b (l ++ r) ≡ length l + before b r
+unfolding before member
+before-past b [] r e = omega arith
+before-past b (x ∷ l) r e = go (bool (eqb b x)) (before-past b l r)
+  where
+    go : (eqb b x ≡ true) ⊎ (eqb b x ≡ false) → (member b l ≡ false → before b (l ++ r) ≡ length l + before b r)
+        → before b (x ∷ (l ++ r)) ≡ suc (length l) + before b r
+    go (inl f) k = absurd (false≢true (sym (rw f at e)))
+    go (inr f) k = rw (before, ne-eqb x b (λ q. eqb-false b x f (sym q))) (omega (arith, k (rw f at e)))
+
+pub before-part : (b : ℕ) (s : List ℕ) (i n : ℕ) → i + n ≤ length s → member b (take n (drop i s)) ≡ false
+    → before b (drop i s) ≡ n + before b (drop (i + n) s)
+before-part b s i n h e =
+    let long : length (take n (drop i s)) ≡ n = simp (length-take, length-drop) (omega arith) in
+    let parts : take n (drop i s) ++ drop (i + n) s ≡ drop i s = ap (λ (r : List ℕ). take n (drop i s) ++ r) (sym (drop-drop n i s)) ∙ take-append-drop n (drop i s) in
+    sym (ap (before b) parts) ∙ before-past b (take n (drop i s)) (drop (i + n) s) e ∙ ap (λ (k : ℕ). k + before b (drop (i + n) s)) long
 
 -- a field, and the rest where a comma ends it
 pub fields-more : (acc l : List ℕ) → before 44 l < length l → fields-from acc l ≡ (acc ++ take (before 44 l) l) ∷ fields-from [] (drop (suc (before 44 l)) l)

@@ -3,9 +3,10 @@ use mathlib.Core.List.{List, [], _∷_}
 use mathlib.Core.Bool.{true, false}
 use mathlib.Core.Option.{Option, some, none}
 use mathlib.Core.Path.{_≡_}
-use Prim.Native.Nat.{ℕ, suc, _+_, _*_, _/_, _≤_}
+use Prim.Native.Nat.{ℕ, zero, suc, _+_, _*_, _/_, _%_, _≤_}
 use lib.ListN.{length, take, drop}
-use lib.Dec.{eqb}
+use lib.Dec.{leb, eqb}
+use Rattle.rules.specs.Text.{newline}
 use Rattle.rules.specs.Job.{list}
 use Rattle.jobtext.specs.declared.Number.{Number}
 use Rattle.jobtext.specs.declared.Number.the-variants as number
@@ -16,6 +17,16 @@ use Rattle.jobtext.specs.declared.Items.the-variants as items
 unfoldable pub before : ℕ → List ℕ → ℕ
 before b [] = 0
 before b (x ∷ l) = elim (eqb x b) [ true ↦ 0 | false ↦ suc (before b l) ]
+
+-- "From any start it finds the first byte 10 there or later, or truly none" (document 02, M-102): its place, or the length where there is
+-- none; so too from a start past the bytes
+unfoldable pub line-end : List ℕ → ℕ → ℕ
+line-end s from = elim (leb from (length s)) [ true ↦ from + before newline (drop from s) | false ↦ length s ]
+
+-- the n lowest bytes of a number, the lowest first
+unfoldable pub low-bytes : ℕ → ℕ → List ℕ
+low-bytes zero w = []
+low-bytes (suc n) w = (w % 256) ∷ low-bytes n (w / 256)
 
 -- the number that an answer tells
 abbrev pub value-of : Number → Option ℕ

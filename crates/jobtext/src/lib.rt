@@ -1,9 +1,11 @@
-// The text of a job below its lines: the first byte of a kind, a number, a list of numbers.
+// The text of a job below its lines: the first byte of a kind, the end of a line, a number, a list of numbers.
+ghost use mathlib.Core.List.{[], _∷_};
 ghost use mathlib.Core.Path.{_≡_};
 ghost use Prim.Native.Nat.{_+_, _*_, _≤_, _<_};
-ghost use lib.ListN.{length, drop};
+ghost use lib.ListN.{length, take, drop};
+ghost use Rattle.rules.specs.Model.{member};
 ghost use Rattle.rules.specs.Job.{digits-from, in-64-bits, number as Job·number, list};
-ghost use Rattle.jobtext.specs.Text.{before, value-of, ListRead};
+ghost use Rattle.jobtext.specs.Text.{before, low-bytes, line-end, value-of, ListRead};
 
 // The place of the first byte `b` at or after `from`, or the length where there is none.
 pub fn find(s: &[u8], from: usize, b: u8) -> usize
@@ -18,6 +20,82 @@ pub fn find(s: &[u8], from: usize, b: u8) -> usize
         i += 1;
     }
     i
+}
+
+// Two bytes as one number, the first lowest.
+fn pair(a: u8, b: u8) -> u16
+    ensures { λ r. ⌜ low-bytes 2 r ≡ a ∷ (b ∷ []) ⌝ }
+{
+    (b as u16) * 256 + (a as u16)
+}
+
+// The two bytes from i on; the four; the eight. The compiler makes one load of all.
+fn pair_at(s: &[u8], i: usize) -> u16
+    requires { ⌜ i + 2 ≤ length (now s) ⌝ }
+    ensures { λ r. ⌜ low-bytes 2 r ≡ take 2 (drop i (now (s .entry))) ⌝ }
+{
+    pair(s[i], s[i + 1])
+}
+
+fn quad_at(s: &[u8], i: usize) -> u32
+    requires { ⌜ i + 4 ≤ length (now s) ⌝ }
+    ensures { λ r. ⌜ low-bytes 4 r ≡ take 4 (drop i (now (s .entry))) ⌝ }
+{
+    let low = pair_at(s, i);
+    let high = pair_at(s, i + 2);
+    (high as u32) * 65536 + (low as u32)
+}
+
+fn word_at(s: &[u8], i: usize) -> u64
+    requires { ⌜ i + 8 ≤ length (now s) ⌝ }
+    ensures { λ r. ⌜ low-bytes 8 r ≡ take 8 (drop i (now (s .entry))) ⌝ }
+{
+    let low = quad_at(s, i);
+    let high = quad_at(s, i + 4);
+    (high as u64) * 4294967296 + (low as u64)
+}
+
+// Of a word: each byte 10; the low seven bits of each byte; the eighth.
+const NEWLINES: u64 = 0x0a0a0a0a0a0a0a0a;
+const LOW_SEVEN: u64 = 0x7f7f7f7f7f7f7f7f;
+const EIGHTH: u64 = 0x8080808080808080;
+
+// Whether one of a word's eight bytes is 10. A byte that differs from 10, in its low seven bits or in its eighth, leaves its eighth bit
+// set, and no sum carries from a byte into the next.
+fn has_newline(w: u64) -> bool
+    ensures { λ r. ⌜ r ≡ member 10 (low-bytes 8 w) ⌝ }
+{
+    let x = w ^ NEWLINES;
+    let y = (x & LOW_SEVEN) + LOW_SEVEN;
+    (y | x) & EIGHTH != EIGHTH
+}
+
+// The place of the first byte 10 at or after `from`, or the length where there is none: by words, up to one that has it or to the odd
+// bytes at the end, and then byte by byte.
+pub fn line_end(s: &[u8], from: usize) -> usize
+    requires { ⌜ from ≤ length (now s) ⌝ }
+    ensures { λ r. ⌜ r ≡ from + before 10 (drop from (now (s .entry))) ⌝ }
+{
+    let mut i = from;
+    while 8 <= s.len() - i {
+        let w = word_at(s, i);
+        if has_newline(w) {
+            break;
+        }
+        i += 8;
+    }
+    find(s, i, b'\n')
+}
+
+// The same from any start: the length where it lies past the bytes.
+#[no_mangle]
+pub extern "C" fn job_line_end(job: &[u8], from: usize) -> usize
+    ensures { λ r. ⌜ r ≡ line-end (now (job .entry)) from ⌝ }
+{
+    if job.len() < from {
+        return job.len();
+    }
+    line_end(job, from)
 }
 
 pub enum Number {

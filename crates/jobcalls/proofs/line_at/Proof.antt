@@ -7,14 +7,14 @@ use borrow.Author.Needs.{needs}
 use Rattle.jobcalls.proofs.line_at.Statement.{statement}
 use Rattle.jobcalls.proofs.line_at.Tie as tie
 
-find-requires : tie.Need-find-requires
-find-requires c κs = search needs
+line-end-requires : tie.Need-line-end-requires
+line-end-requires c κs = search needs
 
 returns : tie.Need-returns
 returns c =
     let start = c .before .before .before .before in
     let a = start .args in
-    line-missing (a .job .now) (a .into .now) (a .at) (a .off) (c .before .find .result) (start .pre .0) (start .pre .1) (c .before .find .ensures) (c .if1 .taken)
+    line-missing (a .job .now) (a .into .now) (a .at) (a .off) (c .before .line-end .result) (start .pre .0) (start .pre .1) (c .before .line-end .ensures) (c .if1 .taken)
 
 sub-read-line : tie.Need-sub-read-line
 sub-read-line c = search needs
@@ -26,7 +26,7 @@ part-read-line-end : tie.Need-part-read-line-end
 part-read-line-end c =
     let start = c .before .before .before .before in
     let a = start .args in
-    le-of-lt (line-end (a .job .now) (a .into .now) (a .at) (a .off) (c .before .find .result) (start .pre .0) (start .pre .1) (c .before .find .ensures) (c .if1 .left))
+    le-of-lt (line-end (a .job .now) (a .into .now) (a .at) (a .off) (c .before .line-end .result) (start .pre .0) (start .pre .1) (c .before .line-end .ensures) (c .if1 .left))
 
 read-line-requires : tie.Need-read-line-requires
 read-line-requires c κs =
@@ -34,8 +34,8 @@ read-line-requires c κs =
     let found = ended .before in
     let start = found .before .before .before in
     let a = start .args in
-    let e = line-end (a .job .now) (a .into .now) (a .at) (a .off) (found .find .result) (start .pre .0) (start .pre .1) (found .find .ensures) (ended .if1 .left) in
-    simp (length-take, length-drop) (omega (arith, e, start .pre .1, found .find .ensures))
+    let e = line-end (a .job .now) (a .into .now) (a .at) (a .off) (found .line-end .result) (start .pre .0) (start .pre .1) (found .line-end .ensures) (ended .if1 .left) in
+    simp (length-take, length-drop) (omega (arith, e, start .pre .1, found .line-end .ensures))
 
 add-t7 : tie.Need-add-t7
 add-t7 c =
@@ -43,7 +43,7 @@ add-t7 c =
     let found = ended .before in
     let start = found .before .before .before in
     let a = start .args in
-    omega (arith, line-end (a .job .now) (a .into .now) (a .at) (a .off) (found .find .result) (start .pre .0) (start .pre .1) (found .find .ensures) (ended .if1 .left), start .good .0 .0)
+    omega (arith, line-end (a .job .now) (a .into .now) (a .at) (a .off) (found .line-end .result) (start .pre .0) (start .pre .1) (found .line-end .ensures) (ended .if1 .left), start .good .0 .0)
 
 same-length : tie.Need-same-length
 same-length c = search needs
@@ -55,14 +55,14 @@ returns-2 c =
     let found = ended .before in
     let start = found .before .before .before in
     let a = start .args in
-    line-found (a .job .now) (a .into .now) (a .at) (a .off) (found .find .result) (start .pre .0) (start .pre .1) (found .find .ensures)
+    line-found (a .job .now) (a .into .now) (a .at) (a .off) (found .line-end .result) (start .pre .0) (start .pre .1) (found .line-end .ensures)
     (read .read-line .last .1 .0) (read .read-line .result) (ended .if1 .left) (read .read-line .ensures)
 
 pub line-at-spec : {M : Type 1} → statement M
 line-at-spec =
     tie.close
     (tie.spec
-    find-requires
+    line-end-requires
     returns
     sub-read-line
     part-read-line-start
