@@ -69,7 +69,7 @@ static size_t list_of(size_t digits) {
     size_t length = 3;
     memcpy(text, "in=", length);
     while (length + digits + 1 <= BYTES) {
-        for (size_t i = 0; i < digits; i++) text[length++] = (uint8_t)('1' + (length + i) % 9);
+        for (size_t i = 0; i < digits; i++, length++) text[length] = (uint8_t)('1' + length % 9);
         text[length++] = ',';
     }
     text[length - 1] = '\n';

@@ -14,7 +14,7 @@ use lib.Dec.{eqb}
 use borrow.Author.Tests.{eqb-false, eq-eqb, ne-eqb}
 use Rattle.rules.specs.Model.{member}
 use Rattle.rules.specs.Job.{lines-from, ragged, fields-from}
-use Rattle.jobtext.specs.Text.{before}
+use Rattle.jobtext.specs.Text.{before, GoesOn}
 
 pub bool : (b : Bool) → (b ≡ true) ⊎ (b ≡ false)
 bool true = inl refl
@@ -53,12 +53,15 @@ before-past b (x ∷ l) r e = go (bool (eqb b x)) (before-past b l r)
     go (inl f) k = absurd (false≢true (sym (rw f at e)))
     go (inr f) k = rw (before, ne-eqb x b (λ q. eqb-false b x f (sym q))) (omega (arith, k (rw f at e)))
 
-pub before-part : (b : ℕ) (s : List ℕ) (i n : ℕ) → i + n ≤ length s → member b (take n (drop i s)) ≡ false
+before-part : (b : ℕ) (s : List ℕ) (i n : ℕ) → i + n ≤ length s → member b (take n (drop i s)) ≡ false
     → before b (drop i s) ≡ n + before b (drop (i + n) s)
 before-part b s i n h e =
     let long : length (take n (drop i s)) ≡ n = simp (length-take, length-drop) (omega arith) in
     let parts : take n (drop i s) ++ drop (i + n) s ≡ drop i s = ap (λ (r : List ℕ). take n (drop i s) ++ r) (sym (drop-drop n i s)) ∙ take-append-drop n (drop i s) in
     sym (ap (before b) parts) ∙ before-past b (take n (drop i s)) (drop (i + n) s) e ∙ ap (λ (k : ℕ). k + before b (drop (i + n) s)) long
+
+pub goes-on-past : (s : List ℕ) (from i n : ℕ) → GoesOn s from i → i + n ≤ length s → member 10 (take n (drop i s)) ≡ false → GoesOn s from (i + n)
+goes-on-past s from i n g h e = (h, omega (arith, g .1, before-part 10 s i n h e))
 
 -- a field, and the rest where a comma ends it
 pub fields-more : (acc l : List ℕ) → before 44 l < length l → fields-from acc l ≡ (acc ++ take (before 44 l) l) ∷ fields-from [] (drop (suc (before 44 l)) l)

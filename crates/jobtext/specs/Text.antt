@@ -1,12 +1,14 @@
 -- What the readers of this crate promise: how an answer stands for document 01's numbers and lists (rules, Job). Assumes nothing.
 use mathlib.Core.List.{List, [], _∷_}
+use mathlib.Core.Logic.{_⊎_}
 use mathlib.Core.Bool.{true, false}
 use mathlib.Core.Option.{Option, some, none}
 use mathlib.Core.Path.{_≡_}
-use Prim.Native.Nat.{ℕ, zero, suc, _+_, _*_, _/_, _%_, _≤_}
+use Prim.Native.Nat.{ℕ, zero, suc, _+_, _*_, _/_, _%_, _≤_, _<_}
 use lib.ListN.{length, take, drop}
 use lib.Dec.{leb, eqb}
 use Rattle.rules.specs.Text.{newline}
+use Rattle.rules.specs.Model.{member}
 use Rattle.rules.specs.Job.{list}
 use Rattle.jobtext.specs.declared.Number.{Number}
 use Rattle.jobtext.specs.declared.Number.the-variants as number
@@ -27,6 +29,15 @@ line-end s from = elim (leb from (length s)) [ true ↦ from + before newline (d
 unfoldable pub low-bytes : ℕ → ℕ → List ℕ
 low-bytes zero w = []
 low-bytes (suc n) w = (w % 256) ∷ low-bytes n (w / 256)
+
+-- a search begun at `from` may go on at i, and ends where it would have
+abbrev pub GoesOn : List ℕ → ℕ → ℕ → Type 0
+GoesOn s from i = (i ≤ length s) × (from + before newline (drop from s) ≡ i + before newline (drop i s))
+
+-- it has passed over bytes without a 10, as far as n at a time go: of the next n one is 10, or fewer are left
+pub record Passed (n : ℕ) (s : List ℕ) (from i : ℕ) : Type 0 where
+  pub goes-on : GoesOn s from i
+  pub no-further : (member newline (take n (drop i s)) ≡ true) ⊎ (length s < i + n)
 
 -- the number that an answer tells
 abbrev pub value-of : Number → Option ℕ

@@ -8,7 +8,7 @@ use Prim.Native.Nat.{ℕ, zero, suc, _+_, _*_, _/_, _%_, _^_, _≤_, _<_}
 use native.Mathlib.Nat.{zero-add, suc-add, mul-assoc, pow-suc, mod-eq-of-lt}
 use native.Mathlib.Numerals.{add-one}
 use native.Mathlib.Omega.{arith}
-use lib.Bits.{bitAnd, bitOr, bitXor, and-block, or-block, xor-block, and-le-r, or-lt, xor-lt, and-zero-r}
+use lib.Bits.{bitAnd, bitOr, bitXor, and-block, or-block, xor-block, and-le-l, and-le-r, or-lt, xor-lt, xor-self, xor-add-and, or-add-and, and-zero-r}
 use lib.Dec.{eqb}
 use lib.ListN.{length, take, drop, getD}
 use lib.Seq.{drop-cons, drop-drop, take-add}
@@ -28,11 +28,13 @@ joined (suc m) n low high h =
     let others : (a * 256 + low) / 256 ≡ a + low / 256 = omega arith in
     rw (suc-add m n, e, first, others, joined m n (low / 256) high (omega (arith, rw (pow-suc 256 m) at h)))
 
--- the bytes of a text from i on, read in two parts
+-- the bytes of a text from i on, in two parts; as one number
+pub beside : (s : List ℕ) (i m n : ℕ) (l r : List ℕ) → l ≡ take m (drop i s) → r ≡ take n (drop (i + m) s) → l ++ r ≡ take (m + n) (drop i s)
+beside s i m n l r e f = ap₂ (λ (x y : List ℕ). x ++ y) e (f ∙ ap (take n) (sym (drop-drop m i s))) ∙ sym (take-add m n (drop i s))
+
 pub read-on : (s : List ℕ) (i m n low high : ℕ) → low < 256 ^ m → low-bytes m low ≡ take m (drop i s) → low-bytes n high ≡ take n (drop (i + m) s)
     → low-bytes (m + n) (high * 256 ^ m + low) ≡ take (m + n) (drop i s)
-read-on s i m n low high h l r =
-    joined m n low high h ∙ ap₂ (λ (x y : List ℕ). x ++ y) l (r ∙ ap (take n) (sym (drop-drop m i s))) ∙ sym (take-add m n (drop i s))
+read-on s i m n low high h e f = joined m n low high h ∙ beside s i m n (low-bytes m low) (low-bytes n high) e f
 
 pub two-bytes : (a b : ℕ) → a < 256 → b < 256 → low-bytes 2 (b * 256 + a) ≡ a ∷ (b ∷ [])
 unfolding low-bytes
@@ -133,8 +135,47 @@ tested (suc n) w = go (bool (eqb 10 b)) (tested n (w / 256))
     go (inl e) r = rw e (ne-eqb (left (suc n) w) (each n 128 * 2 ^ 8 + 128) (λ q. omega (arith, q, apart, rw e at (byte-left b small))))
     go (inr e) r = rw (apart, byte-left b small, e) (same-blocks (left n (w / 256)) (each n 128) 128 ∙ r)
 
--- the same of a word's eight bytes, in the code's own numbers
+zero-where-same : (a b : ℕ) → eqb (bitXor a b) 0 ≡ eqb a b
+zero-where-same a b = go (bool (eqb a b))
+  where
+    go : (eqb a b ≡ true) ⊎ (eqb a b ≡ false) → eqb (bitXor a b) 0 ≡ eqb a b
+    go (inl e) = rw e (eq-eqb (bitXor a b) 0 (ap (λ (x : ℕ). bitXor x b) (eqb-true a b e) ∙ xor-self b))
+    go (inr e) = rw e (ne-eqb (bitXor a b) 0 (λ q. eqb-false a b e (omega (arith, q, xor-add-and a b, and-le-l a b, and-le-r a b))))
+
+-- the test of a word in the code's own numbers
 pub word-tested : (w : ℕ) → let x : ℕ = bitXor w 0x0a0a0a0a0a0a0a0a in
-    not (eqb (bitAnd (bitOr (bitAnd x 0x7f7f7f7f7f7f7f7f + 0x7f7f7f7f7f7f7f7f) x) 0x8080808080808080) 0x8080808080808080) ≡ member 10 (low-bytes 8 w)
+    eqb (bitXor (bitAnd (bitOr (bitAnd x 0x7f7f7f7f7f7f7f7f + 0x7f7f7f7f7f7f7f7f) x) 0x8080808080808080) 0x8080808080808080) 0 ≡ not (member 10 (low-bytes 8 w))
 unfolding left each
-word-tested w = ap not (tested 8 w) ∙ Bool·not-not (member 10 (low-bytes 8 w))
+word-tested w = zero-where-same (left 8 w) (each 8 128) ∙ tested 8 w
+
+pub word-says : (r : ℕ) (l : List ℕ) → eqb r 0 ≡ not (member 10 l) → not (eqb r 0) ≡ member 10 l
+word-says r l e = ap not e ∙ Bool·not-not (member 10 l)
+
+-- two tests as one
+zero-where-both : (a b : ℕ) → eqb (bitOr a b) 0 ≡ (eqb a 0 && eqb b 0)
+zero-where-both a b = go (bool (eqb a 0)) (bool (eqb b 0))
+  where
+    sum : bitOr a b + bitAnd a b ≡ a + b
+    sum = or-add-and a b
+
+    go : (eqb a 0 ≡ true) ⊎ (eqb a 0 ≡ false) → (eqb b 0 ≡ true) ⊎ (eqb b 0 ≡ false) → eqb (bitOr a b) 0 ≡ (eqb a 0 && eqb b 0)
+    go (inl e) (inl f) = rw (e, f) (eq-eqb (bitOr a b) 0 (omega (arith, sum, eqb-true a 0 e, eqb-true b 0 f)))
+    go (inl e) (inr f) = rw (e, f) (ne-eqb (bitOr a b) 0 (λ q. eqb-false b 0 f (omega (arith, q, sum, and-le-l a b))))
+    go (inr e) d = rw e (ne-eqb (bitOr a b) 0 (λ q. eqb-false a 0 e (omega (arith, q, sum, and-le-r a b))))
+
+member-append : (x : ℕ) (l m : List ℕ) → member x (l ++ m) ≡ (member x l || member x m)
+unfolding member
+member-append x [] m = refl
+member-append x (y ∷ l) m = ap (λ (t : Bool). eqb x y || t) (member-append x l m) ∙ or-assoc (eqb x y) (member x l) (member x m)
+  where
+    or-assoc : (a b c : Bool) → (a || (b || c)) ≡ ((a || b) || c)
+    or-assoc true b c = refl
+    or-assoc false b c = refl
+
+pub words-say : (q r : ℕ) (l m : List ℕ) → eqb q 0 ≡ not (member 10 l) → eqb r 0 ≡ not (member 10 m) → not (eqb (bitOr q r) 0) ≡ member 10 (l ++ m)
+words-say q r l m e f = rw (zero-where-both q r, e, f, member-append 10 l m) (either (member 10 l) (member 10 m))
+  where
+    either : (a b : Bool) → not (not a && not b) ≡ (a || b)
+    either true b = refl
+    either false true = refl
+    either false false = refl

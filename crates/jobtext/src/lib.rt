@@ -1,11 +1,13 @@
 // The text of a job below its lines: the first byte of a kind, the end of a line, a number, a list of numbers.
-ghost use mathlib.Core.List.{[], _∷_};
+ghost use mathlib.Core.Bool.{not};
+ghost use mathlib.Core.List.{[], _∷_, _++_};
 ghost use mathlib.Core.Path.{_≡_};
 ghost use Prim.Native.Nat.{_+_, _*_, _≤_, _<_};
+ghost use lib.Dec.{eqb};
 ghost use lib.ListN.{length, take, drop};
 ghost use Rattle.rules.specs.Model.{member};
 ghost use Rattle.rules.specs.Job.{digits-from, in-64-bits, number as Job·number, list};
-ghost use Rattle.jobtext.specs.Text.{before, low-bytes, line-end, value-of, ListRead};
+ghost use Rattle.jobtext.specs.Text.{before, line-end, low-bytes, Passed, value-of, ListRead};
 
 // The place of the first byte `b` at or after `from`, or the length where there is none.
 pub fn find(s: &[u8], from: usize, b: u8) -> usize
@@ -57,17 +59,66 @@ fn word_at(s: &[u8], i: usize) -> u64
 
 // Of a word: each byte 10; the low seven bits of each byte; the eighth.
 const NEWLINES: u64 = 0x0a0a0a0a0a0a0a0a;
+
 const LOW_SEVEN: u64 = 0x7f7f7f7f7f7f7f7f;
+
 const EIGHTH: u64 = 0x8080808080808080;
 
-// Whether one of a word's eight bytes is 10. A byte that differs from 10, in its low seven bits or in its eighth, leaves its eighth bit
-// set, and no sum carries from a byte into the next.
-fn has_newline(w: u64) -> bool
-    ensures { λ r. ⌜ r ≡ member 10 (low-bytes 8 w) ⌝ }
+// The eighth bit of each byte of a word that is 10, so 0 exactly where none is. A byte that differs from 10, in its low seven bits or in
+// its eighth, has its eighth bit set before the last step; no sum carries from a byte into the next.
+fn newlines(w: u64) -> u64
+    ensures { λ r. ⌜ eqb r 0 ≡ not (member 10 (low-bytes 8 w)) ⌝ }
 {
     let x = w ^ NEWLINES;
     let y = (x & LOW_SEVEN) + LOW_SEVEN;
-    (y | x) & EIGHTH != EIGHTH
+    ((y | x) & EIGHTH) ^ EIGHTH
+}
+
+// Whether one of a word's eight bytes is 10.
+fn has_newline(w: u64) -> bool
+    ensures { λ r. ⌜ r ≡ member 10 (low-bytes 8 w) ⌝ }
+{
+    newlines(w) != 0
+}
+
+// Whether one of two words' bytes is, by one test.
+fn either_has_newline(v: u64, w: u64) -> bool
+    ensures { λ r. ⌜ r ≡ member 10 (low-bytes 8 v ++ low-bytes 8 w) ⌝ }
+{
+    (newlines(v) | newlines(w)) != 0
+}
+
+// Passes over bytes without a 10, two words at a time.
+fn pass_pairs(s: &[u8], from: usize) -> usize
+    requires { ⌜ from ≤ length (now s) ⌝ }
+    ensures { λ r. ⌜ Passed 16 (now (s .entry)) from r ⌝ }
+{
+    let mut i = from;
+    while 16 <= s.len() - i {
+        let v = word_at(s, i);
+        let w = word_at(s, i + 8);
+        if either_has_newline(v, w) {
+            return i;
+        }
+        i += 16;
+    }
+    i
+}
+
+// The same by single words.
+fn pass_words(s: &[u8], from: usize) -> usize
+    requires { ⌜ from ≤ length (now s) ⌝ }
+    ensures { λ r. ⌜ Passed 8 (now (s .entry)) from r ⌝ }
+{
+    let mut i = from;
+    while 8 <= s.len() - i {
+        let w = word_at(s, i);
+        if has_newline(w) {
+            return i;
+        }
+        i += 8;
+    }
+    i
 }
 
 // The place of the first byte 10 at or after `from`, or the length where there is none: by words, up to one that has it or to the odd
@@ -76,15 +127,9 @@ pub fn line_end(s: &[u8], from: usize) -> usize
     requires { ⌜ from ≤ length (now s) ⌝ }
     ensures { λ r. ⌜ r ≡ from + before 10 (drop from (now (s .entry))) ⌝ }
 {
-    let mut i = from;
-    while 8 <= s.len() - i {
-        let w = word_at(s, i);
-        if has_newline(w) {
-            break;
-        }
-        i += 8;
-    }
-    find(s, i, b'\n')
+    let i = pass_pairs(s, from);
+    let j = pass_words(s, i);
+    find(s, j, b'\n')
 }
 
 // The same from any start: the length where it lies past the bytes.
