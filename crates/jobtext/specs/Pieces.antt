@@ -42,7 +42,16 @@ pub before-end : (b : ℕ) → before b [] ≡ 0
 unfolding before
 before-end b = refl
 
--- bytes without a b are passed over
+-- a search through bytes before others: it ends among them, or there is no b and it goes on
+before-within : (b : ℕ) (l r : List ℕ) → before b l < length l → before b (l ++ r) ≡ before b l
+unfolding before
+before-within b [] r h = absurd (not-suc-le-zero h)
+before-within b (x ∷ l) r h = go (bool (eqb x b)) (before-within b l r)
+  where
+    go : (eqb x b ≡ true) ⊎ (eqb x b ≡ false) → (before b l < length l → before b (l ++ r) ≡ before b l) → before b (x ∷ (l ++ r)) ≡ before b (x ∷ l)
+    go (inl e) k = rw (before, e)
+    go (inr e) k = rw (before, e) (ap suc (k (le-of-suc-le-suc (rw (before, e) at h))))
+
 before-past : (b : ℕ) (l r : List ℕ) → member b l ≡ false → before b (l ++ r) ≡ length l + before b r
 unfolding before member
 before-past b [] r e = omega arith
@@ -53,15 +62,38 @@ before-past b (x ∷ l) r e = go (bool (eqb b x)) (before-past b l r)
     go (inl f) k = absurd (false≢true (sym (rw f at e)))
     go (inr f) k = rw (before, ne-eqb x b (λ q. eqb-false b x f (sym q))) (omega (arith, k (rw f at e)))
 
-before-part : (b : ℕ) (s : List ℕ) (i n : ℕ) → i + n ≤ length s → member b (take n (drop i s)) ≡ false
-    → before b (drop i s) ≡ n + before b (drop (i + n) s)
-before-part b s i n h e =
-    let long : length (take n (drop i s)) ≡ n = simp (length-take, length-drop) (omega arith) in
-    let parts : take n (drop i s) ++ drop (i + n) s ≡ drop i s = ap (λ (r : List ℕ). take n (drop i s) ++ r) (sym (drop-drop n i s)) ∙ take-append-drop n (drop i s) in
-    sym (ap (before b) parts) ∙ before-past b (take n (drop i s)) (drop (i + n) s) e ∙ ap (λ (k : ℕ). k + before b (drop (i + n) s)) long
+none-among : (b : ℕ) (l : List ℕ) → length l ≤ before b l → member b l ≡ false
+unfolding before member
+none-among b [] h = refl
+none-among b (x ∷ l) h = go (bool (eqb x b)) (none-among b l)
+  where
+    go : (eqb x b ≡ true) ⊎ (eqb x b ≡ false) → (length l ≤ before b l → member b l ≡ false) → member b (x ∷ l) ≡ false
+    go (inl e) k = absurd (not-suc-le-zero (rw (before, e) at h))
+    go (inr e) k = rw (member, ne-eqb b x (λ q. eqb-false x b e (sym q))) (k (le-of-suc-le-suc (rw (before, e) at h)))
 
-pub goes-on-past : (s : List ℕ) (from i n : ℕ) → GoesOn s from i → i + n ≤ length s → member 10 (take n (drop i s)) ≡ false → GoesOn s from (i + n)
-goes-on-past s from i n g h e = (h, omega (arith, g .1, before-part 10 s i n h e))
+pub goes-on-from : {s : List ℕ} {from i j : ℕ} → GoesOn s from i → GoesOn s i j → GoesOn s from j
+goes-on-from a b = record { onward = omega (arith, a .onward, b .onward); within = b .within; same-end = a .same-end ∙ b .same-end }
+
+-- a search for byte 10 that has come to i, and the next n bytes
+module _ (s : List ℕ) (from i n : ℕ) (at-i : GoesOn s from i) (inside : i + n ≤ length s) where
+  all-n : length (take n (drop i s)) ≡ n
+  all-n = simp (length-take, length-drop) (omega arith)
+
+  parts : take n (drop i s) ++ drop (i + n) s ≡ drop i s
+  parts = ap (λ (r : List ℕ). take n (drop i s) ++ r) (sym (drop-drop n i s)) ∙ take-append-drop n (drop i s)
+
+  pub ends-here : (k : ℕ) → k ≡ before 10 (take n (drop i s)) → k < n → i + k ≡ from + before 10 (drop from s)
+  ends-here k e h =
+      let found = before-within 10 (take n (drop i s)) (drop (i + n) s) (omega (arith, e, all-n)) in
+      omega (arith, at-i .same-end, e, found, ap (before 10) parts)
+
+  pub goes-past : member 10 (take n (drop i s)) ≡ false → GoesOn s from (i + n)
+  goes-past e =
+      let past = before-past 10 (take n (drop i s)) (drop (i + n) s) e in
+      record { onward = omega (arith, at-i .onward); within = inside; same-end = omega (arith, at-i .same-end, past, all-n, ap (before 10) parts) }
+
+  pub past-none : (k : ℕ) → k ≡ before 10 (take n (drop i s)) → n ≤ k → GoesOn s from (i + n)
+  past-none k e h = goes-past (none-among 10 (take n (drop i s)) (omega (arith, e, all-n)))
 
 -- a field, and the rest where a comma ends it
 pub fields-more : (acc l : List ℕ) → before 44 l < length l → fields-from acc l ≡ (acc ++ take (before 44 l) l) ∷ fields-from [] (drop (suc (before 44 l)) l)

@@ -30,9 +30,16 @@ unfoldable pub low-bytes : ℕ → ℕ → List ℕ
 low-bytes zero w = []
 low-bytes (suc n) w = (w % 256) ∷ low-bytes n (w / 256)
 
--- a search begun at `from` may go on at i, and ends where it would have
-abbrev pub GoesOn : List ℕ → ℕ → ℕ → Type 0
-GoesOn s from i = (i ≤ length s) × (from + before newline (drop from s) ≡ i + before newline (drop i s))
+-- bytes as one number, the first lowest: 128 for each that is 10, 0 for every other
+unfoldable pub marks : List ℕ → ℕ
+marks [] = 0
+marks (b ∷ l) = marks l * 256 + (elim (eqb b newline) [ true ↦ 128 | false ↦ 0 ])
+
+-- a search for byte 10 begun at `from` may go on at i, and ends where it would have
+pub record GoesOn (s : List ℕ) (from i : ℕ) : Type 0 where
+  pub onward : from ≤ i
+  pub within : i ≤ length s
+  pub same-end : from + before newline (drop from s) ≡ i + before newline (drop i s)
 
 -- it has passed over bytes without a 10, as far as n at a time go: of the next n one is 10, or fewer are left
 pub record Passed (n : ℕ) (s : List ℕ) (from i : ℕ) : Type 0 where

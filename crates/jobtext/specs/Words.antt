@@ -1,20 +1,22 @@
 -- Laws of words of bytes: bytes put together are the word's low bytes, and a test of a whole word says whether one of its bytes is 10.
 -- Assumes nothing.
-use mathlib.Core.Bool.{Bool, true, false, not, _&&_, _||_, false≢true, Bool·not-not}
+use mathlib.Core.Bool.{Bool, true, false, not, _&&_, _||_, false≢true}
 use mathlib.Core.List.{List, [], _∷_, _++_}
 use mathlib.Core.Logic.{_⊎_, inl, inr}
 use mathlib.Core.Path.{_≡_, refl, sym, ap, ap₂, _∙_}
 use Prim.Native.Nat.{ℕ, zero, suc, _+_, _*_, _/_, _%_, _^_, _≤_, _<_}
-use native.Mathlib.Nat.{zero-add, suc-add, mul-assoc, pow-suc, mod-eq-of-lt}
+use native.Mathlib.Nat.{zero-add, suc-add, mul-one, mul-assoc, pow-suc, mod-eq-of-lt}
 use native.Mathlib.Numerals.{add-one}
 use native.Mathlib.Omega.{arith}
-use lib.Bits.{bitAnd, bitOr, bitXor, and-block, or-block, xor-block, and-le-l, and-le-r, or-lt, xor-lt, xor-self, xor-add-and, or-add-and, and-zero-r}
+use lib.Bits.{bitAnd, bitOr, bitXor, and-block, or-block, xor-block, and-le-l, and-le-r, and-lt, or-lt, xor-lt, or-add-and, and-zero-r, shifted-half, shifted-even}
+use lib.Count.{trailingZeros, under}
 use lib.Dec.{eqb}
 use lib.ListN.{length, take, drop, getD}
 use lib.Seq.{drop-cons, drop-drop, take-add}
 use borrow.Author.Tests.{eqb-true, eqb-false, eq-eqb, ne-eqb}
+use Rattle.rules.specs.Text.{newline}
 use Rattle.rules.specs.Model.{member}
-use Rattle.jobtext.specs.Text.{low-bytes}
+use Rattle.jobtext.specs.Text.{before, low-bytes, marks}
 use Rattle.jobtext.specs.Pieces.{bool}
 
 -- two numbers as one, the first below the second: the low bytes of both
@@ -51,43 +53,51 @@ unfoldable each : ℕ → ℕ → ℕ
 each zero b = 0
 each (suc n) b = each n b * 2 ^ 8 + b
 
--- what the test leaves of n bytes: the eighth bit of each that is not 10
-unfoldable left : ℕ → ℕ → ℕ
+-- the marks of n bytes as the code has them
+unfoldable marked : ℕ → ℕ → ℕ
 unfolding each
-left n w = let x : ℕ = bitXor w (each n 10) in bitAnd (bitOr (bitAnd x (each n 127) + each n 127) x) (each n 128)
+marked n w =
+    let x : ℕ = bitXor w (each n 10) in
+    let y : ℕ = bitAnd x (each n 127) + each n 127 in
+    bitXor (bitAnd (bitOr y x) (each n 128)) (each n 128)
 
 sum-blocks : (a b r s : ℕ) → (a * 2 ^ 8 + r) + (b * 2 ^ 8 + s) ≡ (a + b) * 2 ^ 8 + (r + s)
 sum-blocks a b r s = omega arith
 
--- it looks at each byte apart
-left-apart : (n w b : ℕ) → b < 256 → left (suc n) (w * 2 ^ 8 + b) ≡ left n w * 2 ^ 8 + left 1 b
-unfolding left each
-left-apart n w b h =
+-- each byte has its own
+marked-apart : (n w b : ℕ) → b < 256 → marked (suc n) (w * 2 ^ 8 + b) ≡ marked n w * 2 ^ 8 + marked 1 b
+unfolding marked each
+marked-apart n w b h =
     let x : ℕ = bitXor w (each n 10) in
-    let y : ℕ = bitXor b 10 in
-    let seven : ℕ = each n 127 in
-    let p : bitXor (w * 2 ^ 8 + b) (each n 10 * 2 ^ 8 + 10) ≡ x * 2 ^ 8 + y = xor-block 8 w (each n 10) b 10 h (omega arith) in
-    let small : y < 2 ^ 8 = xor-lt 8 b 10 h (omega arith) in
-    let q : bitAnd (x * 2 ^ 8 + y) (seven * 2 ^ 8 + 127) ≡ bitAnd x seven * 2 ^ 8 + bitAnd y 127 = and-block 8 x seven y 127 small (omega arith) in
-    let fits : bitAnd y 127 + 127 < 2 ^ 8 = omega (arith, and-le-r y 127) in
-    let r = or-block 8 (bitAnd x seven + seven) x (bitAnd y 127 + 127) y fits small in
-    let s = and-block 8 (bitOr (bitAnd x seven + seven) x) (each n 128) (bitOr (bitAnd y 127 + 127) y) 128 (or-lt 8 (bitAnd y 127 + 127) y fits small) (omega arith) in
-    ap (λ (z : ℕ). bitAnd (bitOr (bitAnd z (seven * 2 ^ 8 + 127) + (seven * 2 ^ 8 + 127)) z) (each n 128 * 2 ^ 8 + 128)) p
-    ∙ ap (λ (z : ℕ). bitAnd (bitOr (z + (seven * 2 ^ 8 + 127)) (x * 2 ^ 8 + y)) (each n 128 * 2 ^ 8 + 128)) q
-    ∙ ap (λ (z : ℕ). bitAnd (bitOr z (x * 2 ^ 8 + y)) (each n 128 * 2 ^ 8 + 128)) (sum-blocks (bitAnd x seven) seven (bitAnd y 127) 127)
-    ∙ ap (λ (z : ℕ). bitAnd z (each n 128 * 2 ^ 8 + 128)) r ∙ s
+    let x₀ : ℕ = bitXor b 10 in
+    let low : ℕ = each n 127 in
+    let y : ℕ = bitAnd x low + low in
+    let y₀ : ℕ = bitAnd x₀ 127 + 127 in
+    let top : ℕ = each n 128 in
+    let x-small : x₀ < 2 ^ 8 = xor-lt 8 b 10 h (omega arith) in
+    let y-small : y₀ < 2 ^ 8 = omega (arith, and-le-r x₀ 127) in
+    let o-small : bitOr y₀ x₀ < 2 ^ 8 = or-lt 8 y₀ x₀ y-small x-small in
+    let a-small : bitAnd (bitOr y₀ x₀) 128 < 2 ^ 8 = and-lt 8 (bitOr y₀ x₀) 128 o-small (omega arith) in
+    ap (λ (z : ℕ). bitXor (bitAnd (bitOr (bitAnd z (low * 2 ^ 8 + 127) + (low * 2 ^ 8 + 127)) z) (top * 2 ^ 8 + 128)) (top * 2 ^ 8 + 128))
+    (xor-block 8 w (each n 10) b 10 h (omega arith))
+    ∙ ap (λ (z : ℕ). bitXor (bitAnd (bitOr (z + (low * 2 ^ 8 + 127)) (x * 2 ^ 8 + x₀)) (top * 2 ^ 8 + 128)) (top * 2 ^ 8 + 128))
+    (and-block 8 x low x₀ 127 x-small (omega arith))
+    ∙ ap (λ (z : ℕ). bitXor (bitAnd (bitOr z (x * 2 ^ 8 + x₀)) (top * 2 ^ 8 + 128)) (top * 2 ^ 8 + 128)) (sum-blocks (bitAnd x low) low (bitAnd x₀ 127) 127)
+    ∙ ap (λ (z : ℕ). bitXor (bitAnd z (top * 2 ^ 8 + 128)) (top * 2 ^ 8 + 128)) (or-block 8 y x y₀ x₀ y-small x-small)
+    ∙ ap (λ (z : ℕ). bitXor z (top * 2 ^ 8 + 128)) (and-block 8 (bitOr y x) top (bitOr y₀ x₀) 128 o-small (omega arith))
+    ∙ xor-block 8 (bitAnd (bitOr y x) top) top (bitAnd (bitOr y₀ x₀) 128) 128 a-small (omega arith)
 
--- one byte, by a table of all 256
+-- a byte's, by a table of all 256
 unfoldable byte-right : ℕ → Bool
-unfolding left
-byte-right b = eqb (left 1 b) (elim (eqb 10 b) [ true ↦ 0 | false ↦ 128 ])
+unfolding marked marks
+byte-right b = eqb (marked 1 b) (marks (b ∷ []))
 
 unfoldable all-right : ℕ → Bool
 all-right zero = true
 all-right (suc n) = byte-right n && all-right n
 
 table : all-right 256 ≡ true
-unfolding all-right byte-right left each
+unfolding all-right byte-right marked marks each
 table = refl
 
 right-below : (n b : ℕ) → all-right n ≡ true → b < n → byte-right b ≡ true
@@ -101,57 +111,43 @@ right-below (suc n) b e h = go (bool (byte-right n)) (bool (eqb b n)) (right-bel
     go (inl f) (inl g) below = rw (eqb-true b n g) f
     go (inl f) (inr g) below = below (rw f at e) (omega (arith, eqb-false b n g))
 
-byte-left : (b : ℕ) → b < 256 → left 1 b ≡ elim (eqb 10 b) [ true ↦ 0 | false ↦ 128 ]
+byte-marked : (b : ℕ) → b < 256 → marked 1 b ≡ marks (b ∷ [])
 unfolding byte-right
-byte-left b h = eqb-true (left 1 b) (elim (eqb 10 b) [ true ↦ 0 | false ↦ 128 ]) (right-below 256 b table h)
+byte-marked b h = eqb-true (marked 1 b) (marks (b ∷ [])) (right-below 256 b table h)
 
-same-blocks : (a b r : ℕ) → eqb (a * 2 ^ 8 + r) (b * 2 ^ 8 + r) ≡ eqb a b
-same-blocks a b r = go (bool (eqb a b))
+marked-is : (n w : ℕ) → marked n w ≡ marks (low-bytes n w)
+unfolding marked each low-bytes marks
+marked-is zero w = ap (λ (x : ℕ). bitXor x 0) (and-zero-r (bitOr (bitAnd (bitXor w 0) 0 + 0) (bitXor w 0)))
+marked-is (suc n) w =
+    let whole : w ≡ (w / 256) * 2 ^ 8 + w % 256 = omega arith in
+    let one : marked 1 (w % 256) ≡ 0 * 256 + (elim (eqb (w % 256) newline) [ true ↦ 128 | false ↦ 0 ]) = byte-marked (w % 256) (omega arith) in
+    ap (marked (suc n)) whole ∙ marked-apart n (w / 256) (w % 256) (omega arith) ∙ rw (marked-is n (w / 256)) (omega (arith, one))
+
+-- in the code's own numbers
+pub word-marked : (w : ℕ) → let x : ℕ = bitXor w 0x0a0a0a0a0a0a0a0a in
+    let y : ℕ = bitAnd x 0x7f7f7f7f7f7f7f7f + 0x7f7f7f7f7f7f7f7f in
+    bitXor (bitAnd (bitOr y x) 0x8080808080808080) 0x8080808080808080 ≡ marks (low-bytes 8 w)
+unfolding marked each
+word-marked w = marked-is 8 w
+
+same-zero : (a : ℕ) → eqb (a * 256 + 0) 0 ≡ eqb a 0
+same-zero a = go (bool (eqb a 0))
   where
-    go : (eqb a b ≡ true) ⊎ (eqb a b ≡ false) → eqb (a * 2 ^ 8 + r) (b * 2 ^ 8 + r) ≡ eqb a b
-    go (inl e) = rw e (eq-eqb (a * 2 ^ 8 + r) (b * 2 ^ 8 + r) (ap (λ (x : ℕ). x * 2 ^ 8 + r) (eqb-true a b e)))
-    go (inr e) = rw e (ne-eqb (a * 2 ^ 8 + r) (b * 2 ^ 8 + r) (λ q. eqb-false a b e (omega (arith, q))))
+    go : (eqb a 0 ≡ true) ⊎ (eqb a 0 ≡ false) → eqb (a * 256 + 0) 0 ≡ eqb a 0
+    go (inl e) = rw e (eq-eqb (a * 256 + 0) 0 (omega (arith, eqb-true a 0 e)))
+    go (inr e) = rw e (ne-eqb (a * 256 + 0) 0 (λ q. eqb-false a 0 e (omega (arith, q))))
 
--- every eighth bit is left exactly where no byte is 10
-tested : (n w : ℕ) → eqb (left n w) (each n 128) ≡ not (member 10 (low-bytes n w))
-unfolding left each low-bytes member
-tested zero w = ap (λ (x : ℕ). eqb x 0) (and-zero-r (bitOr (bitAnd (bitXor w 0) 0 + 0) (bitXor w 0)))
-tested (suc n) w = go (bool (eqb 10 b)) (tested n (w / 256))
+-- marks are 0 where no byte is 10
+zero-unmarked : (l : List ℕ) → eqb (marks l) 0 ≡ not (member 10 l)
+unfolding marks member
+zero-unmarked [] = refl
+zero-unmarked (b ∷ l) = go (bool (eqb b 10)) (zero-unmarked l)
   where
-    b : ℕ
-    b = w % 256
+    go : (eqb b 10 ≡ true) ⊎ (eqb b 10 ≡ false) → eqb (marks l) 0 ≡ not (member 10 l) → eqb (marks (b ∷ l)) 0 ≡ not (eqb 10 b || member 10 l)
+    go (inl e) r = rw (marks, e, eq-eqb 10 b (sym (eqb-true b 10 e))) (ne-eqb (marks l * 256 + 128) 0 (λ q. omega (arith, q)))
+    go (inr e) r = rw (marks, e, ne-eqb 10 b (λ q. eqb-false b 10 e (sym q))) (same-zero (marks l) ∙ r)
 
-    whole : w ≡ (w / 256) * 2 ^ 8 + b
-    whole = omega arith
-
-    small : b < 256
-    small = omega arith
-
-    apart : left (suc n) w ≡ left n (w / 256) * 2 ^ 8 + left 1 b
-    apart = ap (left (suc n)) whole ∙ left-apart n (w / 256) b small
-
-    go : (eqb 10 b ≡ true) ⊎ (eqb 10 b ≡ false) → eqb (left n (w / 256)) (each n 128) ≡ not (member 10 (low-bytes n (w / 256)))
-        → eqb (left (suc n) w) (each n 128 * 2 ^ 8 + 128) ≡ not (eqb 10 b || member 10 (low-bytes n (w / 256)))
-    go (inl e) r = rw e (ne-eqb (left (suc n) w) (each n 128 * 2 ^ 8 + 128) (λ q. omega (arith, q, apart, rw e at (byte-left b small))))
-    go (inr e) r = rw (apart, byte-left b small, e) (same-blocks (left n (w / 256)) (each n 128) 128 ∙ r)
-
-zero-where-same : (a b : ℕ) → eqb (bitXor a b) 0 ≡ eqb a b
-zero-where-same a b = go (bool (eqb a b))
-  where
-    go : (eqb a b ≡ true) ⊎ (eqb a b ≡ false) → eqb (bitXor a b) 0 ≡ eqb a b
-    go (inl e) = rw e (eq-eqb (bitXor a b) 0 (ap (λ (x : ℕ). bitXor x b) (eqb-true a b e) ∙ xor-self b))
-    go (inr e) = rw e (ne-eqb (bitXor a b) 0 (λ q. eqb-false a b e (omega (arith, q, xor-add-and a b, and-le-l a b, and-le-r a b))))
-
--- the test of a word in the code's own numbers
-pub word-tested : (w : ℕ) → let x : ℕ = bitXor w 0x0a0a0a0a0a0a0a0a in
-    eqb (bitXor (bitAnd (bitOr (bitAnd x 0x7f7f7f7f7f7f7f7f + 0x7f7f7f7f7f7f7f7f) x) 0x8080808080808080) 0x8080808080808080) 0 ≡ not (member 10 (low-bytes 8 w))
-unfolding left each
-word-tested w = zero-where-same (left 8 w) (each 8 128) ∙ tested 8 w
-
-pub word-says : (r : ℕ) (l : List ℕ) → eqb r 0 ≡ not (member 10 l) → not (eqb r 0) ≡ member 10 l
-word-says r l e = ap not e ∙ Bool·not-not (member 10 l)
-
--- two tests as one
+-- two words' marks as one
 zero-where-both : (a b : ℕ) → eqb (bitOr a b) 0 ≡ (eqb a 0 && eqb b 0)
 zero-where-both a b = go (bool (eqb a 0)) (bool (eqb b 0))
   where
@@ -172,10 +168,42 @@ member-append x (y ∷ l) m = ap (λ (t : Bool). eqb x y || t) (member-append x 
     or-assoc true b c = refl
     or-assoc false b c = refl
 
-pub words-say : (q r : ℕ) (l m : List ℕ) → eqb q 0 ≡ not (member 10 l) → eqb r 0 ≡ not (member 10 m) → not (eqb (bitOr q r) 0) ≡ member 10 (l ++ m)
-words-say q r l m e f = rw (zero-where-both q r, e, f, member-append 10 l m) (either (member 10 l) (member 10 m))
+pub either-marked : (q r : ℕ) (l m : List ℕ) → q ≡ marks l → r ≡ marks m → not (eqb (bitOr q r) 0) ≡ member 10 (l ++ m)
+either-marked q r l m e f = rw (e, f, zero-where-both (marks l) (marks m), zero-unmarked l, zero-unmarked m, member-append 10 l m) (either (member 10 l) (member 10 m))
   where
     either : (a b : Bool) → not (not a && not b) ≡ (a || b)
     either true b = refl
     either false true = refl
     either false false = refl
+
+-- the lowest mark stands at the first 10
+shifted-zeros : (k d q : ℕ) → trailingZeros (k + d) (q * 2 ^ k) ≡ k + trailingZeros d q
+unfolding trailingZeros
+shifted-zeros zero d q = rw (zero-add d, mul-one q, zero-add (trailingZeros d q))
+shifted-zeros (suc k) d q =
+    let r = shifted-zeros k d q in
+    rw (suc-add k d, trailingZeros, shifted-even q k, shifted-half q k, r, suc-add k (trailingZeros d q))
+
+first-marked : (l : List ℕ) → trailingZeros (length l * 8) (marks l) / 8 ≡ before 10 l
+unfolding marks before trailingZeros
+first-marked [] = refl
+first-marked (b ∷ l) = go (bool (eqb b 10)) (first-marked l)
+  where
+    n : ℕ
+    n = length l * 8
+
+    go : (eqb b 10 ≡ true) ⊎ (eqb b 10 ≡ false) → trailingZeros n (marks l) / 8 ≡ before 10 l → trailingZeros (length (b ∷ l) * 8) (marks (b ∷ l)) / 8 ≡ before 10 (b ∷ l)
+    go (inl e) r =
+        let digits : suc (length l) * 8 ≡ 7 + suc n = omega arith in
+        let odd : marks l * 256 + 128 ≡ (marks l * 2 + 1) * 2 ^ 7 = omega arith in
+        let low : (marks l * 2 + 1) % 2 ≡ 1 = omega arith in
+        rw (marks, before, e, digits, odd, shifted-zeros 7 (suc n) (marks l * 2 + 1), trailingZeros, low)
+    go (inr e) r =
+        let digits : suc (length l) * 8 ≡ 8 + n = omega arith in
+        let even : marks l * 256 + 0 ≡ marks l * 2 ^ 8 = omega arith in
+        let next : (8 + trailingZeros n (marks l)) / 8 ≡ suc (trailingZeros n (marks l) / 8) = omega arith in
+        rw (marks, before, e, digits, even, shifted-zeros 8 n (marks l), next, r)
+
+pub word-first : (w : ℕ) → trailingZeros 64 (marks (low-bytes 8 w)) / 8 ≡ before 10 (low-bytes 8 w)
+unfolding low-bytes
+word-first w = first-marked (low-bytes 8 w)

@@ -1,13 +1,11 @@
 // The text of a job below its lines: the first byte of a kind, the end of a line, a number, a list of numbers.
-ghost use mathlib.Core.Bool.{not};
 ghost use mathlib.Core.List.{[], _∷_, _++_};
 ghost use mathlib.Core.Path.{_≡_};
 ghost use Prim.Native.Nat.{_+_, _*_, _≤_, _<_};
-ghost use lib.Dec.{eqb};
 ghost use lib.ListN.{length, take, drop};
 ghost use Rattle.rules.specs.Model.{member};
 ghost use Rattle.rules.specs.Job.{digits-from, in-64-bits, number as Job·number, list};
-ghost use Rattle.jobtext.specs.Text.{before, line-end, low-bytes, Passed, value-of, ListRead};
+ghost use Rattle.jobtext.specs.Text.{before, line-end, low-bytes, marks, Passed, value-of, ListRead};
 
 // The place of the first byte `b` at or after `from`, or the length where there is none.
 pub fn find(s: &[u8], from: usize, b: u8) -> usize
@@ -64,24 +62,25 @@ const LOW_SEVEN: u64 = 0x7f7f7f7f7f7f7f7f;
 
 const EIGHTH: u64 = 0x8080808080808080;
 
-// The eighth bit of each byte of a word that is 10, so 0 exactly where none is. A byte that differs from 10, in its low seven bits or in
-// its eighth, has its eighth bit set before the last step; no sum carries from a byte into the next.
+// The eighth bit of each byte of a word that is 10, and no other bit. A byte that differs from 10, in its low seven bits or in its eighth,
+// has its eighth bit set before the last step, and no sum carries from a byte into the next.
 fn newlines(w: u64) -> u64
-    ensures { λ r. ⌜ eqb r 0 ≡ not (member 10 (low-bytes 8 w)) ⌝ }
+    ensures { λ r. ⌜ r ≡ marks (low-bytes 8 w) ⌝ }
 {
     let x = w ^ NEWLINES;
     let y = (x & LOW_SEVEN) + LOW_SEVEN;
     ((y | x) & EIGHTH) ^ EIGHTH
 }
 
-// Whether one of a word's eight bytes is 10.
-fn has_newline(w: u64) -> bool
-    ensures { λ r. ⌜ r ≡ member 10 (low-bytes 8 w) ⌝ }
+// How many of a word's bytes stand before its first 10: 8 where none is 10.
+fn newline_in(w: u64) -> usize
+    ensures { λ r. ⌜ r ≡ before 10 (low-bytes 8 w) ⌝ }
 {
-    newlines(w) != 0
+    let m = newlines(w);
+    (u64::trailing_zeros(m) / 8) as usize
 }
 
-// Whether one of two words' bytes is, by one test.
+// Whether one of two words' bytes is 10, by one test.
 fn either_has_newline(v: u64, w: u64) -> bool
     ensures { λ r. ⌜ r ≡ member 10 (low-bytes 8 v ++ low-bytes 8 w) ⌝ }
 {
@@ -105,31 +104,22 @@ fn pass_pairs(s: &[u8], from: usize) -> usize
     i
 }
 
-// The same by single words.
-fn pass_words(s: &[u8], from: usize) -> usize
-    requires { ⌜ from ≤ length (now s) ⌝ }
-    ensures { λ r. ⌜ Passed 8 (now (s .entry)) from r ⌝ }
-{
-    let mut i = from;
-    while 8 <= s.len() - i {
-        let w = word_at(s, i);
-        if has_newline(w) {
-            return i;
-        }
-        i += 8;
-    }
-    i
-}
-
-// The place of the first byte 10 at or after `from`, or the length where there is none: by words, up to one that has it or to the odd
-// bytes at the end, and then byte by byte.
+// The place of the first byte 10 at or after `from`, or the length where there is none. A line is mostly short, so a single word comes
+// first; then two at a time, up to a pair that has a 10; the odd bytes at the end come singly.
 pub fn line_end(s: &[u8], from: usize) -> usize
     requires { ⌜ from ≤ length (now s) ⌝ }
     ensures { λ r. ⌜ r ≡ from + before 10 (drop from (now (s .entry))) ⌝ }
 {
-    let i = pass_pairs(s, from);
-    let j = pass_words(s, i);
-    find(s, j, b'\n')
+    let mut i = from;
+    while 8 <= s.len() - i {
+        let w = word_at(s, i);
+        let k = newline_in(w);
+        if k < 8 {
+            return i + k;
+        }
+        i = pass_pairs(s, i + 8);
+    }
+    find(s, i, b'\n')
 }
 
 // The same from any start: the length where it lies past the bytes.

@@ -5,7 +5,7 @@ use mathlib.Core.Path.{_≡_, sym, ap, _∙_}
 use lib.ListN.{length, take, drop}
 use Rattle.rules.specs.Model.{member}
 use Rattle.jobtext.specs.Text.{low-bytes, GoesOn}
-use Rattle.jobtext.specs.Pieces.{goes-on-past}
+use Rattle.jobtext.specs.Pieces.{goes-past}
 use Rattle.jobtext.specs.Words.{beside}
 use borrow.Author.Needs.{needs}
 use native.Mathlib.Omega.{arith}
@@ -70,13 +70,13 @@ loop-again c =
     let tested = c .before in
     let at-loop = to-loop tested in
     let start = at-loop .before .before in
-    goes-on-past (start .args .s .now) (start .args .from) (at-loop .loop .i) 16 (at-loop .loop .inv)
-    (omega (arith, at-loop .loop .inv .0, to-first tested .before .loop-test .taken)) (sym (says tested) ∙ c .if1 .left)
+    goes-past (start .args .s .now) (start .args .from) (at-loop .loop .i) 16 (at-loop .loop .inv)
+    (omega (arith, at-loop .loop .inv .within, to-first tested .before .loop-test .taken)) (sym (says tested) ∙ c .if1 .left)
 
 returns-2 : tie.Need-returns-2 Inv-loop μ-loop
 returns-2 c =
     let at-loop = c .before in
-    record { goes-on = at-loop .loop .inv; no-further = inr (omega (arith, at-loop .loop .inv .0, c .loop-test .left)) }
+    record { goes-on = at-loop .loop .inv; no-further = inr (omega (arith, at-loop .loop .inv .within, c .loop-test .left)) }
 
 pub pass-pairs-spec : {M : Type 1} → statement M
 pass-pairs-spec =
