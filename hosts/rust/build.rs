@@ -9,9 +9,10 @@ use std::path::{Path, PathBuf};
 use std::process::{exit, Command, Output};
 
 /// Each crate with exported calls. An archive's only global names are these, so that all go into one program.
-const CRATES: [&str; 6] = [
+const CRATES: [&str; 7] = [
     "host",
     "jobneeds",
+    "jobtext",
     "replay",
     "alone_replay",
     "order_entries",

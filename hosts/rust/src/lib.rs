@@ -11,6 +11,7 @@
 //! | [`held`] | `replay_held` | the same, and how many entries the window holds then |
 //! | [`job`] | `order_job` | a job's text, of at most 65,536 bytes, to its listing |
 //! | [`needs`] | `job_needs` | what such a job needs, without running it |
+//! | [`mod@line_end`] | `job_line_end` | where a line of a job ends |
 //! | [`summary`] | `order_summary` | average, median and counts of a tally |
 //! | [`guide`] | `guide_replay` | requests to the guide alone |
 //! | [`entries`] | `order_append_new` | the order as a slice of structs |
@@ -77,6 +78,7 @@ pub mod guide;
 pub mod job;
 pub mod large;
 pub mod layout;
+pub mod line_end;
 pub mod needs;
 pub mod refusal;
 pub mod replay;
@@ -85,6 +87,7 @@ mod sys;
 
 pub use calls::{Call, Calls};
 pub use layout::{limits, Entry, Location, Row};
+pub use line_end::line_end;
 pub use needs::Needs;
 pub use refusal::Refusal;
 pub use replay::{held, replay, Replayed, Storage, StorageError};

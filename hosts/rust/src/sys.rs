@@ -8,6 +8,8 @@ extern "C" {
 
     fn job_needs(job: *const u8, job_length: usize, needs: *mut [u64; 4]) -> u64;
 
+    fn job_line_end(job: *const u8, job_length: usize, from: usize) -> usize;
+
     fn guide_replay(
         p: u64,
         v: u64,
@@ -86,6 +88,11 @@ pub fn job(job: &[u8], listing: &mut [u8]) -> u64 {
 /// Fills `needs` with what a job needs: 0, or for a refusal 64 times the line plus its number.
 pub fn needs(job: &[u8], needs: &mut [u64; 4]) -> u64 {
     unsafe { job_needs(job.as_ptr(), job.len(), needs) }
+}
+
+/// The place of the first byte 10 at or after `from`, or the job's length.
+pub fn line_end(job: &[u8], from: usize) -> usize {
+    unsafe { job_line_end(job.as_ptr(), job.len(), from) }
 }
 
 /// What a session works on.
