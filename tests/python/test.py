@@ -1,4 +1,5 @@
-"""Host code, not proved: the Python module against the proved libraries: J1, lists of calls beside jobs, refusals, bad arguments."""
+"""Host code, not proved: the Python module against the proved libraries: J1, lists of calls beside jobs, line ends,
+refusals, bad arguments."""
 import os
 import random
 import shutil
@@ -143,6 +144,55 @@ class Needs(unittest.TestCase):
     def test_bad_arguments(self):
         for bad in (5, None, [1, 2], memoryview(b"x")):
             self.assertRaisesRegex(TypeError, "a job is text or bytes", order.job_needs, bad)
+
+
+def ends_of(job):
+    """The ends of a job's lines, one after another; no more than it has bytes, so that wrong answers come to an end too."""
+    ends, end = [], order.line_end(job)
+    while end is not None and len(ends) <= len(job):
+        ends.append(end)
+        end = order.line_end(job, end + 1)
+    return ends
+
+
+class LineEnds(unittest.TestCase):
+    def test_j1(self):
+        text = read("crates", "order", "stdin")
+        for job in (text, text.encode(), bytearray(text.encode())):
+            self.assertEqual(ends_of(job), [13, 22, 28, 33, 39, 44, 50, 55, 61, 65, 71, 79])
+
+    def test_random(self):
+        """Beside Python's own search, from every start and past the bytes: texts of byte 10, its neighbours and some others."""
+        source = random.Random(1)
+        found = 0
+        for length in range(60):
+            job = bytes(source.choice(b"\n\t\v0\x8a\xff") for _ in range(length))
+            for start in [*range(length + 3), 2**63, 2**64 - 1]:
+                place = job.find(b"\n", start)
+                self.assertEqual(order.line_end(job, start), place if place >= 0 else None, (job, start))
+                found += place >= 0
+        self.assertGreater(found, 1000)
+
+    def test_start_past_64_bits(self):
+        """Their lower 64 bits are 0 and 4, where a line end would be found."""
+        for start in (2**64, 2**64 + 4, 2**200):
+            self.assertIsNone(order.line_end(b"in=\nout=\n", start))
+
+    def test_text(self):
+        """Places of a text are those of its bytes in UTF-8; the bytes of no other character are 10."""
+        self.assertEqual(ends_of("\u00e9\u010a\u0a0a\n\u0a0a\n"), [7, 11])
+        self.assertEqual(order.line_end(b"\0\n"), 1)
+
+    def test_none(self):
+        for job in ("", b"", "final=1", b"\r\0\x0b"):
+            self.assertIsNone(order.line_end(job))
+        self.assertEqual(ends_of("set=0\nfinal=1"), [5])
+
+    def test_bad_arguments(self):
+        for bad in (5, None, [10], memoryview(b"\n")):
+            self.assertRaisesRegex(TypeError, "a job is text or bytes", order.line_end, bad)
+        for bad in (-1, -(2**64), 1.5, "1", None):
+            self.assertRaisesRegex(ValueError, "is no place in a job", order.line_end, b"\n", bad)
 
 
 class Lists(unittest.TestCase):

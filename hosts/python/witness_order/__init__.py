@@ -1,9 +1,9 @@
 """Host code, not proved: execution orders of circuits, by the proved libraries.
 
-    from witness_order import Calls, held, job_needs, replay, run_job
+    from witness_order import Calls, held, job_needs, line_end, replay, run_job
 
     job = "parallelism=2\nplaces=2\nin=\nout=0\nin=0\nout=1\nfinal=1\n"
-    print(job_needs(job).pool)
+    print(job_needs(job).pool, line_end(job))
     for entry in run_job(job).entries:
         print(entry.added, entry.parallelism)
 
@@ -24,9 +24,10 @@ from .libraries import LibraryMissing
 from .refusals import Refusal
 from .calls import Calls, Rejected, Replayed, held, replay
 from .job import Listed, Listing, run_job
+from .lines import line_end
 from .needs import Needs, job_needs
 
 __all__ = [
     "Calls", "Entry", "Figures", "LibraryMissing", "Listed", "Listing", "Needs", "Refusal", "Rejected", "Replayed", "Row", "held",
-    "job_needs", "replay", "run_job",
+    "job_needs", "line_end", "replay", "run_job",
 ]

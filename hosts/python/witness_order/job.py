@@ -31,11 +31,16 @@ class Listing:
         return self.text
 
 
-def bytes_of(job):
-    """A job, which is text or bytes, as an array."""
+def encoded(job):
+    """A job, which is text or bytes, as bytes."""
     if not isinstance(job, (str, bytes, bytearray)):
         raise TypeError(f"a job is text or bytes, and not {type(job).__name__}")
-    data = job.encode() if isinstance(job, str) else bytes(job)
+    return job.encode() if isinstance(job, str) else bytes(job)
+
+
+def bytes_of(job):
+    """A job, which is text or bytes, as an array."""
+    data = encoded(job)
     return (ctypes.c_uint8 * len(data)).from_buffer_copy(data) if data else (ctypes.c_uint8 * 0)()
 
 

@@ -26,6 +26,7 @@ REPLAY = slices(U32, U32, U32, U32, U16, U64, U64, U32, U64, U64) + [U64, U64]
 ARGUMENTS = {
     "order_job": slices(U8, U8),
     "job_needs": slices(U8) + [ctypes.POINTER(U64)],
+    "job_line_end": slices(U8) + [ctypes.c_size_t],
     "replay_calls": REPLAY,
     "replay_held": REPLAY,
     "order_summary": slices(U32, U32),
