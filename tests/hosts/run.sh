@@ -108,6 +108,20 @@ for compiler in 'gcc -std=c99' 'g++ -std=c++11 -x c++' 'clang -std=c99' 'clang++
 done
 archives=$(printf 'target/staticlib/lib%s.a ' $(grep -l 'pub extern "C" fn' crates/*/src/lib.rt | cut -d/ -f2))
 printf '%s\n' registrations=4 pool=7 flushes=0 most_spans=40 >"$work/j1.needs"
+cat >"$work/j1.lines" <<'TEXT'
+line=1 start=0 end=13
+line=2 start=14 end=22
+line=3 start=23 end=28
+line=4 start=29 end=33
+line=5 start=34 end=39
+line=6 start=40 end=44
+line=7 start=45 end=50
+line=8 start=51 end=55
+line=9 start=56 end=61
+line=10 start=62 end=65
+line=11 start=66 end=71
+line=12 start=72 end=79
+TEXT
 headers=0
 for compiler in "${compilers[@]}"; do
   strict="$compiler -Wall -Wextra -pedantic -Werror -O2"
@@ -133,6 +147,8 @@ for compiler in "${compilers[@]}"; do
   "$work/storage" || fail "storage by $compiler"
   diff "$work/j1.needs" <("$work/needs_example" <crates/order/stdin) || fail "needs_example by $compiler"
   diff "$work/j1.needs" <("$work/needs_example" crates/order/stdin) || fail "needs_example with a file by $compiler"
+  diff "$work/j1.lines" <("$work/line_end_example" <crates/order/stdin) || fail "line_end_example by $compiler"
+  diff "$work/j1.lines" <("$work/line_end_example" crates/order/stdin) || fail "line_end_example with a file by $compiler"
   diff - <("$work/guide_example") <<'TEXT' || fail "guide_example by $compiler"
 request 0: span 1, position 0
 request 1: span 2, position 0
@@ -159,10 +175,23 @@ TEXT
   refuses 2 "the job cannot be read" "$work/needs_example" docs
   refuses 2 "and nothing else" "$work/needs_example" crates/order/stdin crates/order/stdin
   refuses 2 "the answer cannot be written" bash -c "'$work/needs_example' crates/order/stdin >/dev/full"
+  diff /dev/null <("$work/line_end_example" </dev/null) || fail "line_end_example on no bytes"
+  refuses 1 "" "$work/line_end_example" <(printf 'set=0\nfinal=1')
+  diff - "$work/out" <<'TEXT' || fail "line_end_example where the last byte 10 is missing"
+line=1 start=0 end=5
+no line from byte 6 on: byte 10 is missing, and a job that ends so is refused
+TEXT
+  refuses 1 "" "$work/line_end_example" <(head -c 65536 /dev/zero)
+  grep -q '^no line from byte 0 on' "$work/out" || fail "line_end_example on 65,536 bytes without a line end"
+  refuses 1 "a job has at most 65536 bytes" "$work/line_end_example" <(head -c 65537 /dev/zero)
+  refuses 2 "the job cannot be read" "$work/line_end_example" "$work/nothing"
+  refuses 2 "the job cannot be read" "$work/line_end_example" docs
+  refuses 2 "and nothing else" "$work/line_end_example" crates/order/stdin crates/order/stdin
+  refuses 2 "the answer cannot be written" bash -c "'$work/line_end_example' crates/order/stdin >/dev/full"
 done
 gcc -g -fsanitize=address,undefined -fno-sanitize-recover -Ihosts tests/hosts/storage.c $archives -o "$work/storage"
 "$work/storage" || fail "storage with the sanitizers"
-echo "hosts: $headers headers, five examples and replay_storage's test by: ${compilers[*]%% *}; and with sanitizers"
+echo "hosts: $headers headers, six examples and replay_storage's test by: ${compilers[*]%% *}; and with sanitizers"
 
 # A host with nothing but pkg-config from the installation, in a folder of its own: shared, static and C++.
 elsewhere=$(mktemp -d)
@@ -170,12 +199,13 @@ trap 'rm -rf "$elsewhere"' EXIT
 outside() (
   set -e
   trap 'echo "$0: line $LINENO ended with $?: $BASH_COMMAND" >&2' ERR
-  listing=$PWD/crates/order/stdout job=$PWD/crates/order/stdin needs=$work/j1.needs prints=$PWD/tests/prints.sh
+  listing=$PWD/crates/order/stdout job=$PWD/crates/order/stdin prints=$PWD/tests/prints.sh
+  needs=$work/j1.needs lines=$work/j1.lines
   export PKG_CONFIG_PATH=$prefix/lib/pkgconfig LD_LIBRARY_PATH=$prefix/lib
   cp "$prefix"/share/order/examples/*.c "$elsewhere"
   cd "$elsewhere"
   [ "$(pkg-config --modversion order)" = "$(cat "$prefix/share/order/VERSION")" ]
-  for example in order needs replay storage guide; do
+  for example in order needs line_end replay storage guide; do
     source=${example}_example.c
     gcc -std=c99 $(pkg-config --cflags order) $source $(pkg-config --libs order) -o $example-shared
     gcc -static $(pkg-config --cflags order) $source $(pkg-config --static --libs order) -o $example-static
@@ -184,6 +214,7 @@ outside() (
   done
   for program in order-*; do $(realpath $program) <"$job" | diff - "$listing"; done
   for program in needs-*; do $(realpath $program) <"$job" | diff - "$needs"; done
+  for program in line_end-*; do $(realpath $program) <"$job" | diff - "$lines"; done
   for program in replay-* storage-*; do
     $(realpath $program) | grep ^order= | diff - <(grep ^order= "$listing")
   done
@@ -202,7 +233,7 @@ if command -v pkg-config >/dev/null; then
   ended=$?
   set -e
   [ $ended -eq 0 ] || fail "a host built from the installation"
-  echo "hosts: five C programs built with pkg-config alone, shared, static and as C++; the prefix may be moved"
+  echo "hosts: six C programs built with pkg-config alone, shared, static and as C++; the prefix may be moved"
 else
   echo "hosts: no pkg-config: NOTHING is built from the installation"
 fi
@@ -343,12 +374,13 @@ for job in "${jobs[@]}"; do
 done
 echo "hosts: ${#jobs[@]} refusals in words, the same by order-job and order-large"
 # The module for Python, as installed: J1 by the installed library.
-diff <(cat crates/order/stdout && echo "4 7 0 40 $prefix/lib/liborder.so") <(
+diff <(cat crates/order/stdout && echo "4 7 0 40 13 $prefix/lib/liborder.so") <(
   env -u ORDER_LIBS PYTHONDONTWRITEBYTECODE=1 PYTHONPATH="$prefix/share/order/python" python3 -c '
 import sys, witness_order, witness_order.libraries
 job = sys.stdin.read()
 print(witness_order.run_job(job), end="")
-print(*witness_order.job_needs(job), witness_order.libraries.path())' <crates/order/stdin) || fail "the module for Python as installed"
+print(*witness_order.job_needs(job), witness_order.line_end(job), witness_order.libraries.path())' <crates/order/stdin) ||
+  fail "the module for Python as installed"
 echo "hosts: the module for Python as installed: J1"
 echo "hosts: order-job: listings as the program prints them, refusals and failures in words with their status"
 
