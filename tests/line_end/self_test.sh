@@ -11,8 +11,8 @@ mkdir -p $work/stand-in
 gcc -std=c99 -Wall -Wextra -pedantic -Werror -O2 -shared -fPIC -Ihosts tests/line_end/stand_in.c -o $stand_in
 LINE_END_LIBRARY=$stand_in tests/line_end/run.sh
 
-# Other ways that are right: words that overlap, and a carry that leaves the word.
-for way in step-of-seven low-ff-7; do
+# Other ways that are right: two words at a time, words that overlap, and a carry that leaves the word.
+for way in two-words step-of-seven low-ff-7; do
   STAND_IN_FAULT=$way $work/line_end texts 1 1 >$work/fault.out 2>&1 ||
     { cat $work/fault.out >&2; fail "$way: it is right, and a difference is found"; }
 done
@@ -30,7 +30,8 @@ noticed() {
 }
 
 faults=0
-for fault in step-of-{nine,sixteen} eleven-{in-a-word,among-odd-bytes} high-bit-ignored nothing-added \
+for fault in {first,second}-of-two-left-out both-of-two-needed step-of-{nine,sixteen} \
+  eleven-{in-a-word,among-odd-bytes} high-bit-ignored nothing-added \
   {odd-bytes,last-word,first-byte,last-byte}-left-out reads-{one-past-the-end,one-before-the-text,a-whole-last-word} \
   past-the-end-{itself,from-0} far-start-{wraps,signed} start-of-32-bits count-of-16-bits stops-after-{4096,a-megabyte} \
   none-is-{length-less-1,greatest,start} start-{rounded-down,rounded-up,to-an-aligned-address} {second,last}-of-a-word \

@@ -12,22 +12,23 @@ enum { WORD = 8 };
 
 /* The faults by name; those of the masks are named after a mask, the byte that it gets, and which one of the word. */
 enum fault {
-    NO_FAULT, STEP_OF_SEVEN, STEP_OF_NINE, STEP_OF_SIXTEEN, ELEVEN_IN_A_WORD, ELEVEN_AMONG_ODD, HIGH_BIT_IGNORED,
-    NOT_ADDED, ODD_BYTES_LEFT_OUT, LAST_WORD_LEFT_OUT, FIRST_BYTE_LEFT_OUT, LAST_BYTE_LEFT_OUT, READS_ONE_PAST,
-    READS_ONE_BEFORE, READS_A_WHOLE_LAST_WORD, READS_ALIGNED_WORDS, PAST_THE_END_ITSELF, PAST_THE_END_FROM_0,
-    FAR_START_WRAPS, FAR_START_SIGNED, START_OF_32_BITS, COUNT_OF_16_BITS, STOPS_AFTER_4096, STOPS_AFTER_A_MEGABYTE,
-    NONE_LENGTH_LESS_1, NONE_GREATEST, NONE_START, START_DOWN, START_UP, START_TO_AN_ALIGNED_ADDRESS, SECOND_OF_A_WORD,
-    LAST_OF_A_WORD, PAIR_OF_OTHERS, WITHOUT_THE_START, WRITES_AN_END, WRITES_AN_END_AND_BACK, MASKS
+    NO_FAULT, TWO_WORDS, FIRST_OF_TWO_LEFT_OUT, SECOND_OF_TWO_LEFT_OUT, BOTH_OF_TWO_NEEDED, STEP_OF_SEVEN, STEP_OF_NINE,
+    STEP_OF_SIXTEEN, ELEVEN_IN_A_WORD, ELEVEN_AMONG_ODD, HIGH_BIT_IGNORED, NOT_ADDED, ODD_BYTES_LEFT_OUT,
+    LAST_WORD_LEFT_OUT, FIRST_BYTE_LEFT_OUT, LAST_BYTE_LEFT_OUT, READS_ONE_PAST, READS_ONE_BEFORE,
+    READS_A_WHOLE_LAST_WORD, READS_ALIGNED_WORDS, PAST_THE_END_ITSELF, PAST_THE_END_FROM_0, FAR_START_WRAPS,
+    FAR_START_SIGNED, START_OF_32_BITS, COUNT_OF_16_BITS, STOPS_AFTER_4096, STOPS_AFTER_A_MEGABYTE, NONE_LENGTH_LESS_1,
+    NONE_GREATEST, NONE_START, START_DOWN, START_UP, START_TO_AN_ALIGNED_ADDRESS, SECOND_OF_A_WORD, LAST_OF_A_WORD,
+    PAIR_OF_OTHERS, WITHOUT_THE_START, WRITES_AN_END, WRITES_AN_END_AND_BACK, MASKS
 };
 static const char *const names[MASKS] = {
-    "none", "step-of-seven", "step-of-nine", "step-of-sixteen", "eleven-in-a-word", "eleven-among-odd-bytes",
-    "high-bit-ignored", "nothing-added", "odd-bytes-left-out", "last-word-left-out", "first-byte-left-out",
-    "last-byte-left-out", "reads-one-past-the-end", "reads-one-before-the-text", "reads-a-whole-last-word",
-    "reads-aligned-words", "past-the-end-itself", "past-the-end-from-0", "far-start-wraps", "far-start-signed",
-    "start-of-32-bits", "count-of-16-bits", "stops-after-4096", "stops-after-a-megabyte", "none-is-length-less-1",
-    "none-is-greatest", "none-is-start", "start-rounded-down", "start-rounded-up", "start-to-an-aligned-address",
-    "second-of-a-word", "last-of-a-word", "pair-of-others", "without-the-start", "writes-an-end",
-    "writes-an-end-and-back"};
+    "none", "two-words", "first-of-two-left-out", "second-of-two-left-out", "both-of-two-needed", "step-of-seven",
+    "step-of-nine", "step-of-sixteen", "eleven-in-a-word", "eleven-among-odd-bytes", "high-bit-ignored",
+    "nothing-added", "odd-bytes-left-out", "last-word-left-out", "first-byte-left-out", "last-byte-left-out",
+    "reads-one-past-the-end", "reads-one-before-the-text", "reads-a-whole-last-word", "reads-aligned-words",
+    "past-the-end-itself", "past-the-end-from-0", "far-start-wraps", "far-start-signed", "start-of-32-bits",
+    "count-of-16-bits", "stops-after-4096", "stops-after-a-megabyte", "none-is-length-less-1", "none-is-greatest",
+    "none-is-start", "start-rounded-down", "start-rounded-up", "start-to-an-aligned-address", "second-of-a-word",
+    "last-of-a-word", "pair-of-others", "without-the-start", "writes-an-end", "writes-an-end-and-back"};
 
 static enum fault fault;
 static int prepared;
@@ -130,9 +131,24 @@ static size_t step(void) {
     return fault == STEP_OF_SEVEN ? 7 : fault == STEP_OF_NINE ? 9 : fault == STEP_OF_SIXTEEN ? 16 : WORD;
 }
 
+/* Passes two words at a time as long as neither has a byte 10; only where that, or a fault of it, is asked for. */
+static size_t pass_two(const uint8_t *job, size_t count, size_t i) {
+    if (fault < TWO_WORDS || fault > BOTH_OF_TWO_NEEDED)
+        return i;
+    while (count - i >= 2 * WORD) {
+        int first = within(word_of(job + i)) < WORD, second = within(word_of(job + i + WORD)) < WORD;
+        first = first && fault != FIRST_OF_TWO_LEFT_OUT;
+        second = second && fault != SECOND_OF_TWO_LEFT_OUT;
+        if (fault == BOTH_OF_TWO_NEEDED ? first && second : first || second)
+            break;
+        i += 2 * WORD;
+    }
+    return i;
+}
+
 /* The right search, but for the faults that lie in it. */
 static size_t find(const uint8_t *job, size_t count, size_t from) {
-    size_t i = start(job, count, from);
+    size_t i = pass_two(job, count, start(job, count, from));
     size_t left_out = fault == LAST_WORD_LEFT_OUT ? WORD : 0;
     while (i < count && count - i >= WORD + left_out) {
         size_t k = within(word_of(job + i));
