@@ -9,7 +9,7 @@ use native.Mathlib.Nat.{zero-add, suc-add, mul-one, mul-assoc, pow-suc, mod-eq-o
 use native.Mathlib.Numerals.{add-one}
 use native.Mathlib.Omega.{arith}
 use lib.Bits.{bitAnd, bitOr, bitXor, and-block, or-block, xor-block, and-le-l, and-le-r, and-lt, or-lt, xor-lt, or-add-and, and-zero-r, shifted-half, shifted-even}
-use lib.Count.{trailingZeros, under}
+use lib.Count.{trailingZeros}
 use lib.Dec.{eqb}
 use lib.ListN.{length, take, drop, getD}
 use lib.Seq.{drop-cons, drop-drop, take-add}
@@ -123,7 +123,11 @@ marked-is (suc n) w =
     let one : marked 1 (w % 256) ≡ 0 * 256 + (elim (eqb (w % 256) newline) [ true ↦ 128 | false ↦ 0 ]) = byte-marked (w % 256) (omega arith) in
     ap (marked (suc n)) whole ∙ marked-apart n (w / 256) (w % 256) (omega arith) ∙ rw (marked-is n (w / 256)) (omega (arith, one))
 
--- in the code's own numbers
+-- the sum stays in the word
+pub sum-fits : (x low : ℕ) → low + low < 2 ^ 64 → bitAnd x low + low < 2 ^ 64
+sum-fits x low h = omega (arith, and-le-r x low)
+
+-- the marks of a word in the code's own numbers
 pub word-marked : (w : ℕ) → let x : ℕ = bitXor w 0x0a0a0a0a0a0a0a0a in
     let y : ℕ = bitAnd x 0x7f7f7f7f7f7f7f7f + 0x7f7f7f7f7f7f7f7f in
     bitXor (bitAnd (bitOr y x) 0x8080808080808080) 0x8080808080808080 ≡ marks (low-bytes 8 w)

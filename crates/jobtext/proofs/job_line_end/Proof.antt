@@ -1,5 +1,5 @@
 -- A start past the bytes, and any other. Assumes nothing.
-use mathlib.Core.Path.{sym, _∙_}
+use mathlib.Core.Path.{_∙_}
 use borrow.Author.Needs.{needs}
 use Rattle.jobtext.specs.LineEnds.{end-past, end-within}
 use Rattle.jobtext.proofs.job_line_end.Statement.{statement}

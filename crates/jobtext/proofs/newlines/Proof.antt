@@ -1,12 +1,11 @@
--- The sum does not carry out of the word, since its first part has no eighth bits either. Assumes nothing.
-use lib.Bits.{and-le-r, bitXor}
-use native.Mathlib.Omega.{arith}
-use Rattle.jobtext.specs.Words.{word-marked}
+-- The sum does not carry out of the word, since what is masked is at most the mask. Assumes nothing.
+use borrow.Author.Needs.{needs}
+use Rattle.jobtext.specs.Words.{sum-fits, word-marked}
 use Rattle.jobtext.proofs.newlines.Statement.{statement}
 use Rattle.jobtext.proofs.newlines.Tie as tie
 
 add-y : tie.Need-add-y
-add-y c = omega (arith, and-le-r (bitXor (c .args .w) 0x0a0a0a0a0a0a0a0a) 0x7f7f7f7f7f7f7f7f)
+add-y c = search (needs, sum-fits)
 
 returns : tie.Need-returns
 returns c = word-marked (c .args .w)
