@@ -1,4 +1,5 @@
--- What the readers of this crate promise: how an answer stands for document 01's numbers and lists (rules, Job). Assumes nothing.
+-- What the readers of this crate promise: where a line ends, and how an answer stands for document 01's numbers and lists (rules, Job).
+-- Assumes nothing.
 use mathlib.Core.List.{List, [], _∷_}
 use mathlib.Core.Logic.{_⊎_}
 use mathlib.Core.Bool.{true, false}

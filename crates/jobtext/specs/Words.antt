@@ -1,5 +1,5 @@
--- Laws of words of bytes: bytes put together are the word's low bytes, and a test of a whole word says whether one of its bytes is 10.
--- Assumes nothing.
+-- Laws of words of bytes: bytes put together are the word's low bytes; a word's bytes 10, marked all at once, leave 0 where there is none,
+-- and the lowest mark stands at the first. Assumes nothing.
 use mathlib.Core.Bool.{Bool, true, false, not, _&&_, _||_, false≢true}
 use mathlib.Core.List.{List, [], _∷_, _++_}
 use mathlib.Core.Logic.{_⊎_, inl, inr}
