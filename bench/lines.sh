@@ -1,5 +1,5 @@
 #!/bin/bash
-# Host code, not proved: measures how fast the end of a line of a job is found and what a line with a long list costs, and prints
+# Host code, not proved: measures how fast the end of a line of a job is found and what reading lines whole costs, and prints
 # both tables. Beside the proved archive of crate jobtext it takes bench/driver/line_probe.rattle, which has the search byte
 # by byte, as a crate in a scratch repository under target/.
 set -euo pipefail
@@ -18,8 +18,8 @@ done
 cp bench/driver/line_probe.rattle $scratch/crates/line_probe/src/lib.rt
 echo "line_probe: $uses" >>$scratch/crates.txt
 # What was proved of them is not proved again.
-cp -R target/stamp target/rlib $scratch/target
+cp -R target/stamp target/rlib $scratch/target 2>/dev/null || true
 (cd $scratch && rt staticlib line_probe >log 2>&1) || { tail -n 20 $scratch/log >&2; exit 1; }
 gcc -std=gnu99 -O2 -Wall -Wextra -Werror -Ihosts -o target/bench/line_ends bench/driver/lines.c \
   target/staticlib/libjobtext.a $scratch/target/staticlib/libline_probe.a
-target/bench/line_ends
+target/bench/line_ends examples/*.job

@@ -1,8 +1,8 @@
 -- The definition of a line's end in words: the first byte 10 at or after a start, or truly none, and nothing else is that. Assumes nothing.
 use mathlib.Core.Bool.{true, false}
-use mathlib.Core.List.{List, [], _∷_}
+use mathlib.Core.List.{List, [], _∷_, map}
 use mathlib.Core.Logic.{_⊎_, inl, inr}
-use mathlib.Core.Path.{_≡_, sym, ap, _∙_}
+use mathlib.Core.Path.{_≡_, refl, sym, ap, _∙_}
 use Prim.Native.Nat.{ℕ, zero, suc, _+_, _-_, _≤_, _<_}
 use native.Mathlib.Decide.{decLt}
 use native.Mathlib.Omega.{arith}
@@ -11,8 +11,18 @@ use lib.ListN.{length, drop, getD, length-drop}
 use lib.Seq.{getD-drop}
 use borrow.Author.Tests.{leb-true, leb-false, le-leb, lt-leb, eqb-true, eqb-false}
 use Rattle.rules.specs.Text.{newline}
+use Rattle.rules.specs.Listings.{job-1}
 use Rattle.jobtext.specs.Text.{before, line-end}
 use Rattle.jobtext.specs.Pieces.{bool, before-le}
+
+-- worked out by hand: J1 from where each of its lines starts; from within a line, from a byte 10, from the end and from past it
+pub ends-of-j1 : map (line-end job-1) (0 ∷ 14 ∷ 23 ∷ 29 ∷ 34 ∷ 40 ∷ 45 ∷ 51 ∷ 56 ∷ 62 ∷ 66 ∷ 72 ∷ []) ≡ 13 ∷ 22 ∷ 28 ∷ 33 ∷ 39 ∷ 44 ∷ 50 ∷ 55 ∷ 61 ∷ 65 ∷ 71 ∷ 79 ∷ []
+unfolding line-end before
+ends-of-j1 = refl
+
+pub other-starts : map (line-end job-1) (5 ∷ 13 ∷ 80 ∷ 81 ∷ 1000 ∷ []) ≡ 13 ∷ 13 ∷ 80 ∷ 80 ∷ 80 ∷ []
+unfolding line-end before
+other-starts = refl
 
 -- the two cases of its definition
 pub end-within : (s : List ℕ) (from : ℕ) → from ≤ length s → from + before newline (drop from s) ≡ line-end s from
