@@ -23,26 +23,26 @@ pub fn find(s: &[u8], from: usize, b: u8) -> usize
 }
 
 // Two bytes as one number, the first lowest.
-fn pair(a: u8, b: u8) -> u16
+fn u16_of(a: u8, b: u8) -> u16
     ensures { λ r. ⌜ low-bytes 2 r ≡ a ∷ (b ∷ []) ⌝ }
 {
     (b as u16) * 256 + (a as u16)
 }
 
 // The two bytes from i on; the four; the eight. The compiler makes one load of all.
-fn pair_at(s: &[u8], i: usize) -> u16
+fn u16_at(s: &[u8], i: usize) -> u16
     requires { ⌜ i + 2 ≤ length (now s) ⌝ }
     ensures { λ r. ⌜ low-bytes 2 r ≡ take 2 (drop i (now (s .entry))) ⌝ }
 {
-    pair(s[i], s[i + 1])
+    u16_of(s[i], s[i + 1])
 }
 
-fn quad_at(s: &[u8], i: usize) -> u32
+fn u32_at(s: &[u8], i: usize) -> u32
     requires { ⌜ i + 4 ≤ length (now s) ⌝ }
     ensures { λ r. ⌜ low-bytes 4 r ≡ take 4 (drop i (now (s .entry))) ⌝ }
 {
-    let low = pair_at(s, i);
-    let high = pair_at(s, i + 2);
+    let low = u16_at(s, i);
+    let high = u16_at(s, i + 2);
     (high as u32) * 65536 + (low as u32)
 }
 
@@ -50,8 +50,8 @@ fn word_at(s: &[u8], i: usize) -> u64
     requires { ⌜ i + 8 ≤ length (now s) ⌝ }
     ensures { λ r. ⌜ low-bytes 8 r ≡ take 8 (drop i (now (s .entry))) ⌝ }
 {
-    let low = quad_at(s, i);
-    let high = quad_at(s, i + 4);
+    let low = u32_at(s, i);
+    let high = u32_at(s, i + 4);
     (high as u64) * 4294967296 + (low as u64)
 }
 

@@ -1,4 +1,4 @@
-"""Host code, not proved: execution orders of circuits, by the proved libraries.
+r"""Host code, not proved: execution orders of circuits, by the proved libraries.
 
     from witness_order import Calls, held, job_needs, line_end, replay, run_job
 

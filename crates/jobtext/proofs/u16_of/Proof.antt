@@ -1,8 +1,8 @@
 -- Assumes nothing.
 use borrow.Author.Needs.{needs}
 use Rattle.jobtext.specs.Words.{two-bytes}
-use Rattle.jobtext.proofs.pair.Statement.{statement}
-use Rattle.jobtext.proofs.pair.Tie as tie
+use Rattle.jobtext.proofs.u16_of.Statement.{statement}
+use Rattle.jobtext.proofs.u16_of.Tie as tie
 
 mul-result : tie.Need-mul-result
 mul-result c = search needs
@@ -13,5 +13,5 @@ add-result c = search needs
 returns : tie.Need-returns
 returns c = two-bytes (c .args .a) (c .args .b) (search needs) (search needs)
 
-pub pair-spec : {M : Type 1} → statement M
-pair-spec = tie.close (tie.spec mul-result add-result returns)
+pub u16-of-spec : {M : Type 1} → statement M
+u16-of-spec = tie.close (tie.spec mul-result add-result returns)
