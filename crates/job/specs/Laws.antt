@@ -30,6 +30,7 @@ use Rattle.jobcalls.specs.declared.Head.the-variants as head
 use Rattle.jobturn.specs.declared.Step.{Step}
 use Rattle.jobturn.specs.declared.Step.the-variants as step′
 use Rattle.jobturn.specs.Turned.{remains, StandsFor, Refuses, Surplus, Turned, MayTurn}
+use Rattle.jobturn.specs.declared.EndFigures.{EndFigures}
 use Rattle.jobturn.specs.declared.End.{End}
 use Rattle.jobturn.specs.declared.End.the-variants as end
 use Rattle.job.specs.Run.{StandsReached, Left, Refused, Tells, MayRun, outcome-as, Stopped, Runs, Room, Ran}
@@ -111,7 +112,7 @@ module _ {s : Session} {σ : Storage} {job : List ℕ} {room start : ℕ} (m : M
       falls next i e = let d′ = subst (λ (y : Step). Turned job at n s′ y t σ′ τ b b′) e d in (d′ .further .0, d′ .further .1 .0)
 
       pub runs-ended : (e : End) → x ≡ step′.Ended e → Runs s σ job start e τ a b′
-      runs-ended (end.Finished w pl md) e =
+      runs-ended (end.Finished f) e =
           let d′ = subst (λ (y : Step). Turned job at n s′ y t σ′ τ b b′) e d in
           record {
             tells = λ P N hP q.
@@ -317,13 +318,13 @@ module _ (job : List ℕ) (short : length job ≤ most-job-bytes) where
               is = is-outcome (end.Rejected i code) υ u;
               left = subst (λ (y : Option Reached). Left y σ υ) (sym (is-reached (end.Rejected i code) υ u)) (u .session, standing (end.Rejected i code) υ u);
             }
-        told (end.Finished w pl md) υ u =
+        told (end.Finished f) υ u =
             record {
-              last = there (end.Finished w pl md) υ u;
-              reached-is = is-reached (end.Finished w pl md) υ u;
-              is = is-outcome (end.Finished w pl md) υ u;
+              last = there (end.Finished f) υ u;
+              reached-is = is-reached (end.Finished f) υ u;
+              is = is-outcome (end.Finished f) υ u;
               session = u .session;
-              standing = standing (end.Finished w pl md) υ u;
+              standing = standing (end.Finished f) υ u;
               figures = u .figures;
             }
 
@@ -342,7 +343,7 @@ nothing-written {job} {n} {code} {σ} {σ′} {a} {b} e r = subst (λ (x : Optio
 
 -- a wrong program shut out: a job opened with another P or V. The storage stands for the model reached with the P and V of the job's first
 -- two lines, and the session's are these
-pub own-numbers : {job : List ℕ} {w pl md : ℕ} {σ σ′ : Storage} {a b : List ℕ} → Ran job (end.Finished w pl md) σ σ′ a b
+pub own-numbers : {job : List ℕ} {f : EndFigures} {σ σ′ : Storage} {a b : List ℕ} → Ran job (end.Finished f) σ σ′ a b
     → (r : Reached) × ((reached job ≡ some r) × ((s : Session) × (Rep (r .parallelism) (r .places) (r .model) s σ′ × ((s .guide .v ≡ r .places) × (s .guide .p ≡ r .parallelism)))))
 own-numbers r =
     let c = r .tells in

@@ -15,7 +15,8 @@ use Rattle.session.specs.declared.Session.{Session}
 use Rattle.session.specs.Storage.{Storage, Beyond, Frame}
 use Rattle.session.specs.Rep.{Rep}
 use Rattle.jobcalls.specs.Runs.{Run}
-use Rattle.jobturn.specs.Turned.{Code, remains, StandsFor, EndFigures}
+use Rattle.jobturn.specs.Turned.{Code, remains, StandsFor, FiguresOf}
+use Rattle.jobturn.specs.declared.EndFigures.{EndFigures}
 use Rattle.jobturn.specs.declared.End.{End}
 use Rattle.jobturn.specs.declared.End.the-variants as end
 
@@ -35,18 +36,18 @@ pub record Refused (job : List ℕ) (σ σ′ : Storage) (n code : ℕ) : Type 0
   pub is : outcome job ≡ rejected n code
   pub left : Left (reached job) σ σ′
 
--- a job that is finished, with the numbers of its listing's head: the order's length, the places that final fixed and the median
-pub record Closed (job : List ℕ) (σ σ′ : Storage) (written places median : ℕ) : Type 0 where
+-- a job that is finished, with the numbers that the head of its listing is made from
+pub record Closed (job : List ℕ) (σ σ′ : Storage) (f : EndFigures) : Type 0 where
   pub last : Reached
   pub reached-is : reached job ≡ some last
   pub is : outcome job ≡ finished (last .parallelism) (last .model)
   pub session : Session
   pub standing : StandsReached last session σ σ′
-  pub figures : EndFigures (last .parallelism) (last .model) written places median
+  pub figures : FiguresOf (last .parallelism) (last .model) f
 
 abbrev pub Tells : List ℕ → Storage → Storage → End → Type 0
 Tells job σ σ′ (end.Rejected n code) = Refused job σ σ′ n code
-Tells job σ σ′ (end.Finished w pl md) = Closed job σ σ′ w pl md
+Tells job σ σ′ (end.Finished f) = Closed job σ σ′ f
 
 -- a refusal's line is at most five past the bytes of a job, and its number small
 abbrev pub most-lines : ℕ
@@ -54,7 +55,7 @@ most-lines = most-job-bytes + 5
 
 abbrev pub Low : End → Type 0
 Low (end.Rejected n code) = (n ≤ most-lines) × Code code
-Low (end.Finished w pl md) = Unit {0}
+Low (end.Finished f) = Unit {0}
 
 -- calls may be run from `start` on: the session is fresh, and there is room for the numbers of lists
 pub record MayRun (s : Session) (σ : Storage) (job : List ℕ) (room start : ℕ) : Type 0 where
@@ -69,11 +70,11 @@ pub record MayRun (s : Session) (σ : Storage) (job : List ℕ) (room start : �
 -- the outcome that an end tells, the model being k, and that its numbers are the model's
 abbrev pub outcome-as : End → ℕ → Model → Outcome
 outcome-as (end.Rejected n code) P k = rejected n code
-outcome-as (end.Finished w pl md) P k = finished P k
+outcome-as (end.Finished f) P k = finished P k
 
 abbrev pub figures-of : End → ℕ → Model → Type 0
 figures-of (end.Rejected n code) P k = Unit {0}
-figures-of (end.Finished w pl md) P k = EndFigures P k w pl md
+figures-of (end.Finished f) P k = FiguresOf P k f
 
 -- the calls were run to the end e: o is what remained at the start, with session s and storage σ
 pub record Stopped (P N W : ℕ) (s : Session) (σ σ′ : Storage) (e : End) (o : Run) : Type 0 where

@@ -15,6 +15,7 @@ use Rattle.rules.specs.Listing.{listing, fit, told, program, printed, rejection
 use Rattle.session.specs.Storage.{Storage, storage}
 use Rattle.writer.specs.Wrote.{Wrote}
 use Rattle.report.specs.Report.{Shown, MayReport, Reports}
+use Rattle.jobturn.specs.declared.EndFigures.{EndFigures}
 use Rattle.jobturn.specs.declared.End.{End}
 use Rattle.jobturn.specs.declared.End.the-variants as end
 use Rattle.job.specs.Run.{Closed, Ran}
@@ -36,9 +37,9 @@ replied-refused job bytes n code x {σ} {σ′} {a} {b} r e =
     record { is = sym q; bytes = sym (ap (λ (y : rule.Reply). rule.bytes-after y bytes) q); small = (r′ .low .0, omega (arith, r′ .low .1)) }
 
 -- a job that was finished, over order o and rows rs
-module _ (job : List ℕ) (w pl md : ℕ) (x : End) (sp o t rs m l wa pool : List ℕ) {σ : Storage} {a b : List ℕ}
-    (r : Ran job x σ (storage sp o t rs m l wa pool) a b) (e : x ≡ end.Finished w pl md) where
-  done : Closed job σ (storage sp o t rs m l wa pool) w pl md
+module _ (job : List ℕ) (figures : EndFigures) (x : End) (sp o t rs m l wa pool : List ℕ) {σ : Storage} {a b : List ℕ}
+    (r : Ran job x σ (storage sp o t rs m l wa pool) a b) (e : x ≡ end.Finished figures) where
+  done : Closed job σ (storage sp o t rs m l wa pool) figures
   done = subst (λ (y : End). Ran job y σ (storage sp o t rs m l wa pool) a b) e r .tells
 
   abbrev P : ℕ
@@ -50,7 +51,7 @@ module _ (job : List ℕ) (w pl md : ℕ) (x : End) (sp o t rs m l wa pool : Lis
   abbrev model : Model
   model = done .last .model
 
-  shown : Shown P N job-pool model o rs w pl md
+  shown : Shown P N job-pool model o rs figures
   shown =
       record {
         session = done .session;
@@ -64,12 +65,12 @@ module _ (job : List ℕ) (w pl md : ℕ) (x : End) (sp o t rs m l wa pool : Lis
         figures = done .figures;
       }
 
-  pub may-report : (room : ℕ) → room ≡ program-listing-bytes → length o ≡ extent job-places → MayReport o rs room w pl md
+  pub may-report : (room : ℕ) → room ≡ program-listing-bytes → length o ≡ extent job-places → MayReport o rs room figures
   may-report room q h =
       let g = done .standing .stands .rep .core .guided in
       record { P = P; N = N; W = job-pool; model = model; shown = shown; enough = omega (arith, g .stands .order-long, g .v-is) }
 
-  module _ (blank page : List ℕ) (n : ℕ) (long : length page ≡ program-listing-bytes) (u : Reports o rs blank page w pl md n) where
+  module _ (blank page : List ℕ) (n : ℕ) (long : length page ≡ program-listing-bytes) (u : Reports o rs blank page figures n) where
     text : List ℕ
     text = listing P model
 

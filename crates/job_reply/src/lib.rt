@@ -38,13 +38,9 @@ pub fn reply_to(text: &[u8], listing: &mut [u8]) -> Reply
         text,
     );
     match end {
-        End::Finished {
-            written,
-            places,
-            median,
-        } => {
+        End::Finished { figures } => {
             let mut page = [0u8; rules::PROGRAM_LISTING_BYTES];
-            let length = report::report(&order, &rows, &mut page, written, places, median);
+            let length = report::report(&order, &rows, &mut page, figures);
             if listing.len() < length {
                 let code = rules::LONG_LISTING;
                 return Reply::Refused { line: 1, code };

@@ -35,7 +35,7 @@ use Rattle.jobcalls.specs.Runs.{reads, makes, goes, call-runs}
 use Rattle.jobturn.specs.declared.End.the-variants as end
 use Rattle.jobturn.specs.declared.Step.{Step}
 use Rattle.jobturn.specs.declared.Step.the-variants as step′
-use Rattle.jobturn.specs.Turned.{AfterCall, AfterFinal, remains, StandsFor, Accepts, EndFigures, Turned}
+use Rattle.jobturn.specs.Turned.{AfterCall, AfterFinal, remains, StandsFor, Accepts, end-figures, FiguresOf, Turned}
 
 -- the end of a job: nothing may follow final
 ends : (P n : ℕ) (k : Model) (l : List ℕ) → length l ≡ 0 → closing P n (lines l) (ragged l) k ≡ finished P k
@@ -182,14 +182,19 @@ module _ {job entry read : List ℕ} {at n : ℕ} (s : Session) (σ : Storage) (
           ∙ ap (λ (i : ℕ). (closing P i (lines (drop after job)) (ragged (drop at job)) closed, closed)) (sym (add-one m))
           ∙ ap (λ (b : Bool). (closing P (m + 1) (lines (drop after job)) b closed, closed)) (sym (c .next .end))
 
-      figures : EndFigures P closed (s′ .guide .written) (s′ .places) (f .median)
+      figures : FiguresOf P closed (end-figures s′ f)
       unfolding summary rule.figures
       figures =
           let x = shows P N closed s′ σ′ (accepted .stands .rep) in
           let e = done .summary z P N k (h .rep) (rw (h .pool) (h .between)) in
-          record { written-is = x .written; places-is = x .places; median-is = ap (λ (y : rule.Figures). y .median) (rw (h .pool) at e) }
+          record {
+            parallelism-is = accepted .stands .rep .core .guided .p-is;
+            written-is = x .written;
+            places-is = x .places;
+            median-is = ap (λ (y : rule.Figures). y .median) (rw (h .pool) at e);
+          }
 
-    finished-turn : num ≡ 0 → after ≡ length job → Turned job at n s (step′.Ended (end.Finished (s′ .guide .written) (s′ .places) (f .median))) s′ σ σ′ entry read
+    finished-turn : num ≡ 0 → after ≡ length job → Turned job at n s (step′.Ended (end.Finished (end-figures s′ f))) s′ σ σ′ entry read
     finished-turn z e =
         record {
           tells = λ P N W k hP h.
@@ -220,7 +225,7 @@ module _ {job entry read : List ℕ} {at n : ℕ} (s : Session) (σ : Storage) (
           into = numbers c same;
         }
 
-    pub turn-final : {r : Step} → AfterFinal num m after (length job) (s′ .guide .written) (s′ .places) (f .median) r → Turned job at n s r s′ σ σ′ entry read
+    pub turn-final : {r : Step} → AfterFinal num m after (length job) (end-figures s′ f) r → Turned job at n s r s′ σ σ′ entry read
     turn-final {r} told = go (by-number num)
       where
         ended : num ≡ 0 → (after ≡ length job) ⊎ (after ≡ length job → ⊥) → Turned job at n s r s′ σ σ′ entry read

@@ -21,6 +21,7 @@ use Rattle.session.specs.Rep.{Rep}
 use Rattle.admitting.specs.Promise.{Asks}
 use Rattle.sorter.specs.FinalWork.{Concludes}
 use Rattle.jobcalls.specs.Runs.{Run, reads}
+use Rattle.jobturn.specs.declared.EndFigures.{EndFigures}
 use Rattle.jobturn.specs.declared.End.the-variants as end
 use Rattle.jobturn.specs.declared.Step.{Step}
 use Rattle.jobturn.specs.declared.Step.the-variants as step′
@@ -35,17 +36,21 @@ pub record AfterCall (number m next : ℕ) (r : Step) : Type 0 where
   pub refused : (number ≡ 0 → ⊥) → r ≡ step′.Ended (end.Rejected m number)
 
 -- what follows final with this number on line m, whose line ends before `next`, in a job of `long` bytes
-pub record AfterFinal (number m next long written places med : ℕ) (r : Step) : Type 0 where
+pub record AfterFinal (number m next long : ℕ) (f : EndFigures) (r : Step) : Type 0 where
   pub refused : (number ≡ 0 → ⊥) → r ≡ step′.Ended (end.Rejected m number)
   pub surplus : number ≡ 0 → (next ≡ long → ⊥) → r ≡ step′.Ended (end.Rejected (m + 1) refusal.malformed)
-  pub last : number ≡ 0 → next ≡ long → r ≡ step′.Ended (end.Finished written places med)
+  pub last : number ≡ 0 → next ≡ long → r ≡ step′.Ended (end.Finished f)
+
+-- the numbers of a finished job, by the session after final and the figures of its summary
+abbrev pub end-figures : Session → rule.Figures → EndFigures
+end-figures s f = record { parallelism = s .guide .p; written = s .guide .written; places = s .places; median = f .median }
 
 -- final was made, and what follows it
 pub record FinalMade (m next long : ℕ) (s : Session) (r : Step) (s′ : Session) (σ σ′ : Storage) : Type 0 where
   pub number : ℕ
   pub figures : rule.Figures
   pub concludes : Concludes number s s′ σ σ′ figures
-  pub follows : AfterFinal number m next long (s′ .guide .written) (s′ .places) (figures .median) r
+  pub follows : AfterFinal number m next long (end-figures s′ figures) r
 
 -- what the rules make of the job from `at` on, which is line n, for the model k: how it ends, and the model that it reaches
 unfoldable pub remains : ℕ → ℕ → ℕ → List ℕ → ℕ → ℕ → Model → Run
@@ -74,29 +79,31 @@ pub record Surplus (P N W : ℕ) (k : Model) (s′ : Session) (σ′ : Storage) 
   pub number : code ≡ refusal.malformed
   pub is : o ≡ (rejected m code, step P N W calls.final k)
 
--- the numbers that the end of a job tells are its model's: the order's length, the places that final fixed and the median of its summary
-pub record EndFigures (P : ℕ) (k : Model) (written places med : ℕ) : Type 0 where
-  pub written-is : written ≡ length (k .guide .order)
-  pub places-is : places ≡ k .recorded .places
-  pub median-is : med ≡ median (tally P (k .guide .order))
+-- the numbers that the end of a job tells are its own: P, and of its model the order's length, the places that final fixed and the median of
+-- its summary
+pub record FiguresOf (P : ℕ) (k : Model) (f : EndFigures) : Type 0 where
+  pub parallelism-is : f .parallelism ≡ P
+  pub written-is : f .written ≡ length (k .guide .order)
+  pub places-is : f .places ≡ k .recorded .places
+  pub median-is : f .median ≡ median (tally P (k .guide .order))
 
 -- final was accepted, and nothing follows it
-pub record Finishes (P N W : ℕ) (k : Model) (s′ : Session) (σ′ : Storage) (written places med : ℕ) (o : Run) : Type 0 where
+pub record Finishes (P N W : ℕ) (k : Model) (s′ : Session) (σ′ : Storage) (f : EndFigures) (o : Run) : Type 0 where
   pub final : Accepts P N W calls.final k s′ σ′
-  pub figures : EndFigures P (step P N W calls.final k) written places med
+  pub figures : FiguresOf P (step P N W calls.final k) f
   pub is : o ≡ (finished P (step P N W calls.final k), step P N W calls.final k)
 
 -- what remained, o, is what the answer tells, with session and storage before and after it
 abbrev pub Tells : ℕ → ℕ → ℕ → List ℕ → Model → Session → Session → Storage → Storage → Step → Run → Type 0
 Tells P N W job k s s′ σ σ′ (step′.Ended (end.Rejected m code)) o = Refuses k s s′ σ σ′ m code o ⊎ Surplus P N W k s′ σ′ m code o
-Tells P N W job k s s′ σ σ′ (step′.Ended (end.Finished w pl md)) o = Finishes P N W k s′ σ′ w pl md o
+Tells P N W job k s s′ σ σ′ (step′.Ended (end.Finished f)) o = Finishes P N W k s′ σ′ f o
 Tells P N W job k s s′ σ σ′ (step′.On at n) o =
     (c : Call) × (Accepts P N W c k s′ σ′ × (o ≡ remains P N W job at n (step P N W c k)))
 
 -- the next call lies further on, within the job, and a line has a byte at least; a refusal's line and number are small
 abbrev pub Further : List ℕ → ℕ → ℕ → Step → Type 0
 Further job at n (step′.Ended (end.Rejected m code)) = (m ≤ n + 2) × Code code
-Further job at n (step′.Ended (end.Finished w pl md)) = Unit {0}
+Further job at n (step′.Ended (end.Finished f)) = Unit {0}
 Further job at n (step′.On next m) = (at < next) × ((next ≤ length job) × (at + m ≤ next + n))
 
 pub record MayTurn (s : Session) (σ : Storage) (job : List ℕ) (room at n : ℕ) : Type 0 where

@@ -70,18 +70,19 @@ fn make(
     }
 }
 
-// How a job ends: with final accepted, and then the order's length, the places that final fixed and the median of its summary; or refused
-// on a line with a number.
+// The numbers of a finished job that the head of its listing is made from: P, the order's length, the places that final fixed and the
+// median of its summary.
+pub struct EndFigures {
+    pub parallelism: u32,
+    pub written: u32,
+    pub places: u32,
+    pub median: u32,
+}
+
+// How a job ends: with final accepted, or refused on a line with a number.
 pub enum End {
-    Finished {
-        written: u32,
-        places: u32,
-        median: u32,
-    },
-    Rejected {
-        line: u64,
-        code: u64,
-    },
+    Finished { figures: EndFigures },
+    Rejected { line: u64, code: u64 },
 }
 
 // What follows a call: the place and the line of the next one, or the job's end.
@@ -109,12 +110,10 @@ fn after_final(
     line: u64,
     next: usize,
     length: usize,
-    written: u32,
-    places: u32,
-    median: u32,
+    figures: EndFigures,
 ) -> Step
     requires { ⌜ line + 1 < 2 ^ 64 ⌝ }
-    ensures { λ r. ⌜ AfterFinal number line next length written places median r ⌝ }
+    ensures { λ r. ⌜ AfterFinal number line next length figures r ⌝ }
 {
     if number != 0 {
         let end = End::Rejected { line, code: number };
@@ -126,11 +125,7 @@ fn after_final(
         let end = End::Rejected { line, code };
         return Step::Ended { end };
     }
-    let end = End::Finished {
-        written,
-        places,
-        median,
-    };
+    let end = End::Finished { figures };
     Step::Ended { end }
 }
 
@@ -170,17 +165,13 @@ fn make_final(
         pool,
     );
     let session = f.session;
-    let written = session.guide.written;
-    let median = f.summary.median;
-    let step = after_final(
-        f.number,
-        line,
-        next,
-        length,
-        written,
-        session.places,
-        median,
-    );
+    let figures = EndFigures {
+        parallelism: session.guide.p,
+        written: session.guide.written,
+        places: session.places,
+        median: f.summary.median,
+    };
+    let step = after_final(f.number, line, next, length, figures);
     Turn { step, session }
 }
 

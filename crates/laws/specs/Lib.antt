@@ -1,5 +1,5 @@
 -- Theorems about the definitions of `rules`. The main ones: `demand-3` (DemandProof), `numbers-fit` (Widths), `sound` and `between`
--- (Sound), `placeable` (Placeable), `alone-sound` (Alone), `alone-numbers-fit` (AloneWidths), `needed` (NeedsProof).
+-- (Sound), `placeable` (Placeable), `alone-sound` (Alone), `alone-numbers-fit` (AloneWidths), `needed` (NeedsProof), `floor-is` (Floor).
 pub mod Width
 pub mod History
 pub mod Together
@@ -31,3 +31,4 @@ pub mod Alone
 pub mod AloneWidths
 pub mod Needs
 pub mod NeedsProof
+pub mod Floor

@@ -2,3 +2,4 @@
 pub mod Listed
 pub mod Lines
 pub mod Model
+pub mod Floor

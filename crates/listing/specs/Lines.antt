@@ -1,4 +1,4 @@
--- Laws of writing a listing: an entry's line by its fields, the lines one after another, the floor, the head. Assumes nothing.
+-- Laws of writing a listing: an entry's line by its fields, the lines one after another, the smallest parallelism, the floor, the head. Assumes nothing.
 use mathlib.Core.List.{List, [], _∷_, _++_, append-assoc, append-nil}
 use mathlib.Core.Path.{_≡_, refl, sym, ap, _∙_, subst}
 use Prim.Native.Nat.{ℕ, suc, _+_, _-_, _*_, _≤_, _<_, min}
@@ -6,7 +6,7 @@ use native.Mathlib.Numerals.{add-one}
 use native.Mathlib.Omega.{arith}
 use lib.ListN.{length}
 use Rattle.rules.specs.Guide.{Entry as OrderEntry}
-use Rattle.rules.specs.Listing.{field, line, floor, entry-line, rejection, word-status, word-line, word-entries, word-places, word-floor}
+use Rattle.rules.specs.Listing.{field, line, least, floor, entry-line, rejection, word-status, word-line, word-entries, word-places, word-floor}
 use Rattle.rules.specs.Listing.{word-median, word-order, word-added, word-accepted, word-parallelism, word-written}
 use Rattle.entries.specs.declared.Entry.{Entry}
 use Rattle.entries.specs.Entries.{entry-at, entry-of, item-of}
@@ -68,62 +68,62 @@ written-all {o} {rows} {n} {at} {i} {entry} {out} {end} w h =
     (sym (append-nil (w .text)) ∙ ap (λ (t : List ℕ). w .text ++ t) (sym (none-left o rows i n h)) ∙ w .left)
     (w .wrote)
 
--- the floor: the least so far with that of the entries left
+-- the smallest parallelism: the least so far with that of the entries left
 unfoldable pub least-of : ℕ → List OrderEntry → ℕ
 least-of m [] = m
-least-of m (e ∷ es) = min m (floor (e ∷ es))
+least-of m (e ∷ es) = min m (least (e ∷ es))
 
-floor-cons : (e : OrderEntry) (es : List OrderEntry) → floor (e ∷ es) ≡ least-of (e .parallelism) es
-unfolding floor least-of
-floor-cons e [] = refl
-floor-cons e (f ∷ es) = refl
+least-first : (e : OrderEntry) (es : List OrderEntry) → least (e ∷ es) ≡ least-of (e .parallelism) es
+unfolding least least-of
+least-first e [] = refl
+least-first e (f ∷ es) = refl
 
 least-cons : (m : ℕ) (e : OrderEntry) (es : List OrderEntry) → least-of m (e ∷ es) ≡ least-of (min m (e .parallelism)) es
 unfolding least-of
-least-cons m e es = ap (min m) (floor-cons e es) ∙ go es
+least-cons m e es = ap (min m) (least-first e es) ∙ go es
   where
     go : (es : List OrderEntry) → min m (least-of (e .parallelism) es) ≡ least-of (min m (e .parallelism)) es
     go [] = refl
-    go (f ∷ es) = three m (e .parallelism) (floor (f ∷ es))
+    go (f ∷ es) = three m (e .parallelism) (least (f ∷ es))
       where
         three : (a b c : ℕ) → min a (min b c) ≡ min (min a b) c
         three a b c = omega arith
 
 module _ (o : List ℕ) (n : ℕ) where
-  pub floor-begins : (n ≡ 0 → ⊥) → floor (entries-from o 0 n) ≡ least-of (entry-at o 0 .parallelism) (entries-from o 1 (n - 1))
+  pub least-begins : (n ≡ 0 → ⊥) → least (entries-from o 0 n) ≡ least-of (entry-at o 0 .parallelism) (entries-from o 1 (n - 1))
   unfolding entry-of
-  floor-begins h = let e : n ≡ suc (n - 1) = omega (arith, h) in ap (λ (k : ℕ). floor (entries-from o 0 k)) e ∙ floor-cons _ _
+  least-begins h = let e : n ≡ suc (n - 1) = omega (arith, h) in ap (λ (k : ℕ). least (entries-from o 0 k)) e ∙ least-first _ _
 
-  floor-turn : (i m : ℕ) → i < n → least-of m (entries-from o i (n - i)) ≡ least-of (min m (entry-at o i .parallelism)) (entries-from o (i + 1) (n - (i + 1)))
+  least-turn : (i m : ℕ) → i < n → least-of m (entries-from o i (n - i)) ≡ least-of (min m (entry-at o i .parallelism)) (entries-from o (i + 1) (n - (i + 1)))
   unfolding entry-of
-  floor-turn i m h = let e : n - i ≡ suc (n - (i + 1)) = omega arith in rw (e, add-one i) (least-cons m (entry-of (entry-at o i)) (entries-from o (suc i) (n - suc i)))
+  least-turn i m h = let e : n - i ≡ suc (n - (i + 1)) = omega arith in rw (e, add-one i) (least-cons m (entry-of (entry-at o i)) (entries-from o (suc i) (n - suc i)))
 
   -- y is the least after the turn
   module _ (i m y x : ℕ) (h : i < n) (e : x ≡ least-of m (entries-from o i (n - i))) where
     on-by : y ≡ min m (entry-at o i .parallelism) → x ≡ least-of y (entries-from o (i + 1) (n - (i + 1)))
-    on-by k = e ∙ floor-turn i m h ∙ ap (λ (z : ℕ). least-of z (entries-from o (i + 1) (n - (i + 1)))) (sym k)
+    on-by k = e ∙ least-turn i m h ∙ ap (λ (z : ℕ). least-of z (entries-from o (i + 1) (n - (i + 1)))) (sym k)
 
-    pub floor-less : entry-at o i .parallelism < m → y ≡ entry-at o i .parallelism → x ≡ least-of y (entries-from o (i + 1) (n - (i + 1)))
-    floor-less lt k = on-by (omega arith)
+    pub least-less : entry-at o i .parallelism < m → y ≡ entry-at o i .parallelism → x ≡ least-of y (entries-from o (i + 1) (n - (i + 1)))
+    least-less lt k = on-by (omega arith)
 
-    pub floor-same : m ≤ entry-at o i .parallelism → y ≡ m → x ≡ least-of y (entries-from o (i + 1) (n - (i + 1)))
-    floor-same le k = on-by (omega arith)
+    pub least-same : m ≤ entry-at o i .parallelism → y ≡ m → x ≡ least-of y (entries-from o (i + 1) (n - (i + 1)))
+    least-same le k = on-by (omega arith)
 
-  pub floor-ends : (i m x : ℕ) → n ≤ i → x ≡ least-of m (entries-from o i (n - i)) → m ≡ x
+  pub least-ends : (i m x : ℕ) → n ≤ i → x ≡ least-of m (entries-from o i (n - i)) → m ≡ x
   unfolding least-of
-  floor-ends i m x h e = let k : n - i ≡ 0 = omega arith in sym (e ∙ ap (λ (y : ℕ). least-of m (entries-from o i y)) k)
+  least-ends i m x h e = let k : n - i ≡ 0 = omega arith in sym (e ∙ ap (λ (y : ℕ). least-of m (entries-from o i y)) k)
 
-pub floor-none : (o : List ℕ) (n : ℕ) → n ≡ 0 → 0 ≡ floor (entries-from o 0 n)
-unfolding floor
-floor-none o n e = ap (λ (k : ℕ). floor (entries-from o 0 k)) (sym e)
+pub least-none : (o : List ℕ) (n : ℕ) → n ≡ 0 → 0 ≡ least (entries-from o 0 n)
+unfolding least
+least-none o n e = ap (λ (k : ℕ). least (entries-from o 0 k)) (sym e)
 
 -- the head's lines, then the entries'
-pub wrote-listing : {o a b c d e f : List ℕ} {p q r s t u : ℕ} (or rows : List ℕ) (n places least median : ℕ) → least ≡ floor (entries-from or 0 n)
-    → Wrote o a 0 p (line word-status 0) → Wrote a b p q (line word-entries n) → Wrote b c q r (line word-places places) → Wrote c d r s (line word-floor least)
+pub wrote-listing : {o a b c d e f : List ℕ} {p q r s t u : ℕ} (or rows : List ℕ) (n P places low median : ℕ) → low ≡ floor P (entries-from or 0 n)
+    → Wrote o a 0 p (line word-status 0) → Wrote a b p q (line word-entries n) → Wrote b c q r (line word-places places) → Wrote c d r s (line word-floor low)
     → Wrote d e s t (line word-median median) → Wrote e f t u (lines-from or rows 0 n)
-    → Wrote o f 0 u (listed or rows n places median)
+    → Wrote o f 0 u (listed or rows n P places median)
 unfolding listed
-wrote-listing {o} {f = f} {u = u} or rows n places least median h v w x y z l =
+wrote-listing {o} {f = f} {u = u} or rows n P places low median h v w x y z l =
     subst (λ (m : ℕ). Wrote o f 0 u (line word-status 0 ++ (line word-entries n ++ (line word-places places ++ (line word-floor m ++ (line word-median median ++ lines-from or rows 0 n)))))) h
     (wrote-then v (wrote-then w (wrote-then x (wrote-then y (wrote-then z l)))))
 

@@ -31,11 +31,11 @@ lines-from o rows i zero = []
 lines-from o rows i (suc n) = line-in o rows i ++ lines-from o rows (suc i) n
 
 -- the whole listing
-unfoldable pub listed : List ℕ → List ℕ → ℕ → ℕ → ℕ → List ℕ
-listed o rows n places median =
+unfoldable pub listed : List ℕ → List ℕ → ℕ → ℕ → ℕ → ℕ → List ℕ
+listed o rows n P places median =
     line word-status 0
     ++ (line word-entries n
-    ++ (line word-places places ++ (line word-floor (floor (entries-from o 0 n)) ++ (line word-median median ++ lines-from o rows 0 n))))
+    ++ (line word-places places ++ (line word-floor (floor P (entries-from o 0 n)) ++ (line word-median median ++ lines-from o rows 0 n))))
 
 -- the storage holds n entries, and the row of each
 pub record Ready (o rows : List ℕ) (n : ℕ) : Type 0 where

@@ -29,7 +29,7 @@ pub listing-is : (P N n : ℕ) (k : Model) (o rows : List ℕ)
     → entries-from o 0 n ≡ k .guide .order
     → ((r : ℕ) → r < N → written-at rows r ≡ getD (k .recorded .written) r 0)
     → ((j : ℕ) → j < n → entry-at o j .added < N)
-    → listed o rows n (k .recorded .places) (median (tally P (k .guide .order))) ≡ listing P k
+    → listed o rows n P (k .recorded .places) (median (tally P (k .guide .order))) ≡ listing P k
 unfolding listed listing
 listing-is P N n k o rows e w h =
     rw (lines-are o rows (k .recorded .written) N w 0 n (λ j a b. h j (omega arith)), e, ← e, length-entries o 0 n)

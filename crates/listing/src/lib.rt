@@ -2,7 +2,7 @@
 ghost use mathlib.Core.Path.{_≡_};
 ghost use Prim.Native.Nat.{_+_, _*_, _≤_, _<_, _^_};
 ghost use lib.ListN.{length};
-ghost use Rattle.rules.specs.Listing.{floor as Listing·floor, entry-line, rejection};
+ghost use Rattle.rules.specs.Listing.{least as Listing·least, floor as Listing·floor, entry-line, rejection};
 ghost use Rattle.entries.specs.Entries.{entry-of, fits};
 ghost use Rattle.writer.specs.Wrote.{Wrote};
 ghost use Rattle.listing.specs.Listed.{head-bytes, line-bytes, rejection-bytes, entries-from, lines-from, listed, Ready};
@@ -35,9 +35,9 @@ fn put_entries(order: &[u32], rows: &[u32], out: &mut [u8], at: usize, n: usize)
 }
 
 // The smallest parallelism of the first n entries, 0 where there are none.
-pub fn floor(order: &[u32], n: usize) -> u32
+fn least(order: &[u32], n: usize) -> u32
     requires { ⌜ fits (now order) n ⌝ }
-    ensures { λ r. ⌜ r ≡ Listing·floor (entries-from (now (order .entry)) 0 n) ⌝ }
+    ensures { λ r. ⌜ r ≡ Listing·least (entries-from (now (order .entry)) 0 n) ⌝ }
 {
     if n == 0 {
         return 0;
@@ -52,19 +52,36 @@ pub fn floor(order: &[u32], n: usize) -> u32
     least
 }
 
+// The smallest parallelism of those of the first n entries whose index plus p is at most n, 0 with no such entry: all count but the last
+// p - 1.
+fn floor(order: &[u32], n: usize, p: u32) -> u32
+    requires { ⌜ fits (now order) n ⌝ }
+    ensures { λ r. ⌜ r ≡ Listing·floor p (entries-from (now (order .entry)) 0 n) ⌝ }
+{
+    let p = p as usize;
+    if p < 2 {
+        return least(order, n);
+    }
+    if n < p {
+        return 0;
+    }
+    least(order, n - (p - 1))
+}
+
 // An accepted job's listing, from the start of `out` on.
 pub fn put_listing(
     order: &[u32],
     rows: &[u32],
     out: &mut [u8],
     n: usize,
+    p: u32,
     places: u32,
     median: u32,
 ) -> usize
     requires { ⌜ (Ready (now order) (now rows) n) × (head-bytes + line-bytes * n ≤ length (now out)) ⌝ }
-    ensures { λ r. ⌜ Wrote (now (out .entry)) (now (out .exit)) 0 r (listed (now (order .entry)) (now (rows .entry)) n places median) ⌝ }
+    ensures { λ r. ⌜ Wrote (now (out .entry)) (now (out .exit)) 0 r (listed (now (order .entry)) (now (rows .entry)) n p places median) ⌝ }
 {
-    let least = floor(order, n);
+    let least = floor(order, n, p);
     let a = writer::put_line(out, 0, b"status=", 0);
     let b = writer::put_line(out, a, b"entries=", n as u64);
     let c = writer::put_line(out, b, b"places=", places as u64);

@@ -15,6 +15,7 @@ use Rattle.entries.specs.Entries.{entry-at, entry-of, item-of}
 use Rattle.records.specs.Filled.{written-of}
 use Rattle.buffer.specs.View.{order-of}
 use Rattle.session.specs.Storage.{storage}
+use Rattle.jobturn.specs.declared.EndFigures.{EndFigures}
 use Rattle.session.specs.Shows.{Shows}
 use Rattle.session.specs.Showing.{shows}
 use Rattle.writer.specs.Wrote.{Wrote}
@@ -28,7 +29,7 @@ entry-is o i zero j h = absurd (omega arith)
 entry-is o i (suc n) zero h = let e : i ≡ i + 0 = omega arith in ap (λ (k : ℕ). entry-of (entry-at o k)) e
 entry-is o i (suc n) (suc j) h = let e : suc i + j ≡ i + suc j = omega arith in entry-is o (suc i) n j (omega arith) ∙ ap (λ (k : ℕ). entry-of (entry-at o k)) e
 
-module _ {P N W : ℕ} {k : Model} {o rs : List ℕ} {written places median : ℕ} (x : Shown P N W k o rs written places median) where
+module _ {P N W : ℕ} {k : Model} {o rs : List ℕ} {f : EndFigures} (x : Shown P N W k o rs f) where
   small : N ≤ most-places
   small = omega (arith, x .stands .rep .core .guided .v-is, x .stands .rep .core .guided .stands .small)
 
@@ -41,21 +42,21 @@ module _ {P N W : ℕ} {k : Model} {o rs : List ℕ} {written places median : �
   found : Shows P N k (x .session) (storage (x .spans) o (x .tally) rs (x .marks) (x .locations) (x .waiting) (x .pool))
   found = shows P N k (x .session) (storage (x .spans) o (x .tally) rs (x .marks) (x .locations) (x .waiting) (x .pool)) (x .stands .rep)
 
-  order-is : entries-from o 0 written ≡ k .guide .order
+  order-is : entries-from o 0 (f .written) ≡ k .guide .order
   unfolding order-of
   order-is = ap (entries-from o 0) (x .figures .written-is ∙ sym (found .written)) ∙ found .order
 
-  pub within : written ≤ N
+  pub within : f .written ≤ N
   within = omega (arith, x .figures .written-is, fits .room, fits .many)
 
-  known : (j : ℕ) → j < written → entry-at o j .added < N
+  known : (j : ℕ) → j < f .written → entry-at o j .added < N
   unfolding entry-of item-of
   known j h =
-      let e : nth k j ≡ entry-of (entry-at o j) = ap (λ (l : List Entry). getD l j no-written) (sym order-is) ∙ entry-is o 0 written j h ∙ ap (λ (i : ℕ). entry-of (entry-at o i)) (omega arith) in
+      let e : nth k j ≡ entry-of (entry-at o j) = ap (λ (l : List Entry). getD l j no-written) (sym order-is) ∙ entry-is o 0 (f .written) j h ∙ ap (λ (i : ℕ). entry-of (entry-at o i)) (omega arith) in
       let q : (nth k j) .item .added ≡ entry-at o j .added = ap (λ (y : Entry). y .item .added) e in
       omega (arith, q, fits .order-known j (omega (arith, x .figures .written-is)), fits .many)
 
-  pub ready : Ready o rs written
+  pub ready : Ready o rs (f .written)
   ready =
       let g = x .stands .rep .core in
       record {
@@ -64,12 +65,14 @@ module _ {P N W : ℕ} {k : Model} {o rs : List ℕ} {written places median : �
         row = λ i h. omega (arith, known i h, g .rowed .long);
       }
 
-  pub reported : {entry exit : List ℕ} {r : ℕ} → Wrote entry exit 0 r (listed o rs written places median) → Wrote entry exit 0 r (listing P k)
+  pub reported : {entry exit : List ℕ} {r : ℕ} → Wrote entry exit 0 r (listed o rs (f .written) (f .parallelism) (f .places) (f .median)) → Wrote entry exit 0 r (listing P k)
   unfolding row-of
   reported {entry} {exit} {r} w =
-      let f = x .figures in
-      let is : listed o rs written places median ≡ listing P k =
-      ap (λ (y : ℕ). listed o rs written y median) (f .places-is) ∙ ap (listed o rs written (k .recorded .places)) (f .median-is)
-      ∙ listing-is P N written k o rs order-is (written-of N rs (k .recorded .written) (k .guide .order) (x .stands .rep .core .rowed .rows)) known
+      let n : ℕ = f .written in
+      let told = x .figures in
+      let is : listed o rs n (f .parallelism) (f .places) (f .median) ≡ listing P k =
+      ap (λ (y : ℕ). listed o rs n y (f .places) (f .median)) (told .parallelism-is) ∙ ap (λ (y : ℕ). listed o rs n P y (f .median)) (told .places-is)
+      ∙ ap (listed o rs n P (k .recorded .places)) (told .median-is)
+      ∙ listing-is P N n k o rs order-is (written-of N rs (k .recorded .written) (k .guide .order) (x .stands .rep .core .rowed .rows)) known
       in
       subst (λ (y : List ℕ). Wrote entry exit 0 r y) is w

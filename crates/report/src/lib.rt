@@ -1,20 +1,18 @@
-// The listing of a session after final, from its storage and the numbers that final gave.
+// The listing of a session after final, from its storage and the numbers that its end tells.
 ghost use lib.ListN.{length};
 ghost use Rattle.report.specs.Report.{MayReport, Reports};
+use jobturn::EndFigures;
 
-// Writes the listing at the start of `text` and returns its length: `written` is the order's length, `places` what final fixed, `median`
-// that of its summary.
+// Writes the listing at the start of `text` and returns its length.
 pub fn report(
     order: &[u32],
     rows: &[u32],
     text: &mut [u8],
-    written: u32,
-    places: u32,
-    median: u32,
+    f: EndFigures,
 ) -> usize
-    requires { ⌜ MayReport (now order) (now rows) (length (now text)) written places median ⌝ }
-    ensures { λ r. ⌜ Reports (now (order .entry)) (now (rows .entry)) (now (text .entry)) (now (text .exit)) written places median r ⌝ }
+    requires { ⌜ MayReport (now order) (now rows) (length (now text)) f ⌝ }
+    ensures { λ r. ⌜ Reports (now (order .entry)) (now (rows .entry)) (now (text .entry)) (now (text .exit)) f r ⌝ }
 {
-    let n = written as usize;
-    listing::put_listing(order, rows, text, n, places, median)
+    let n = f.written as usize;
+    listing::put_listing(order, rows, text, n, f.parallelism, f.places, f.median)
 }

@@ -1,9 +1,10 @@
--- Document 01, the listing of a job, and the whole program and the host's call as definitions: job bytes to output bytes. Assumes nothing.
+-- Document 01, the listing of a job, its floor by document 02, and the whole program and the host's call as definitions: job bytes to
+-- output bytes. Assumes nothing.
 use mathlib.Core.List.{List, [], _∷_, _++_}
 use mathlib.Core.Bool.{true, false}
 use Prim.Native.Nat.{ℕ, zero, suc, _+_, _*_, _/_, _%_, min}
 use lib.ListN.{length, drop, getD}
-use lib.Dec.{ltb}
+use lib.Dec.{leb, ltb}
 use Rattle.rules.specs.Limits.{program-listing-bytes, reply-radix}
 use Rattle.rules.specs.Refusals as refusal
 use Rattle.rules.specs.Text.{bytes, newline, zero-digit}
@@ -62,11 +63,20 @@ field word n = word ++ decimal n
 unfoldable pub line : List ℕ → ℕ → List ℕ
 line word n = field word n ++ (newline ∷ [])
 
--- floor: the smallest parallelism in the order, 0 if it is empty
-unfoldable pub floor : List Entry → ℕ
-floor [] = 0
-floor (e ∷ []) = e .parallelism
-floor (e ∷ (f ∷ es)) = min (e .parallelism) (floor (f ∷ es))
+-- the smallest parallelism of some entries, 0 of none
+unfoldable pub least : List Entry → ℕ
+least [] = 0
+least (e ∷ []) = e .parallelism
+least (e ∷ (f ∷ es)) = min (e .parallelism) (least (f ∷ es))
+
+-- of the entries from index i on those whose index plus P is at most n
+unfoldable pub before-run-out : ℕ → ℕ → ℕ → List Entry → List Entry
+before-run-out P n i [] = []
+before-run-out P n i (e ∷ es) = elim (leb (i + P) n) [ true ↦ e ∷ before-run-out P n (suc i) es | false ↦ before-run-out P n (suc i) es ]
+
+-- floor (document 02, M-103): taken over those entries whose index plus P is at most the order's length; with no such entry it is 0
+unfoldable pub floor : ℕ → List Entry → ℕ
+floor P order = least (before-run-out P (length order) 0 order)
 
 -- an entry's line: its order index, added, accepted and parallelism, and its row's written
 unfoldable pub entry-line : ℕ → Entry → ℕ → List ℕ
@@ -86,7 +96,7 @@ listing P k =
     line word-status 0
     ++ (line word-entries (length (k .guide .order))
     ++ (line word-places (k .recorded .places)
-    ++ (line word-floor (floor (k .guide .order))
+    ++ (line word-floor (floor P (k .guide .order))
     ++ (line word-median (median (tally P (k .guide .order))) ++ entry-lines 0 (k .guide .order) (k .recorded .written)))))
 
 -- what a refused job prints

@@ -1,9 +1,11 @@
--- Document 01, J1: the job's listing byte for byte, and the empty job. Computed from the definitions.
+-- Document 01, J1: the job's listing byte for byte, and the empty job; document 02, M-103: floors of small orders. Computed from the
+-- definitions.
 use mathlib.Core.Path.{_≡_, refl}
-use mathlib.Core.List.{List, [], _++_}
-use Prim.Native.Nat.{ℕ}
+use mathlib.Core.List.{List, [], _∷_, _++_}
+use mathlib.Core.Option.{none}
+use Prim.Native.Nat.{ℕ, zero, suc}
 use Rattle.rules.specs.Text.{bytes}
-use Rattle.rules.specs.Guide.{parallelism, parallelism-by, last-parallelism, annotate, released, fresh, release, flush as flush-guide, seek, found, begin, choose, put}
+use Rattle.rules.specs.Guide.{Guide, Entry, parallelism, parallelism-by, last-parallelism, annotate, released, fresh, release, flush as flush-guide, seek, found, begin, choose, put}
 use Rattle.rules.specs.Guide.{settle, apply, place, tallied, tally}
 use Rattle.rules.specs.Model.{initial, member, marked, tracked, run-from, watermark, greatest, ready, loc-of, later, top, after, spotted, reg-of, place-one, due, left}
 use Rattle.rules.specs.Model.{queue, keep, push, off, rest, with-set, with-add, cascade, settle-all, do-set, do-add, with-record, note-add, note-flush, note-final}
@@ -13,7 +15,7 @@ use Rattle.rules.specs.Calls.{checks, answer, apply-call, unless-refused
 use Rattle.rules.specs.Summary.{sum, median-from, median}
 use Rattle.rules.specs.Job.{lines-from, lines, ragged, digits-from, leading-zero, in-64-bits, number, fields-from, both, numbers, list, after-key, with-number, with-list}
 use Rattle.rules.specs.Job.{whole, key-or, line-of, on-line, closing, run-lines, job-sizes, run-places, run-job, outcome}
-use Rattle.rules.specs.Listing.{digits, decimal, field, line, floor, entry-line, entry-lines, listing, rejection, fit, told, reply, printed, program}
+use Rattle.rules.specs.Listing.{digits, decimal, field, line, least, before-run-out, floor, entry-line, entry-lines, listing, rejection, fit, told, reply, printed, program}
 
 -- J1's job
 abbrev pub job-1 : List ℕ
@@ -29,7 +31,7 @@ job-1 =
 -- what it prints
 abbrev pub listing-1 : List ℕ
 listing-1 =
-    bytes "status=0\nentries=4\nplaces=5\nfloor=1\nmedian=2\n"
+    bytes "status=0\nentries=4\nplaces=5\nfloor=2\nmedian=2\n"
     ++ (bytes "order=0 added=0 accepted=0 parallelism=2 written=0\n"
     ++ (bytes "order=1 added=2 accepted=2 parallelism=2 written=0\n"
     ++ (bytes "order=2 added=1 accepted=1 parallelism=2 written=0\n"
@@ -45,10 +47,32 @@ unfolding parallelism parallelism-by last-parallelism annotate released fresh re
     do-add with-record note-add note-flush note-final with-flush do-flush do-final verdict any repeats written-by taken pooled check-range too-short check-open check-closed
     check-places check-set check-add check-flush check-final checks answer apply-call unless-refused step sum median-from median lines-from lines ragged digits-from leading-zero
     in-64-bits number fields-from both numbers list after-key with-number with-list whole key-or line-of on-line closing run-lines job-sizes run-places run-job outcome digits
-    decimal field line floor entry-line entry-lines listing rejection fit told reply printed program
+    decimal field line least before-run-out floor entry-line entry-lines listing rejection fit told reply printed program
 j1 = refl
 
 -- the empty job
 pub empty-job : program [] ≡ malformed-at-1
 unfolding lines-from lines ragged run-job outcome digits decimal field line rejection fit told reply printed program
 empty-job = refl
+
+-- n entries that read nothing, and a flush
+free : ℕ → ℕ → Guide → Guide
+free P zero g = flush-guide P g
+free P (suc n) g = free P n (place P none (record { value = 0; added = 0; accepted = 0 }) g .guide)
+
+-- J1's order tells neither where "at most" ends nor a floor of 0: with P = 3 an empty order, one entry, one fewer than P, as many as P, one
+-- more (3 3 2 1); with P = 1 two entries; with P = 4 six, a flush and six more (4 4 4 3 2 1 4 4 4 3 2 1), where the first six run out, too
+pub floors-got : List ℕ
+floors-got =
+    floor 3 []
+    ∷ floor 3 (free 3 1 fresh .order)
+    ∷ floor 3 (free 3 2 fresh .order)
+    ∷ floor 3 (free 3 3 fresh .order)
+    ∷ floor 3 (free 3 4 fresh .order)
+    ∷ floor 1 (free 1 2 fresh .order)
+    ∷ floor 4 (free 4 6 (free 4 6 fresh) .order)
+    ∷ []
+
+pub floors : floors-got ≡ 0 ∷ 0 ∷ 0 ∷ 3 ∷ 3 ∷ 1 ∷ 1 ∷ []
+unfolding floors-got free parallelism parallelism-by last-parallelism annotate released fresh release flush-guide seek found begin choose put settle apply place least before-run-out floor
+floors = refl

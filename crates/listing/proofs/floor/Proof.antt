@@ -1,92 +1,38 @@
--- The least so far with that of the entries left is the floor. Assumes nothing.
-use mathlib.Core.Logic.{⊎-elim}
-use mathlib.Core.Path.{_≡_, _∙_}
-use Prim.Native.Nat.{_-_, _≤_, _<_, _^_}
+-- The entries that count are the first n + 1 - p: all of them, none, or all but the last p - 1. Assumes nothing.
+use mathlib.Core.Path.{sym, _∙_}
+use Prim.Native.Nat.{_-_}
 use native.Mathlib.Omega.{arith}
-use Rattle.rules.specs.Listing.{floor}
-use Rattle.listing.specs.Listed.{entries-from}
-use Rattle.listing.specs.Lines.{least-of, floor-none, floor-begins, floor-less, floor-same, floor-ends}
+use Rattle.listing.specs.Floor.{floor-entries, floor-of-none}
 use borrow.Author.Needs.{needs}
 use Rattle.listing.proofs.floor.Statement.{statement}
 use Rattle.listing.proofs.floor.Tie as tie
 
-abbrev Inv-loop : tie.InvT-loop
-Inv-loop order n least₀ i₀ least i = (1 ≤ i) × ((i ≤ n) × ((least < 2 ^ 32) × (floor (entries-from order 0 n) ≡ least-of least (entries-from order i (n - i)))))
+least-requires : tie.Need-least-requires
+least-requires c κs = search needs
 
-abbrev μ-loop : tie.MeasureT-loop
-μ-loop order n least₀ i₀ least i = n - i
+returns : tie.Need-returns
+returns c =
+    let all = c .before in
+    let a = all .before .before .args in
+    c .least .ensures ∙ sym (floor-entries (a .order .now) (a .n) (a .p) (a .n) (omega (arith, all .if1 .taken)))
 
--- the start, from the test of n
-abbrev start : tie.Else1 Inv-loop μ-loop → tie.Start Inv-loop μ-loop
-start c = c .before .before
+returns-2 : tie.Need-returns-2
+returns-2 c = let a = c .before .before .before .args in sym (floor-of-none (a .order .now) (a .n) (a .p) (omega (arith, c .if2 .taken)))
 
-returns : tie.Need-returns Inv-loop μ-loop
-returns c = let a = c .before .before .args in floor-none (a .order .now) (a .n) (c .if1 .taken)
+sub-least : tie.Need-sub-least
+sub-least c = search needs
 
-parallelism-at-requires : tie.Need-parallelism-at-requires Inv-loop μ-loop
-parallelism-at-requires c κs = search needs
+sub-least-2 : tie.Need-sub-least-2
+sub-least-2 c = search needs
 
-loop-holds : tie.Need-loop-holds Inv-loop μ-loop
-loop-holds c =
-    let a = start (c .before) .args in
-    (omega arith, (omega arith, (omega (arith, c .parallelism-at .ok), rw (c .parallelism-at .ensures) (floor-begins (a .order .now) (a .n) (c .before .if1 .left)))))
+least-requires-2 : tie.Need-least-requires-2
+least-requires-2 c κs = search needs
 
-parallelism-at-requires-2 : tie.Need-parallelism-at-requires-2 Inv-loop μ-loop
-parallelism-at-requires-2 c κs = search needs
-
-add-i : tie.Need-add-i Inv-loop μ-loop
-add-i c = search needs
-
-loop-less : tie.Need-loop-less Inv-loop μ-loop
-loop-less c = search needs
-
-loop-again : tie.Need-loop-again Inv-loop μ-loop
-loop-again c =
-    let read = c .before in
-    let loop = read .before .before in
-    let a = start (loop .before .before) .args in
-    let i = loop .loop .i in
-    let p = read .parallelism-at2 in
-    ⊎-elim
-    (λ w. (
-      omega arith,
-      (
-        omega arith,
-        (
-          omega (arith, w, p .ok),
-          floor-less (a .order .now) (a .n) i (loop .loop .least) (c .if2 .least) _ (read .before .loop-test .taken) (loop .loop .inv .1 .1 .1) (rw (p .ensures) at (w .0 .taken)) (w .1 ∙ p .ensures),
-        ),
-      ),
-    ))
-    (λ w. (
-      omega arith,
-      (
-        omega arith,
-        (
-          omega (arith, w),
-          floor-same (a .order .now) (a .n) i (loop .loop .least) (c .if2 .least) _ (read .before .loop-test .taken) (loop .loop .inv .1 .1 .1) (rw (p .ensures) at (w .0 .left)) (w .1),
-        ),
-      ),
-    ))
-    (c .if2 .came)
-
-returns-2 : tie.Need-returns-2 Inv-loop μ-loop
-returns-2 c =
-    let loop = c .before in
-    let a = start (loop .before .before) .args in
-    floor-ends (a .order .now) (a .n) (loop .loop .i) (loop .loop .least) _ (c .loop-test .left) (loop .loop .inv .1 .1 .1)
+returns-3 : tie.Need-returns-3
+returns-3 c =
+    let rest = c .before in
+    let a = rest .before .before .before .args in
+    c .least2 .ensures ∙ sym (floor-entries (a .order .now) (a .n) (a .p) (a .n - (a .p - 1)) (omega (arith, rest .if2 .left, rest .before .if1 .left)))
 
 pub floor-spec : {M : Type 1} → statement M
-floor-spec =
-    tie.close
-    (tie.spec
-    Inv-loop
-    μ-loop
-    returns
-    parallelism-at-requires
-    loop-holds
-    parallelism-at-requires-2
-    add-i
-    loop-less
-    loop-again
-    returns-2)
+floor-spec = tie.close (tie.spec least-requires returns returns-2 sub-least sub-least-2 least-requires-2 returns-3)

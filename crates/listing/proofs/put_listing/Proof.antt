@@ -159,7 +159,7 @@ returns c =
     let after-put-line = after-put-line2 .before .before .before .before .before in
     let after-floor = after-put-line .before .before .before in
     let start = after-floor .before .before .before .before in
-    wrote-listing (start .args .order .now) (start .args .rows .now) (start .args .n) (start .args .places) (after-floor .floor .result)
+    wrote-listing (start .args .order .now) (start .args .rows .now) (start .args .n) (start .args .p) (start .args .places) (after-floor .floor .result)
     (start .args .median) (after-floor .floor .ensures) (after-put-line .put-line .ensures) (after-put-line2 .put-line2 .ensures)
     (after-put-line3 .put-line3 .ensures) (after-put-line4 .put-line4 .ensures) (after-put-line5 .put-line5 .ensures)
     (after-put-entries .put-entries .ensures)

@@ -1,0 +1,35 @@
+-- The floor from storage: of n entries the first n + 1 - P count, at most all of them. Assumes nothing.
+use mathlib.Core.List.{List, [], _∷_}
+use mathlib.Core.Path.{_≡_, refl, ap, _∙_}
+use Prim.Native.Nat.{ℕ, zero, suc, _+_, _-_, _<_, min}
+use native.Mathlib.Omega.{arith}
+use lib.ListN.{take}
+use Rattle.rules.specs.Guide.{Entry}
+use Rattle.rules.specs.Listing.{least, floor}
+use Rattle.laws.specs.Floor.{first-ones}
+use Rattle.entries.specs.Entries.{entry-at, entry-of}
+use Rattle.listing.specs.Listed.{entries-from}
+use Rattle.listing.specs.Model.{length-entries}
+
+-- k is how many there are of m
+entries-taken : (o : List ℕ) (i n m k : ℕ) → k ≡ min n m → take m (entries-from o i n) ≡ entries-from o i k
+entries-taken o i zero zero zero e = refl
+entries-taken o i zero (suc m) zero e = refl
+entries-taken o i (suc n) zero zero e = refl
+entries-taken o i (suc n) (suc m) zero e = absurd (omega arith)
+entries-taken o i (suc n) (suc m) (suc k) e = ap (λ (l : List Entry). entry-of (entry-at o i) ∷ l) (entries-taken o (suc i) n m k (omega arith))
+entries-taken o i zero zero (suc k) e = absurd (omega arith)
+entries-taken o i zero (suc m) (suc k) e = absurd (omega arith)
+entries-taken o i (suc n) zero (suc k) e = absurd (omega arith)
+
+pub floor-entries : (o : List ℕ) (n P k : ℕ) → k ≡ min n (n + 1 - P) → floor P (entries-from o 0 n) ≡ least (entries-from o 0 k)
+unfolding floor
+floor-entries o n P k e =
+    ap least
+    (first-ones P (entries-from o 0 n) ∙ ap (λ (x : ℕ). take (x + 1 - P) (entries-from o 0 n)) (length-entries o 0 n)
+    ∙ entries-taken o 0 n (n + 1 - P) k e)
+
+-- fewer than P: none counts
+pub floor-of-none : (o : List ℕ) (n P : ℕ) → n < P → floor P (entries-from o 0 n) ≡ 0
+unfolding least
+floor-of-none o n P h = floor-entries o n P 0 (omega arith)
