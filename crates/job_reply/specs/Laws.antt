@@ -37,7 +37,7 @@ replied-refused job bytes n code x {σ} {σ′} {a} {b} r e =
     record { is = sym q; bytes = sym (ap (λ (y : rule.Reply). rule.bytes-after y bytes) q); small = (r′ .low .0, omega (arith, r′ .low .1)) }
 
 -- a job that was finished, over order o and rows rs
-module _ (job : List ℕ) (figures : EndFigures) (x : End) (sp o t rs m l wa pool : List ℕ) {σ : Storage} {a b : List ℕ}
+module _ {job : List ℕ} {figures : EndFigures} {x : End} {sp o t rs m l wa pool : List ℕ} {σ : Storage} {a b : List ℕ}
     (r : Ran job x σ (storage sp o t rs m l wa pool) a b) (e : x ≡ end.Finished figures) where
   done : Closed job σ (storage sp o t rs m l wa pool) figures
   done = subst (λ (y : End). Ran job y σ (storage sp o t rs m l wa pool) a b) e r .tells

@@ -105,13 +105,7 @@ fn after_call(number: u64, line: u64, next: usize) -> Step
 }
 
 // After final with this number on `line`, where the job has `length` bytes and final's line ends before `next`: nothing may follow it.
-fn after_final(
-    number: u64,
-    line: u64,
-    next: usize,
-    length: usize,
-    figures: EndFigures,
-) -> Step
+fn after_final(number: u64, line: u64, next: usize, length: usize, figures: EndFigures) -> Step
     requires { ⌜ line + 1 < 2 ^ 64 ⌝ }
     ensures { λ r. ⌜ AfterFinal number line next length figures r ⌝ }
 {

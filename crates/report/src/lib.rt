@@ -4,12 +4,7 @@ ghost use Rattle.report.specs.Report.{MayReport, Reports};
 use jobturn::EndFigures;
 
 // Writes the listing at the start of `text` and returns its length.
-pub fn report(
-    order: &[u32],
-    rows: &[u32],
-    text: &mut [u8],
-    f: EndFigures,
-) -> usize
+pub fn report(order: &[u32], rows: &[u32], text: &mut [u8], f: EndFigures) -> usize
     requires { ⌜ MayReport (now order) (now rows) (length (now text)) f ⌝ }
     ensures { λ r. ⌜ Reports (now (order .entry)) (now (rows .entry)) (now (text .entry)) (now (text .exit)) f r ⌝ }
 {

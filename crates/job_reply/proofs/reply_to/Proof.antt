@@ -78,7 +78,7 @@ report-requires : tie.Need-report-requires
 report-requires c κs =
     let told = told c in
     let ran = ran (told .before .before) in
-    may-report (start ran .args .text .now) _ _ _ _ _ _ _ _ _ _ _ _ (ran .run .ensures) (told .end .given .1) _ (page-long) (ran .run .kept .1 .0 ∙ order-long)
+    may-report (ran .run .ensures) (told .end .given .1) _ page-long (ran .run .kept .1 .0 ∙ order-long)
 
 returns : tie.Need-returns
 returns c =
@@ -86,7 +86,7 @@ returns c =
     let told = told (reported .before) in
     let ran = ran (told .before .before) in
     let start = start ran in
-    replied-long (start .args .text .now) _ _ _ _ _ _ _ _ _ _ _ _ (ran .run .ensures) (told .end .given .1) _ _ _ (reported .report .kept .1 .1 .0 ∙ page-long)
+    replied-long (ran .run .ensures) (told .end .given .1) _ _ _ (reported .report .kept .1 .1 .0 ∙ page-long)
     (reported .report .ensures) (start .args .listing .now) (c .if1 .taken)
 
 slice-aggregate-copy : tie.Need-slice-aggregate-copy
@@ -98,9 +98,8 @@ copy-requires c κs =
     let reported = fits .before .before in
     let told = told (reported .before) in
     let ran = ran (told .before .before) in
-    let start = start ran in
     let long = reported .report .kept .1 .1 .0 ∙ page-long in
-    let low = n-low (start .args .text .now) _ _ _ _ _ _ _ _ _ _ _ _ (ran .run .ensures) (told .end .given .1) _ _ _ long (reported .report .ensures) in
+    let low = n-low (ran .run .ensures) (told .end .given .1) _ _ _ long (reported .report .ensures) in
     (omega (arith, fits .if1 .left), omega (arith, long, low))
 
 enum-known-end-2 : tie.Need-enum-known-end-2
@@ -117,7 +116,7 @@ returns-2 c =
     let told = told (reported .before) in
     let ran = ran (told .before .before) in
     let start = start ran in
-    replied-listed (start .args .text .now) _ _ _ _ _ _ _ _ _ _ _ _ (ran .run .ensures) (told .end .given .1) _ _ _ (reported .report .kept .1 .1 .0 ∙ page-long)
+    replied-listed (ran .run .ensures) (told .end .given .1) _ _ _ (reported .report .kept .1 .1 .0 ∙ page-long)
     (reported .report .ensures) (start .args .listing .now) _ (fits .if1 .left) (copied .copy .ensures) (copied .copy .kept .0)
 
 returns-3 : tie.Need-returns-3

@@ -7,7 +7,10 @@ use Rattle.report.proofs.report.Tie as tie
 
 -- the start, from the listing's call
 abbrev start : tie.After-put-listing-arg → tie.Start
-start c = c .before .before .before .before
+start c = let slices = c .before .before in slices .before .before .before
+
+cast-n : tie.Need-cast-n
+cast-n c = search needs
 
 put-listing-requires : tie.Need-put-listing-requires
 put-listing-requires c κs = let start = start c in (ready (start .pre .shown), omega (arith, within (start .pre .shown), start .pre .enough))
@@ -19,4 +22,4 @@ returns : tie.Need-returns
 returns c = λ P N W k x. reported x (c .before .before .put-listing .ensures)
 
 pub report-spec : {M : Type 1} → statement M
-report-spec = tie.close (tie.spec put-listing-requires same-length returns)
+report-spec = tie.close (tie.spec cast-n put-listing-requires same-length returns)
