@@ -63,6 +63,7 @@ impl Calls {
 }
 
 pub struct Sorter {
+    parallelism: usize,
     sorter: LiveRecordingResolverSorter<Element, Config, NullRecordWriter>,
     common: Arc<ResolverCommonData<Element, GuideLoc>>,
 }
@@ -79,7 +80,7 @@ impl Sorter {
         });
         let (sorter, common) =
             LiveRecordingResolverSorter::new((options, NullRecordWriter()), comms, &[]);
-        Self { sorter, common }
+        Self { parallelism: parallelism as usize, sorter, common }
     }
 
     pub fn run(&mut self, calls: &Calls) {
@@ -121,9 +122,9 @@ impl Sorter {
         }
     }
 
-    /// After the final: tells the order's length, the places as final fixed them, the smallest
-    /// parallelism and the median, and then of each entry its added, accepted and parallelism and its
-    /// row's written.
+    /// After the final: tells the order's length, the places as final fixed them, the floor and the
+    /// median, and then of each entry its added, accepted and parallelism and its row's written. The
+    /// Rust knows no floor: it is taken from the order, over all entries but the last parallelism - 1.
     pub fn tell(
         &mut self,
         head: impl FnOnce(usize, usize, u32, usize),
@@ -135,7 +136,8 @@ impl Sorter {
         let record = self.sorter.retrieve_sequence();
         let order = self.common.exec_order.lock().unwrap();
         let items = &order.items[..order.size];
-        let floor = items.iter().map(|item| item.metadata.parallelism()).min().unwrap_or(0);
+        let counted = &items[..(items.len() + 1).saturating_sub(self.parallelism)];
+        let floor = counted.iter().map(|item| item.metadata.parallelism()).min().unwrap_or(0);
         head(items.len(), record.values_count, floor as u32, median);
         for item in items {
             let metadata = item.metadata;

@@ -9,6 +9,10 @@
 //!
 //! A program's status, the length and digest of what it printed, and how many bytes it said on standard error; of each
 //! call what it returned and the digest of all that was lent, with what lies around it. A digest is FNV-1a of 64 bits.
+//!
+//! Where ANSWERS_WITHOUT is KEY, the line that begins with KEY= is left out of every listing, and of a listing's length too:
+//! what is returned is 64 times what is left, the digest of what is lent is that of what is left and of whether all else
+//! is as it was, and LENT is `all`, `enough`, `fewer` or `none`, since a length would tell of the line.
 
 #[path = "../../hosts/rust/src/sys.rs"]
 #[allow(dead_code)]
@@ -83,11 +87,14 @@ fn main() {
     let [file, program, seed, jobs, bytes, paths @ ..] = &words[..] else {
         fail("FILE PROGRAM SEED JOBS BYTES PATH..");
     };
+    let without = std::env::var("ANSWERS_WITHOUT").ok();
+    let key = without.as_deref();
     let mut lines = Vec::new();
     let all = all_sources(number(seed), number(jobs), number(bytes), paths);
     for Source { name, jobs } in &all {
         for (i, (job, lent)) in jobs.iter().enumerate() {
-            let answers = [printed(program, job), run(job, *lent), needed(job)].join(" ");
+            let run = key.map_or_else(|| run(job, *lent), |key| run_without(job, key));
+            let answers = [printed(program, job, key), run, needed(job)].join(" ");
             writeln!(lines, "{name} {i} job {} {} {answers}", job.len(), digest(job)).expect("room");
         }
     }
@@ -148,23 +155,29 @@ fn digest(bytes: &[u8]) -> String {
     format!("{:016x}", bytes.iter().fold(0xcbf2_9ce4_8422_2325, step))
 }
 
+/// What is left of a listing without the line that begins with KEY=.
+fn left(text: &[u8], key: &str) -> Vec<u8> {
+    let keep = |line: &&[u8]| !line.strip_prefix(key.as_bytes()).is_some_and(|rest| rest.starts_with(b"="));
+    text.split_inclusive(|&byte| byte == 10).filter(keep).flatten().copied().collect()
+}
+
 /// By the program.
-fn printed(program: &str, job: &[u8]) -> String {
+fn printed(program: &str, job: &[u8], key: Option<&str>) -> String {
     fs::write(ASKED, job).unwrap_or_else(|error| fail(&format!("{ASKED}: {error}")));
     let input = File::open(ASKED).unwrap_or_else(|error| fail(&format!("{ASKED}: {error}")));
     let done = Command::new(program).stdin(input).output();
     let done = done.unwrap_or_else(|error| fail(&format!("{program}: {error}")));
     let status = done.status.code().map_or("none".to_owned(), |code| code.to_string());
-    format!("program {status} {} {} {}", done.stdout.len(), digest(&done.stdout), done.stderr.len())
+    let text = key.map_or_else(|| done.stdout.clone(), |key| left(&done.stdout, key));
+    format!("program {status} {} {} {}", text.len(), digest(&text), done.stderr.len())
 }
 
 /// By `order_job`, with listing bytes for all of a listing, as many as are given, just enough, one fewer and none.
 fn run(job: &[u8], lent: usize) -> String {
     let mut lents = vec![model::LISTING_BYTES, lent, 0];
-    let returned = archives::job(job, &mut [0; model::LISTING_BYTES]);
-    if returned % 64 == 0 {
-        let length = (returned / 64) as usize;
-        lents.extend([length, length.saturating_sub(1)]);
+    let length = listing_length(archives::job(job, &mut [0; model::LISTING_BYTES]));
+    if length > 0 {
+        lents.extend([length, length - 1]);
     }
     lents.sort_unstable();
     lents.dedup();
@@ -173,9 +186,38 @@ fn run(job: &[u8], lent: usize) -> String {
 }
 
 fn run_lent(job: &[u8], lent: usize) -> String {
+    let (returned, bytes) = asked(job, lent);
+    format!("{lent} {returned} {}", digest(&bytes))
+}
+
+/// What `order_job` returns, and what is lent to it with what lies around.
+fn asked(job: &[u8], lent: usize) -> (u64, Vec<u8>) {
     let mut bytes = vec![PATTERN; AROUND + lent + AROUND];
     let returned = archives::job(job, &mut bytes[AROUND..AROUND + lent]);
-    format!("{lent} {returned} {}", digest(&bytes))
+    (returned, bytes)
+}
+
+/// By `order_job`, of listings without a line.
+fn run_without(job: &[u8], key: &str) -> String {
+    let length = listing_length(asked(job, model::LISTING_BYTES).0);
+    let lents = [("all", model::LISTING_BYTES), ("enough", length), ("fewer", length.saturating_sub(1)), ("none", 0)];
+    let answer = |(name, lent)| {
+        let (returned, bytes) = asked(job, lent);
+        let end = AROUND + listing_length(returned);
+        let text = left(&bytes[AROUND..end], key);
+        let untouched = bytes[..AROUND].iter().chain(&bytes[end..]).all(|&byte| byte == PATTERN);
+        let line = (end - AROUND - text.len()) as u64;
+        format!("{name} {} {} {untouched}", returned - 64 * line, digest(&text))
+    };
+    format!("host {}", lents.map(answer).join(" "))
+}
+
+/// The length of the listing, 0 where the job is refused.
+fn listing_length(returned: u64) -> usize {
+    match returned % 64 {
+        0 => (returned / 64) as usize,
+        _ => 0,
+    }
 }
 
 /// By `job_needs`.

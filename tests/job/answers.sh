@@ -5,7 +5,8 @@
 #
 #   tests/job/answers.sh FILE
 #
-# JOB_SEED chooses the random jobs (default 1). ANSWERS_TARGET names the target/ of another checkout, whose archives and
+# JOB_SEED chooses the random jobs (default 1). ANSWERS_WITHOUT=KEY leaves the line KEY= out of every listing, for a change
+# that is about this line: the files then show that nothing else has changed. ANSWERS_TARGET names the target/ of another checkout, whose archives and
 # program are asked about the jobs of this one, and are taken as they are.
 set -euo pipefail
 trap 'echo "$0: line $LINENO ended with $?" >&2' ERR
@@ -26,14 +27,16 @@ fi
 rustc --edition 2021 -O -D warnings -C link-arg="$target/staticlib/libhost.a" \
   -C link-arg="$target/staticlib/libjobneeds.a" -o $work/answers tests/job/answers.rs
 
-# The hand-worked jobs, those for the call too; importing the first prints its own.
+# The hand-worked jobs, those for the call and for the floor too; importing the first prints its own.
 python3 -B - >$work/hand-worked.cases <<'PYTHON'
 import sys
 sys.path.insert(0, "tests/needs")
 from hand_worked import escaped, worked
-for _, job, *_ in worked.HOSTS:
+for _, job, *_ in worked.HOSTS + worked.FLOORS:
     print(f"job {escaped(job)}")
 PYTHON
-$work/answers "$file" "$target/bin/order" "${JOB_SEED:-1}" 4000 20000 $work/hand-worked.cases crates/order/stdin \
+tests/reference/build.sh
+target/reference/reference floors >$work/floors.cases
+$work/answers "$file" "$target/bin/order" "${JOB_SEED:-1}" 4000 20000 $work/hand-worked.cases $work/floors.cases crates/order/stdin \
   docs/example.job examples/*.job examples/refused/*.job >$work/answers.log
 tail -n 1 $work/answers.log

@@ -44,11 +44,18 @@ python3 tests/reference/check.py jobs $work/random.cases $order
 python3 tests/reference/check.py host $work/host
 python3 tests/reference/check.py host $work/random.cases $work/host
 
-# The same random jobs' listings, made from the oracle's dump.
+# The floor: worked out by hand, and of orders around the lengths P and 2P, with flushes around the last entry that counts.
+$reference floors >$work/floors.cases
+python3 tests/reference/check.py floors $order
+python3 tests/reference/check.py jobs $work/floors.cases $order
+python3 tests/reference/check.py host $work/floors.cases $work/host
+
+# The same jobs' listings, made from the oracle's dump.
 at_hand=$(oracle/at_hand.sh)
 if [ $at_hand = yes ]; then
   oracle/build.sh
   python3 tests/reference/listings.py $work/random.cases target/oracle/oracle
+  python3 tests/reference/listings.py $work/floors.cases target/oracle/oracle
 else
   echo "job: NOT compared with the Rust"
 fi

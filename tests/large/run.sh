@@ -51,7 +51,9 @@ large=target/cargo/release/order-large
 reference=target/reference/reference
 tests/reference/build.sh
 $reference jobs "$LARGE_SEED" 200 >$work/random.cases
-python3 tests/large/compare.py order $large target/bin/order $work/random.cases
+$reference floors >$work/floors.cases
+python3 tests/large/compare.py order $large target/bin/order $work/random.cases $work/floors.cases
+python3 tests/reference/check.py floors $large
 
 # Jobs of thousands of places, of each kind that the benchmark has.
 rustc --edition 2021 -O --allow dead_code -o $work/jobtext bench/driver/jobtext.rs
@@ -81,7 +83,7 @@ fi
 
 # The greatest session, from a pipe; and a long job on a terminal.
 printf '%s\n' parallelism=64999 places=16777216 set=16777215 in= out=0 final=1 | $large >$work/greatest
-diff $work/greatest <(printf '%s\n' status=0 entries=1 places=1 floor=1 median=1 \
+diff $work/greatest <(printf '%s\n' status=0 entries=1 places=1 floor=0 median=1 \
   'order=0 added=0 accepted=0 parallelism=1 written=1') || fail "the greatest session"
 $work/jobtext independent 1000 1100000 0 >$work/long.job
 python3 tests/large/compare.py terminal $large $work/long.job

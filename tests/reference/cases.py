@@ -3,9 +3,10 @@ docs/DECISIONS.md settles them. Each has a sentence, what is fed, and what must 
 
 RUNS are call lists in the format of oracle/FORMAT.md with the refusals expected: the number of each
 call that is refused, calls counted from 0; the key "open" stands for the opening. JOBS are jobs with
-the program's output. HOSTS are jobs with the lent listing length and the number returned. PLACEMENTS
-are the figures of document 01 ("Placements worked through") for the runs of that name in the kept
-sample oracle/sample/placements.txt: the answer line, its first tuples to skip, and what follows.
+the program's output. FLOORS are jobs with the floor of their listing. HOSTS are jobs with the lent
+listing length and the number returned. PLACEMENTS are the figures of document 01 ("Placements worked
+through") for the runs of that name in the kept sample oracle/sample/placements.txt: the answer line,
+its first tuples to skip, and what follows.
 """
 
 FLAGGED = 1 << 62
@@ -114,7 +115,7 @@ HEAD = ("parallelism=2", "places=6")
 EMPTY = lines("status=0", "entries=0", "places=0", "floor=0", "median=0")
 J1 = lines(*HEAD, "set=0", "in=0", "out=1", "in=1", "out=2", "in=0", "out=3", "in=", "out=4", "final=1")
 J1_LISTING = lines(
-    "status=0", "entries=4", "places=5", "floor=1", "median=2",
+    "status=0", "entries=4", "places=5", "floor=2", "median=2",
     "order=0 added=0 accepted=0 parallelism=2 written=0",
     "order=1 added=2 accepted=2 parallelism=2 written=0",
     "order=2 added=1 accepted=1 parallelism=2 written=0",
@@ -197,9 +198,18 @@ JOBS = [
     ("9", lines("parallelism=1", "places=1", "in=", "out=", "in=", "out=", "final=1"), refused(9, 6)),
     ("8 before 9", lines("parallelism=1", "places=1", "in=", "out=0", "in=", "out=0", "final=1"), refused(8, 6)),
     ("the pool just full", body("set=0", "in=" + many(0, 4096), "out=", "in=", "out=", "final=1"),
-     lines("status=0", "entries=2", "places=1", "floor=1", "median=1",
+     lines("status=0", "entries=2", "places=1", "floor=2", "median=1",
            "order=0 added=0 accepted=0 parallelism=2 written=0",
            "order=1 added=1 accepted=1 parallelism=1 written=2")),
+    ("fewer entries than P: no floor", lines("parallelism=3", "places=6", "in=", "out=", "in=", "out=", "final=1"),
+     lines("status=0", "entries=2", "places=0", "floor=0", "median=1",
+           "order=0 added=0 accepted=0 parallelism=2 written=0",
+           "order=1 added=1 accepted=1 parallelism=1 written=2")),
+    ("as many entries as P: the first one's", lines("parallelism=3", "places=6", *["in=", "out="] * 3, "final=1"),
+     lines("status=0", "entries=3", "places=0", "floor=3", "median=2",
+           "order=0 added=0 accepted=0 parallelism=3 written=0",
+           "order=1 added=1 accepted=1 parallelism=2 written=0",
+           "order=2 added=2 accepted=2 parallelism=1 written=3")),
     ("10", body("set=0", "in=" + many(0, 4097), "out=", "final=1"), refused(10, 5)),
     ("10 by the second add", body("set=0", "in=" + many(0, 4096), "out=", "in=", "out=1", "final=1"), refused(10, 7)),
     ("12", body("in=0", "out=", "final=1"), refused(12, 5)),
@@ -216,6 +226,44 @@ JOBS = [
     ("65,537 bytes", FULL + b"x", refused(16, 1)),
     ("16 before all else", b"x" * 65537, refused(16, 1)),
     ("65,536 bytes without a line", b"x" * 65536, refused(15, 1)),
+]
+
+
+
+def opened(p, *calls):
+    """A job with P = p and room for 512 places."""
+    return lines(f"parallelism={p}", "places=512", *calls, "final=1")
+
+
+def free(count, first=0):
+    """Registrations that read nothing, each with a place of its own."""
+    return [line for place in range(first, first + count) for line in ("in=", f"out={place}")]
+
+
+def chain(count):
+    """Each registration but the first reads what the one before it wrote."""
+    return [line for place in range(count) for line in (f"in={place - 1 if place else ''}", f"out={place}")]
+
+
+# Document 02, M-103: the floor is taken over those entries whose index plus P is at most the order's length.
+FLOORS = [
+    ("an empty order", opened(3), 0),
+    ("an empty order with P = 1", opened(1, "set=0", "flush=1"), 0),
+    ("P = 1, one entry: it counts", opened(1, *free(1)), 1),
+    ("P = 1, five entries", opened(1, *free(5)), 1),
+    ("P = 2, one entry: fewer than P", opened(2, *free(1)), 0),
+    ("P = 3, two entries: fewer than P", opened(3, *free(2)), 0),
+    ("P = 3, as long as P: 3 2 1, of which the first counts", opened(3, *free(3)), 3),
+    ("P = 3, one more: 3 3 2 1, of which two count", opened(3, *free(4)), 3),
+    ("P = 64, 63 entries", opened(64, *free(63)), 0),
+    ("P = 64, 64 entries", opened(64, *free(64)), 64),
+    ("P = 64, 200 entries", opened(64, *free(200)), 64),
+    ("P = 2, a chain of 40", opened(2, *chain(40)), 1),
+    ("P = 3, a chain of 2", opened(3, *chain(2)), 0),
+    ("P = 4, six, a flush, six: 4 4 4 3 2 1 4 4 4 3 2 1, of which nine count", opened(4, *free(6), "flush=1", *free(6, 6)), 1),
+    ("P = 4, six, a flush, three: 4 4 4 3 2 1 3 2 1, of which six count", opened(4, *free(6), "flush=1", *free(3, 6)), 1),
+    ("P = 4, six, a flush, two: 4 4 4 3 2 1 2 1, of which five count", opened(4, *free(6), "flush=1", *free(2, 6)), 2),
+    ("P = 4, six, a flush, one: 4 4 4 3 2 1 1, of which four count", opened(4, *free(6), "flush=1", *free(1, 6)), 3),
 ]
 
 HOSTS = [

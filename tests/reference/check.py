@@ -5,6 +5,7 @@
     check.py placements              the kept sample has the figures that document 01 works through
     check.py runs COMMAND..          the command answers runs, as `reference runs` does
     check.py jobs [FILE] COMMAND..   the command reads a job and prints what the program prints
+    check.py floors COMMAND..        the command reads a job and prints a listing with the floor that is told
     check.py host [FILE] COMMAND..   the command, given the listing length as its last argument, reads
                                      a job and prints the returned number on a line, then the listing
 
@@ -98,6 +99,12 @@ def check_jobs(path, command):
             yield sentence, out, ask(command, job)
 
 
+def check_floors(command):
+    for sentence, job, floor in cases.FLOORS:
+        answer = ask(command, job).splitlines()
+        yield sentence, [b"floor=%d" % floor], [line for line in answer if line.startswith(b"floor=")]
+
+
 def check_host(path, command):
     """A refused job's number leaves the listing empty; an accepted one's is 64 times its length."""
     if path:
@@ -122,6 +129,7 @@ def main():
         "placements": check_placements,
         "runs": lambda: check_runs(command),
         "jobs": lambda: check_jobs(path, command),
+        "floors": lambda: check_floors(command),
         "host": lambda: check_host(path, command),
     }
     if kind not in checks:

@@ -24,14 +24,18 @@ pub fn cases(seed: u64, count: u64, sink: &mut dyn FnMut(&[u8])) {
             true => LISTING_BYTES,
             false => out.len().saturating_sub(numbers.below(3) as usize) + 1,
         };
-        let (returned, _) = host(&job, lent);
-        let text = format!(
-            "job {}\nout {}\nhost {lent} {returned}\n",
-            escaped(&job),
-            escaped(&out)
-        );
-        sink(text.as_bytes());
+        sink(case(&job, &out, lent).as_bytes());
     }
+}
+
+/// The three lines of a case.
+pub fn case(job: &[u8], out: &[u8], lent: usize) -> String {
+    let (returned, _) = host(job, lent);
+    format!(
+        "job {}\nout {}\nhost {lent} {returned}\n",
+        escaped(job),
+        escaped(out)
+    )
 }
 
 fn escaped(bytes: &[u8]) -> String {

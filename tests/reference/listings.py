@@ -40,12 +40,16 @@ def run_of(job):
     return "\n".join(run + ["end"]) + "\n"
 
 
-def listing_of(answers):
-    """The listing by the oracle's answers."""
+def parallelism_of(job):
+    return int(job.partition("\n")[0].partition("=")[2])
+
+
+def listing_of(p, answers):
+    """The listing by the oracle's answers; the floor, which the Rust does not know, by its order."""
     order = [tuple(map(int, entry.split(","))) for entry in answers["order"].split()]
     rows = [tuple(map(int, row.split(","))) for row in answers["rows"].split()]
     places = answers["final"].split()[1]
-    floor = min((entry[3] for entry in order), default=0)
+    floor = min((entry[3] for index, entry in enumerate(order) if index + p <= len(order)), default=0)
     lines = ["status=0", f"entries={len(order)}", f"places={places}", f"floor={floor}"]
     lines.append(f"median={answers['median']}")
     for index, (value, added, accepted, parallelism) in enumerate(order):
@@ -67,7 +71,7 @@ def main():
     answers, listings = {}, []
     for line in done.stdout.splitlines():
         if line == "end":
-            listings.append(listing_of(answers))
+            listings.append(listing_of(parallelism_of(jobs[len(listings)][0]), answers))
             answers = {}
         elif line.startswith("= "):
             word, _, rest = line[2:].partition(" ")

@@ -10,9 +10,11 @@
 //!                               random runs, KIND session, guide, session-refused, guide-refused
 //!   reference exhaustive KIND   all short runs, KIND session or guide
 //!   reference jobs SEED COUNT   jobs with the model's answers (jobs.rs says how they look)
+//!   reference floors            jobs by which floors are told apart, with the model's answers (floors.rs)
 //!
 //! Status 2 and a message on standard error: a malformed line or a wrong use.
 
+mod floors;
 mod generate;
 mod jobs;
 mod model;
@@ -41,8 +43,9 @@ fn main() {
         ["jobs", seed, count] => {
             jobs::cases(plain(seed), plain(count), &mut |case| put(&mut out, case))
         }
+        ["floors"] => floors::cases(&mut |case| put(&mut out, case)),
         ["exhaustive", kind] => generate::exhaustive(kind, &mut |run| put(&mut out, run)),
-        _ => fail("use: runs | job | host LENT | needs | random KIND SEED COUNT | exhaustive KIND | jobs SEED COUNT"),
+        _ => fail("use: runs | job | host LENT | needs | random KIND SEED COUNT | exhaustive KIND | jobs SEED COUNT | floors"),
     }
     let _ = out.flush();
 }

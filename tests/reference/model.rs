@@ -871,17 +871,22 @@ fn numbers(text: &[u8]) -> Option<Vec<u64>> {
     text.split(|&byte| byte == b',').map(number).collect()
 }
 
-fn list(session: &Session, summary: &Summary) -> Vec<u8> {
+/// The smallest parallelism among the entries whose index plus P is at most the order's length, 0 with
+/// no such entry (document 02, M-103).
+fn floor(window: &Window) -> u64 {
+    let length = window.order.len() as u64;
+    let counted = (0..).zip(&window.order).filter(|(index, _)| index + window.parallelism <= length);
+    counted.map(|(_, entry)| entry.parallelism).min().unwrap_or(0)
+}
+
+/// The listing of a session after its final.
+pub fn list(session: &Session, summary: &Summary) -> Vec<u8> {
     let order = &session.window.order;
-    let floor = order
-        .iter()
-        .map(|entry| entry.parallelism)
-        .min()
-        .unwrap_or(0);
     let mut text = format!(
-        "status=0\nentries={}\nplaces={}\nfloor={floor}\nmedian={}\n",
+        "status=0\nentries={}\nplaces={}\nfloor={}\nmedian={}\n",
         order.len(),
         session.leading,
+        floor(&session.window),
         summary.median
     );
     for (index, entry) in order.iter().enumerate() {

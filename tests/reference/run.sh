@@ -22,6 +22,7 @@ echo "model: the kept sample's sessions and guides: no difference"
 python3 tests/reference/check.py placements
 python3 tests/reference/check.py runs $reference runs
 python3 tests/reference/check.py jobs $reference job
+python3 tests/reference/check.py floors $reference job
 python3 tests/reference/check.py host $reference host
 
 at_hand=$(oracle/at_hand.sh)

@@ -281,9 +281,25 @@ impl<'a> Replayed<'a> {
         &self.storage.tally
     }
 
-    /// The smallest parallelism in the order, 0 if it is empty.
+    /// The smallest parallelism among the entries whose index plus p is at most the order's length, 0
+    /// where there is none. These are all entries but the last p - 1, in which final lets an order taper to 1.
+    ///
+    /// ```
+    /// use witness_order::{replay, Calls, Storage};
+    ///
+    /// # fn main() -> Result<(), Box<dyn std::error::Error>> {
+    /// // Four that read nothing: their parallelisms are 3, 3, 2 and 1, and two of them count.
+    /// let calls = (0..4).fold(Calls::new(), |calls, place| calls.add(&[], &[place])).finish();
+    /// let mut storage = Storage::new(3, 6, calls.list_numbers())?;
+    /// assert_eq!(replay(&mut storage, &calls)?.floor(), 3);
+    /// # Ok(())
+    /// # }
+    /// ```
     pub fn floor(&self) -> u32 {
+        // Storage has a p of at least 1, so that these are never more than there are.
+        let counted = (self.length + 1).saturating_sub(self.storage.p as usize);
         self.entries()
+            .take(counted)
             .map(|entry| entry.parallelism)
             .min()
             .unwrap_or(0)

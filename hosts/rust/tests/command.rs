@@ -49,7 +49,7 @@ fn a_job_from_standard_input_or_a_file() {
     let (status, listing, said) = run(&[], J1);
     assert_eq!((status, said.as_str()), (0, ""));
     assert!(
-        listing.starts_with("status=0\nentries=4\nplaces=5\nfloor=1\nmedian=2\norder=0 added=0 ")
+        listing.starts_with("status=0\nentries=4\nplaces=5\nfloor=2\nmedian=2\norder=0 added=0 ")
     );
     for arguments in [
         &["-"][..],

@@ -8,7 +8,7 @@ const J1_LISTING: &str = "\
 status=0
 entries=4
 places=5
-floor=1
+floor=2
 median=2
 order=0 added=0 accepted=0 parallelism=2 written=0
 order=1 added=2 accepted=2 parallelism=2 written=0

@@ -304,27 +304,12 @@ fn thousands_of_places_beside_the_model() {
     let summary = session
         .final_flush()
         .unwrap_or_else(|code| panic!("final is refused with {code}"));
-    let order = &session.window.order;
-    let floor = order
-        .iter()
-        .map(|entry| entry.parallelism)
-        .min()
-        .unwrap_or(0);
-    let mut wanted = format!(
-        "status=0\nentries={}\nplaces={v}\nfloor={floor}\nmedian={}\n",
-        order.len(),
-        summary.median
-    );
-    for (i, e) in order.iter().enumerate() {
-        let written = session.rows[e.added as usize].written;
-        wanted += &format!(
-            "order={i} added={} accepted={} parallelism={} written={written}\n",
-            e.added, e.accepted, e.parallelism
-        );
-    }
     let (listing, verdict) = run((text + "final=1\n").as_bytes(), &Options::default());
     assert_eq!(verdict, Ok(()));
-    assert!(listing == wanted.as_bytes(), "the listings differ");
+    assert!(
+        listing == model::list(&session, &summary),
+        "the listings differ"
+    );
 }
 
 #[test]

@@ -37,7 +37,7 @@ fn j1_has_the_order_of_document_01() {
         (3, 3, 3, 1, 4),
     ];
     assert_eq!(numbers.collect::<Vec<_>>(), wanted);
-    assert_eq!((done.len(), done.floor(), done.leading_places()), (4, 1, 5));
+    assert_eq!((done.len(), done.floor(), done.leading_places()), (4, 2, 5));
     assert_eq!(done.tally(), [0, 1, 3]);
 
     let rows: Vec<_> = done.rows().collect();
