@@ -1,11 +1,11 @@
 -- The floor from storage: of n entries the first n + 1 - P count, at most all of them. Assumes nothing.
 use mathlib.Core.List.{List, _∷_}
-use mathlib.Core.Path.{_≡_, refl, ap, _∙_}
+use mathlib.Core.Path.{_≡_, refl, sym, ap, _∙_}
 use Prim.Native.Nat.{ℕ, zero, suc, _+_, _-_, _<_, min}
 use native.Mathlib.Omega.{arith}
-use lib.ListN.{take}
+use lib.ListN.{length, take}
 use Rattle.rules.specs.Guide.{Entry}
-use Rattle.rules.specs.Listing.{least, floor}
+use Rattle.rules.specs.Listing.{least, before-run-out, floor}
 use Rattle.laws.specs.Floor.{first-ones}
 use Rattle.entries.specs.Entries.{entry-at, entry-of}
 use Rattle.listing.specs.Listed.{entries-from}
@@ -22,14 +22,17 @@ entries-taken o i zero zero (suc k) e = absurd (omega arith)
 entries-taken o i zero (suc m) (suc k) e = absurd (omega arith)
 entries-taken o i (suc n) zero (suc k) e = absurd (omega arith)
 
-pub floor-entries : (o : List ℕ) (n P k : ℕ) → k ≡ min n (n + 1 - P) → floor P (entries-from o 0 n) ≡ least (entries-from o 0 k)
+-- the smallest of those that count is the floor
+pub floor-entries : (o : List ℕ) (n P k x : ℕ) → x ≡ least (entries-from o 0 k) → k ≡ min n (n + 1 - P) → x ≡ floor P (entries-from o 0 n)
 unfolding floor
-floor-entries o n P k e =
-    ap least
-    (first-ones P (entries-from o 0 n) ∙ ap (λ (x : ℕ). take (x + 1 - P) (entries-from o 0 n)) (length-entries o 0 n)
-    ∙ entries-taken o 0 n (n + 1 - P) k e)
+floor-entries o n P k x h e =
+    let counted : before-run-out P (length (entries-from o 0 n)) 0 (entries-from o 0 n) ≡ entries-from o 0 k =
+    first-ones P (entries-from o 0 n) ∙ ap (λ (m : ℕ). take (m + 1 - P) (entries-from o 0 n)) (length-entries o 0 n)
+    ∙ entries-taken o 0 n (n + 1 - P) k e
+    in
+    h ∙ ap least (sym counted)
 
 -- fewer than P: none counts
-pub floor-of-none : (o : List ℕ) (n P : ℕ) → n < P → floor P (entries-from o 0 n) ≡ 0
+pub floor-of-none : (o : List ℕ) (n P : ℕ) → n < P → 0 ≡ floor P (entries-from o 0 n)
 unfolding least
-floor-of-none o n P h = floor-entries o n P 0 (omega arith)
+floor-of-none o n P h = floor-entries o n P 0 0 refl (omega arith)

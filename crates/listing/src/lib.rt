@@ -53,19 +53,19 @@ fn least(order: &[u32], n: usize) -> u32
 }
 
 // The smallest parallelism of those of the first n entries whose index plus p is at most n, 0 with no such entry: all count but the last
-// p - 1.
+// p - 1, and with p = 0 all.
 fn floor(order: &[u32], n: usize, p: u32) -> u32
     requires { ⌜ fits (now order) n ⌝ }
     ensures { λ r. ⌜ r ≡ Listing·floor p (entries-from (now (order .entry)) 0 n) ⌝ }
 {
     let p = p as usize;
-    if p < 2 {
+    if p == 0 {
         return least(order, n);
     }
     if n < p {
         return 0;
     }
-    least(order, n - (p - 1))
+    least(order, n - p + 1)
 }
 
 // An accepted job's listing, from the start of `out` on.

@@ -1,6 +1,5 @@
 -- The entries that count are the first n + 1 - p: all of them, none, or all but the last p - 1. Assumes nothing.
-use mathlib.Core.Path.{sym, _∙_}
-use Prim.Native.Nat.{_-_}
+use Prim.Native.Nat.{_+_, _-_}
 use native.Mathlib.Omega.{arith}
 use Rattle.listing.specs.Floor.{floor-entries, floor-of-none}
 use borrow.Author.Needs.{needs}
@@ -14,16 +13,13 @@ returns : tie.Need-returns
 returns c =
     let all = c .before in
     let a = all .before .before .args in
-    c .least .ensures ∙ sym (floor-entries (a .order .now) (a .n) (a .p) (a .n) (omega (arith, all .if1 .taken)))
+    floor-entries _ (a .n) (a .p) (a .n) _ (c .least .ensures) (omega (arith, all .if1 .taken))
 
 returns-2 : tie.Need-returns-2
-returns-2 c = let a = c .before .before .before .args in sym (floor-of-none (a .order .now) (a .n) (a .p) (omega (arith, c .if2 .taken)))
+returns-2 c = let a = c .before .before .before .args in floor-of-none _ (a .n) (a .p) (omega (arith, c .if2 .taken))
 
-sub-least : tie.Need-sub-least
-sub-least c = search needs
-
-sub-least-2 : tie.Need-sub-least-2
-sub-least-2 c = search needs
+add-least : tie.Need-add-least
+add-least c = search needs
 
 least-requires-2 : tie.Need-least-requires-2
 least-requires-2 c κs = search needs
@@ -32,7 +28,7 @@ returns-3 : tie.Need-returns-3
 returns-3 c =
     let rest = c .before in
     let a = rest .before .before .before .args in
-    c .least2 .ensures ∙ sym (floor-entries (a .order .now) (a .n) (a .p) (a .n - (a .p - 1)) (omega (arith, rest .if2 .left, rest .before .if1 .left)))
+    floor-entries _ (a .n) (a .p) (a .n - a .p + 1) _ (c .least2 .ensures) (omega (arith, rest .if2 .left, rest .before .if1 .left))
 
 pub floor-spec : {M : Type 1} → statement M
-floor-spec = tie.close (tie.spec least-requires returns returns-2 sub-least sub-least-2 least-requires-2 returns-3)
+floor-spec = tie.close (tie.spec least-requires returns returns-2 add-least least-requires-2 returns-3)
