@@ -74,7 +74,9 @@ def statements(lines, indent=0, parameters=""):
         if not words or words[0] in NO_BLOCK:
             continue
         if words[0] == "module":
-            yield from statements(group[1:], indent + 2, parameters + group[0].strip() + "\n")
+            count = 1 + next((at for at, line in enumerate(group) if line.rstrip().endswith("where")), 0)
+            head = " ".join(line.strip() for line in group[:count])
+            yield from statements(group[count:], indent + 2, parameters + head + "\n")
         elif words[0] == "unfolding":
             waiting += group
         else:

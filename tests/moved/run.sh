@@ -19,6 +19,11 @@ double n = n + n
 module _ (n : ℕ) where
   pub even : Even (double n)
   even = evidence
+
+module _ (m : ℕ)
+    (small : m ≤ 9) where
+  pub low : double m ≤ 18
+  low = evidence
 TEXT
 cat >crates/toy/src/lib.rt <<'TEXT'
 pub fn twice(x: u32) -> u32
@@ -48,7 +53,7 @@ TEXT
 echo 'proof' >crates/toy/proofs/twice/Proof.antt
 echo 'edit' >crates/toy/must-fail/thrice.edit
 git init -q . && commit before
-sed -i 's/-- a comment/-- another/; s/(n : ℕ)/(n : ℕ) (h : n ≤ 9)/' crates/toy/specs/Toy.antt
+sed -i 's/-- a comment/-- another/; s/(n : ℕ)/(n : ℕ) (h : n ≤ 9)/; s/m ≤ 9/m ≤ 8/' crates/toy/specs/Toy.antt
 sed -i 's/x ≤ 9/x ≤ 8/; s/^    x$/    x + 0/' crates/toy/src/lib.rt
 git mv crates/toy/must-fail/thrice.edit crates/toy/must-fail/never.edit
 # two functions go to another crate, one of them with another promise
@@ -61,8 +66,8 @@ cat >expected <<'TEXT'
 | | before | stayed | in another crate | moved | new | gone |
 |---|---:|---:|---:|---:|---:|---:|
 | definition | 1 | 1 | 0 | 0 | 0 | 0 |
-| law | 1 | 0 | 0 | 1 | 0 | 0 |
-| law proof | 1 | 1 | 0 | 0 | 0 | 0 |
+| law | 2 | 0 | 0 | 2 | 0 | 0 |
+| law proof | 2 | 2 | 0 | 0 | 0 | 0 |
 | promise | 4 | 1 | 1 | 2 | 0 | 0 |
 | code | 4 | 1 | 1 | 2 | 0 | 0 |
 | proof | 1 | 1 | 0 | 0 | 0 | 0 |
@@ -70,7 +75,7 @@ cat >expected <<'TEXT'
 
 50 % of the promises stayed.
 
-law, moved: toy: even
+law, moved: toy: even, low
 
 promise, in another crate: toy: wide
 
