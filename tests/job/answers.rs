@@ -10,9 +10,10 @@
 //! A program's status, the length and digest of what it printed, and how many bytes it said on standard error; of each
 //! call what it returned and the digest of all that was lent, with what lies around it. A digest is FNV-1a of 64 bits.
 //!
-//! Where ANSWERS_WITHOUT is KEY, the line that begins with KEY= is left out of every listing, and of a listing's length too:
-//! what is returned is 64 times what is left, the digest of what is lent is that of what is left and of whether all else
-//! is as it was, and LENT is `all`, `enough`, `fewer` or `none`, since a length would tell of the line.
+//! Where ANSWERS_WITHOUT is KEY, the line that begins with KEY= is left out of every listing, and of its length in what is
+//! printed and returned. `order_job` has then LENT RETURNED DIGEST UNTOUCHED for each call: LENT is `all`, `enough`, `fewer`
+//! or `none`, since a length would tell of the line; DIGEST is that of what is left; UNTOUCHED says whether all else that
+//! is lent, and what lies around it, is as it was.
 
 #[path = "../../hosts/rust/src/sys.rs"]
 #[allow(dead_code)]

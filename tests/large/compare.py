@@ -3,7 +3,8 @@
 listings down for a comparison with the Rust.
 
     compare.py order LARGE ORDER [FILE.cases..]   on the hand-worked jobs, on the jobs (*.job) of the
-                                  repository, and on those of files that `reference jobs` wrote
+                                  repository, and on those of files that `reference jobs` or
+                                  `reference floors` wrote
     compare.py cases LARGE FILE.job..    prints the jobs with order-large's answers, as `reference jobs`
                                   would, for tests/reference/listings.py
     compare.py terminal LARGE FILE.job   progress is shown on a terminal, and only there

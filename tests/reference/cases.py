@@ -229,7 +229,6 @@ JOBS = [
 ]
 
 
-
 def opened(p, *calls):
     """A job with P = p and room for 512 places."""
     return lines(f"parallelism={p}", "places=512", *calls, "final=1")

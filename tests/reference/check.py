@@ -1,11 +1,11 @@
 #!/usr/bin/env python3
 """Holds a command to the hand-worked cases (cases.py), or to a file of cases that
-`reference jobs` wrote.
+`reference jobs` or `reference floors` wrote.
 
     check.py placements              the kept sample has the figures that document 01 works through
     check.py runs COMMAND..          the command answers runs, as `reference runs` does
     check.py jobs [FILE] COMMAND..   the command reads a job and prints what the program prints
-    check.py floors COMMAND..        the command reads a job and prints a listing with the floor that is told
+    check.py floors COMMAND..        the command reads a job and prints a listing with the floor of cases.FLOORS
     check.py host [FILE] COMMAND..   the command, given the listing length as its last argument, reads
                                      a job and prints the returned number on a line, then the listing
 

@@ -1,6 +1,7 @@
 #!/usr/bin/env python3
-"""Holds the listings of accepted jobs to the Rust: from a file of cases that `reference jobs` wrote,
-each accepted job is put to the oracle as a session, and a listing is made of the oracle's answers.
+"""Holds the listings of accepted jobs to the Rust: from a file of cases that `reference jobs` or
+`reference floors` wrote, each accepted job is put to the oracle as a session, and a listing is made of
+the oracle's answers.
 
     listings.py FILE ORACLE
 """

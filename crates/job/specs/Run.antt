@@ -67,7 +67,7 @@ pub record MayRun (s : Session) (σ : Storage) (job : List ℕ) (room start : �
   pub half : length job ≤ 2 * room
   pub short : length job ≤ most-job-bytes
 
--- the outcome that an end tells, the model being k, and that its numbers are the model's
+-- the outcome that an end tells, the model being k, and that its numbers are P and the model's
 abbrev pub outcome-as : End → ℕ → Model → Outcome
 outcome-as (end.Rejected n code) P k = rejected n code
 outcome-as (end.Finished f) P k = finished P k

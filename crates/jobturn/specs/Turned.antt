@@ -79,8 +79,7 @@ pub record Surplus (P N W : ℕ) (k : Model) (s′ : Session) (σ′ : Storage) 
   pub number : code ≡ refusal.malformed
   pub is : o ≡ (rejected m code, step P N W calls.final k)
 
--- the numbers that the end of a job tells are its own: P, and of its model the order's length, the places that final fixed and the median of
--- its summary
+-- the numbers that the end of a job tells: P, and of its model the order's length, the places that final fixed and the median of its summary
 pub record FiguresOf (P : ℕ) (k : Model) (f : EndFigures) : Type 0 where
   pub parallelism-is : f .parallelism ≡ P
   pub written-is : f .written ≡ length (k .guide .order)

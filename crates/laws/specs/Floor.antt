@@ -1,6 +1,7 @@
 -- The floor of an order (document 02, M-103). The entries whose index plus P is at most the order's length are its first length + 1 - P,
--- at most all of them (`first-ones`); the floor is the parallelism of one of them, and none of them has a smaller one (`floor-is`). With
--- that nothing else is meant (`floor-only`). After every list of calls it is 0 where the order has fewer than P entries, else from 1 to P.
+-- at most all of them (`first-ones`). The floor is the parallelism of one of them, and none of them has a smaller one; where there is none
+-- it is 0 (`floor-is`), and no other number is so (`floor-only`). After every list of calls it is 0 where the order has fewer than P
+-- entries, else from 1 to P (`floor-of-calls`).
 -- Assumes nothing.
 use mathlib.Core.Path.{_≡_, refl, sym, ap, _∙_}
 use mathlib.Core.List.{List, [], _∷_}

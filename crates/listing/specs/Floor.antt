@@ -11,7 +11,7 @@ use Rattle.entries.specs.Entries.{entry-at, entry-of}
 use Rattle.listing.specs.Listed.{entries-from}
 use Rattle.listing.specs.Model.{length-entries}
 
--- k is how many there are of m
+-- of n entries the first m are k entries, the smaller of the two numbers
 entries-taken : (o : List ℕ) (i n m k : ℕ) → k ≡ min n m → take m (entries-from o i n) ≡ entries-from o i k
 entries-taken o i zero zero zero e = refl
 entries-taken o i zero (suc m) zero e = refl

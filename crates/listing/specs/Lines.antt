@@ -1,4 +1,5 @@
--- Laws of writing a listing: an entry's line by its fields, the lines one after another, the smallest parallelism, the floor, the head. Assumes nothing.
+-- Laws of writing a listing: an entry's line by its fields, the lines one after another, the smallest parallelism, the head; those of the
+-- floor are in Floor. Assumes nothing.
 use mathlib.Core.List.{List, [], _∷_, _++_, append-assoc, append-nil}
 use mathlib.Core.Path.{_≡_, refl, sym, ap, _∙_, subst}
 use Prim.Native.Nat.{ℕ, suc, _+_, _-_, _*_, _≤_, _<_, min}

@@ -81,11 +81,11 @@ pub fn put_listing(
     requires { ⌜ (Ready (now order) (now rows) n) × (head-bytes + line-bytes * n ≤ length (now out)) ⌝ }
     ensures { λ r. ⌜ Wrote (now (out .entry)) (now (out .exit)) 0 r (listed (now (order .entry)) (now (rows .entry)) n p places median) ⌝ }
 {
-    let least = floor(order, n, p);
+    let low = floor(order, n, p);
     let a = writer::put_line(out, 0, b"status=", 0);
     let b = writer::put_line(out, a, b"entries=", n as u64);
     let c = writer::put_line(out, b, b"places=", places as u64);
-    let d = writer::put_line(out, c, b"floor=", least as u64);
+    let d = writer::put_line(out, c, b"floor=", low as u64);
     let e = writer::put_line(out, d, b"median=", median as u64);
     put_entries(order, rows, out, e, n)
 }

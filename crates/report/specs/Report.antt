@@ -10,7 +10,7 @@ use Rattle.jobturn.specs.declared.EndFigures.{EndFigures}
 use Rattle.writer.specs.Wrote.{Wrote}
 use Rattle.listing.specs.Listed.{head-bytes, line-bytes}
 
--- order and rows are those of a session that stands for the model k, and the other numbers are the model's
+-- order and rows are those of a session that stands for the model k, and f has P and the model's numbers
 pub record Shown (P N W : ℕ) (k : Model) (order rows : List ℕ) (f : EndFigures) : Type 0 where
   pub session : Session
   pub spans : List ℕ

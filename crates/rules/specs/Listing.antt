@@ -69,7 +69,7 @@ least [] = 0
 least (e ∷ []) = e .parallelism
 least (e ∷ (f ∷ es)) = min (e .parallelism) (least (f ∷ es))
 
--- of the entries from index i on those whose index plus P is at most n
+-- of the entries from index i on, those whose index plus P is at most n
 unfoldable pub before-run-out : ℕ → ℕ → ℕ → List Entry → List Entry
 before-run-out P n i [] = []
 before-run-out P n i (e ∷ es) = elim (leb (i + P) n) [ true ↦ e ∷ before-run-out P n (suc i) es | false ↦ before-run-out P n (suc i) es ]

@@ -60,8 +60,8 @@ free : ℕ → ℕ → Guide → Guide
 free P zero g = flush-guide P g
 free P (suc n) g = free P n (place P none (record { value = 0; added = 0; accepted = 0 }) g .guide)
 
--- J1's order tells neither where "at most" ends nor a floor of 0: with P = 3 an empty order, one entry, one fewer than P, as many as P, one
--- more (3 3 2 1); with P = 1 two entries; with P = 4 six, a flush and six more (4 4 4 3 2 1 4 4 4 3 2 1), where the first six run out, too
+-- J1 cannot tell "at most" from "less than", and its floor is not 0. So: with P = 3 an empty order, one entry, one fewer than P, as many as P,
+-- one more (3 3 2 1); with P = 1 two entries; with P = 4 six, a flush and six more (4 4 4 3 2 1 4 4 4 3 2 1), where the first six run out, too
 pub floors-got : List ℕ
 floors-got =
     floor 3 []

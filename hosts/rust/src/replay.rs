@@ -282,7 +282,8 @@ impl<'a> Replayed<'a> {
     }
 
     /// The smallest parallelism among the entries whose index plus p is at most the order's length, 0
-    /// where there is none. These are all entries but the last p - 1, in which final lets an order taper to 1.
+    /// where there is none. These are all entries but the last p - 1, in which final lets an order
+    /// taper to 1.
     ///
     /// ```
     /// use witness_order::{replay, Calls, Storage};
@@ -296,7 +297,6 @@ impl<'a> Replayed<'a> {
     /// # }
     /// ```
     pub fn floor(&self) -> u32 {
-        // Storage has a p of at least 1, so that these are never more than there are.
         let counted = (self.length + 1).saturating_sub(self.storage.p as usize);
         self.entries()
             .take(counted)
