@@ -37,6 +37,6 @@ for _, job, *_ in worked.HOSTS + worked.FLOORS:
 PYTHON
 tests/reference/build.sh
 target/reference/reference floors >$work/floors.cases
-$work/answers "$file" "$target/bin/order" "${JOB_SEED:-1}" 4000 20000 $work/hand-worked.cases $work/floors.cases crates/order/stdin \
-  docs/example.job examples/*.job examples/refused/*.job >$work/answers.log
+$work/answers "$file" "$target/bin/order" "${JOB_SEED:-1}" 4000 20000 $work/hand-worked.cases $work/floors.cases \
+  crates/order/stdin docs/example.job examples/*.job examples/refused/*.job >$work/answers.log
 tail -n 1 $work/answers.log

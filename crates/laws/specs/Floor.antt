@@ -10,7 +10,7 @@ use mathlib.Core.Logic.{_⊎_, inl, inr}
 use Prim.Native.Nat.{ℕ, zero, suc, _+_, _-_, _≤_, _<_}
 use native.Mathlib.Omega.{arith}
 use lib.ListN.{length, take, getD, length-take}
-use lib.Seq.{getD-take}
+use lib.Seq.{take-nil, getD-take}
 use lib.Dec.{leb}
 use borrow.Author.Tests.{leb-true, leb-false}
 use Rattle.rules.specs.Guide.{Entry}
@@ -32,11 +32,7 @@ none-after P n i (e ∷ es) h = go (leb (i + P) n) refl (none-after P n (suc i) 
 
 first-from : (P n i : ℕ) (es : List Entry) → before-run-out P n i es ≡ take (n + 1 - P - i) es
 unfolding before-run-out
-first-from P n i [] = go (n + 1 - P - i)
-  where
-    go : (m : ℕ) → _≡_ {A = List Entry} [] (take m [])
-    go zero = refl
-    go (suc m) = refl
+first-from P n i [] = sym (take-nil (n + 1 - P - i))
 first-from P n i (e ∷ es) = go (leb (i + P) n) refl (first-from P n (suc i) es)
   where
     go : (t : Bool) → leb (i + P) n ≡ t → before-run-out P n (suc i) es ≡ take (n + 1 - P - suc i) es → before-run-out P n i (e ∷ es) ≡ take (n + 1 - P - i) (e ∷ es)
@@ -92,20 +88,21 @@ pub record IsFloor (P : ℕ) (order : List Entry) (f : ℕ) : Type 0 where
   pub one : HasOne P order f
 
 module _ (P : ℕ) (order : List Entry) where
-  abbrev few : ℕ
-  few = length order + 1 - P
+  -- so many from the first on count, or all where there are fewer
+  abbrev counted : ℕ
+  counted = length order + 1 - P
 
   abbrev firsts : List Entry
-  firsts = take few order
+  firsts = take counted order
 
   counts-in : (j : ℕ) → Counts P order j → j < length firsts
-  counts-in j c = omega (arith, length-take few order, c .0, c .1)
+  counts-in j c = omega (arith, length-take counted order, c .0, c .1)
 
   in-counts : (j : ℕ) → j < length firsts → Counts P order j
-  in-counts j h = (omega (arith, length-take few order), omega (arith, length-take few order))
+  in-counts j h = (omega (arith, length-take counted order), omega (arith, length-take counted order))
 
   same-at : (j : ℕ) → j < length firsts → parallelism-at firsts j ≡ parallelism-at order j
-  same-at j h = ap (λ (e : Entry). e .parallelism) (getD-take few order j no-written (omega (arith, length-take few order)))
+  same-at j h = ap (λ (e : Entry). e .parallelism) (getD-take counted order j no-written (omega (arith, length-take counted order)))
 
   least-is : (l : List Entry) → firsts ≡ l → IsFloor P order (least l)
   unfolding least

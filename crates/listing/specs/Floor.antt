@@ -4,6 +4,7 @@ use mathlib.Core.Path.{_≡_, refl, sym, ap, _∙_}
 use Prim.Native.Nat.{ℕ, zero, suc, _+_, _-_, _<_, min}
 use native.Mathlib.Omega.{arith}
 use lib.ListN.{length, take}
+use lib.Seq.{take-nil}
 use Rattle.rules.specs.Guide.{Entry}
 use Rattle.rules.specs.Listing.{least, before-run-out, floor}
 use Rattle.laws.specs.Floor.{first-ones}
@@ -13,14 +14,12 @@ use Rattle.listing.specs.Model.{length-entries}
 
 -- of n entries the first m are k entries, the smaller of the two numbers
 entries-taken : (o : List ℕ) (i n m k : ℕ) → k ≡ min n m → take m (entries-from o i n) ≡ entries-from o i k
-entries-taken o i zero zero zero e = refl
-entries-taken o i zero (suc m) zero e = refl
+entries-taken o i zero m zero e = take-nil m
+entries-taken o i zero m (suc k) e = absurd (omega arith)
 entries-taken o i (suc n) zero zero e = refl
+entries-taken o i (suc n) zero (suc k) e = absurd (omega arith)
 entries-taken o i (suc n) (suc m) zero e = absurd (omega arith)
 entries-taken o i (suc n) (suc m) (suc k) e = ap (λ (l : List Entry). entry-of (entry-at o i) ∷ l) (entries-taken o (suc i) n m k (omega arith))
-entries-taken o i zero zero (suc k) e = absurd (omega arith)
-entries-taken o i zero (suc m) (suc k) e = absurd (omega arith)
-entries-taken o i (suc n) zero (suc k) e = absurd (omega arith)
 
 -- the smallest of those that count is the floor
 pub floor-entries : (o : List ℕ) (n P k x : ℕ) → x ≡ least (entries-from o 0 k) → k ≡ min n (n + 1 - P) → x ≡ floor P (entries-from o 0 n)

@@ -7,7 +7,7 @@ use Rattle.report.proofs.report.Tie as tie
 
 -- the start, from the listing's call
 abbrev start : tie.After-put-listing-arg → tie.Start
-start c = let slices = c .before .before in slices .before .before .before
+start c = c .before .before .before .before .before
 
 cast-n : tie.Need-cast-n
 cast-n c = search needs
