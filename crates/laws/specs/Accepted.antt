@@ -7,9 +7,9 @@ use mathlib.Core.Bool.{Bool, true, false, _||_, false≢true}
 use Prim.Native.Nat.{ℕ, _+_, _≤_, _<_}
 use native.Mathlib.Omega.{arith}
 use lib.ListN.{length}
-use lib.Dec.{leb, ltb}
-use borrow.Author.Tests.{ltb-false, leb-false, ne-eqb}
-use Rattle.rules.specs.Limits.{most-in-a-list, most-flushes}
+use lib.Dec.{leb, ltb, eqb}
+use borrow.Author.Tests.{ltb-false, leb-false, eqb-false, ne-eqb}
+use Rattle.rules.specs.Limits.{most-lane, most-in-a-list, most-flushes, reply-radix}
 use Rattle.rules.specs.Refusals as refusal
 use Rattle.rules.specs.Model.{Model}
 use Rattle.rules.specs.Calls.{Call, set, add, flush, final, checks, answer, unless-refused}
@@ -66,8 +66,9 @@ pub record SetPassed (N x : ℕ) (k : Model) : Type 0 where
   pub inside : x < N
   pub free : taken k x ≡ false
 
-pub record AddPassed (N W : ℕ) (ins outs : List ℕ) (k : Model) : Type 0 where
+pub record AddPassed (N W lane : ℕ) (ins outs : List ℕ) (k : Model) : Type 0 where
   pub not-closed : k .closed ≡ false
+  pub lane-few : lane ≤ most-lane
   pub ins-few : length ins ≤ most-in-a-list
   pub outs-few : length outs ≤ most-in-a-list
   pub ins-inside : (i : ℕ) → In i ins → i < N
@@ -95,11 +96,12 @@ set-passed N W x k h =
     let d = verdict-head _ _ (c .1) (omega arith) in
     record { not-closed = a .0; inside = leb-false N x (any-false (λ y. leb N y) (x ∷ []) x (c .0) (List·Memᴰ·head refl)); free = d .0 }
 
-pub add-passed : (N W : ℕ) (ins outs : List ℕ) (k : Model) → answer N W (add ins outs) k ≡ 0 → AddPassed N W ins outs k
+pub add-passed : (N W lane : ℕ) (ins outs : List ℕ) (k : Model) → answer N W (add lane ins outs) k ≡ 0 → AddPassed N W lane ins outs k
 unfolding answer checks check-set check-add check-flush check-final check-closed check-places
-add-passed N W ins outs k h =
+add-passed N W lane ins outs k h =
     let a = verdict-head _ _ h (omega arith) in
-    let b = verdict-head _ _ (a .1) (omega arith) in
+    let l = verdict-head _ _ (a .1) (omega arith) in
+    let b = verdict-head _ _ (l .1) (omega arith) in
     let c = verdict-head _ _ (b .1) (omega arith) in
     let d = verdict-head _ _ (c .1) (omega arith) in
     let e = verdict-head _ _ (d .1) (omega arith) in
@@ -108,6 +110,7 @@ add-passed N W ins outs k h =
     let m = verdict-head _ _ (g .1) (omega arith) in
     record {
       not-closed = a .0;
+      lane-few = ltb-false most-lane lane (l .0);
       ins-few = ltb-false most-in-a-list (length ins) (or-false (ltb most-in-a-list (length ins)) (ltb most-in-a-list (length outs)) (b .0) .0);
       outs-few = ltb-false most-in-a-list (length outs) (or-false (ltb most-in-a-list (length ins)) (ltb most-in-a-list (length outs)) (b .0) .1);
       ins-inside = λ i y. leb-false N i (any-false (λ x. leb N x) (ins ++ outs) i (d .0) (Memᴰ·append-left outs y));
@@ -132,31 +135,39 @@ final-passed N W k h =
     let b = verdict-head _ _ (a .1) (omega arith) in
     record { not-closed = a .0; none = omega (arith, ltb-false 0 (length (k .pending)) (b .0)) }
 
--- no call and no opening is refused with a number of a job's text, of which 15 is the least
-verdict-code : (c : Check) (cs : List Check) → c .number < refusal.malformed → verdict cs < refusal.malformed → verdict (c ∷ cs) < refusal.malformed
-unfolding verdict
-verdict-code c cs h i = go (bool-cases (c .fails))
+-- a call or an opening is refused with a number below the radix of a host's number, and with none of a job's text
+abbrev pub CallCode : ℕ → Type 0
+CallCode n = (n < reply-radix) × (n ≢ refusal.malformed) × (n ≢ refusal.long-job)
+
+other-code : ℕ → Bool
+other-code n = leb reply-radix n || (eqb n refusal.malformed || eqb n refusal.long-job)
+
+-- where no check of a list has another number
+verdict-code : (cs : List Check) → any (λ c. other-code (c .number)) cs ≡ false → CallCode (verdict cs)
+unfolding verdict any other-code
+verdict-code [] h = (omega arith, omega arith, omega arith)
+verdict-code (c ∷ cs) h = go (bool-cases (c .fails)) (verdict-code cs (rest .1))
   where
-    go : (c .fails ≡ true) ⊎ (c .fails ≡ false) → verdict (c ∷ cs) < refusal.malformed
-    go (inl e) = rw (verdict, e) h
-    go (inr e) = rw (verdict, e) i
+    rest : (other-code (c .number) ≡ false) × (any (λ d. other-code (d .number)) cs ≡ false)
+    rest = or-false (other-code (c .number)) (any (λ d. other-code (d .number)) cs) h
 
-none-code : verdict [] < refusal.malformed
-unfolding verdict
-none-code = omega arith
+    own : CallCode (c .number)
+    own =
+        let a = or-false (leb reply-radix (c .number)) (eqb (c .number) refusal.malformed || eqb (c .number) refusal.long-job) (rest .0) in
+        let b = or-false (eqb (c .number) refusal.malformed) (eqb (c .number) refusal.long-job) (a .1) in
+        (leb-false reply-radix (c .number) (a .0), eqb-false (c .number) refusal.malformed (b .0), eqb-false (c .number) refusal.long-job (b .1))
 
-pub call-code : (N W : ℕ) (c : Call) (k : Model) → answer N W c k < refusal.malformed
-unfolding answer checks check-set check-add check-flush check-final check-closed check-places
-call-code N W (set x) k = verdict-code _ _ (omega arith) (verdict-code _ _ (omega arith) (verdict-code _ _ (omega arith) (verdict-code _ _ (omega arith) none-code)))
-call-code N W (add ins outs) k =
-    verdict-code _ _ (omega arith)
-    (verdict-code _ _ (omega arith)
-    (verdict-code _ _ (omega arith)
-    (verdict-code _ _ (omega arith)
-    (verdict-code _ _ (omega arith) (verdict-code _ _ (omega arith) (verdict-code _ _ (omega arith) (verdict-code _ _ (omega arith) none-code)))))))
-call-code N W flush k = verdict-code _ _ (omega arith) (verdict-code _ _ (omega arith) none-code)
-call-code N W final k = verdict-code _ _ (omega arith) (verdict-code _ _ (omega arith) none-code)
+    go : (c .fails ≡ true) ⊎ (c .fails ≡ false) → CallCode (verdict cs) → CallCode (verdict (c ∷ cs))
+    go (inl e) f = rw (verdict, e) own
+    go (inr e) f = rw (verdict, e) f
 
-pub open-code : (P N : ℕ) (s : Sizes) → verdict (check-open P N s) < refusal.malformed
-unfolding check-open check-range
-open-code P N s = verdict-code _ _ (omega arith) (verdict-code _ _ (omega arith) (verdict-code _ _ (omega arith) none-code))
+pub call-code : (N W : ℕ) (c : Call) (k : Model) → CallCode (answer N W c k)
+unfolding answer checks check-set check-add check-flush check-final check-closed check-places any other-code
+call-code N W (set x) k = verdict-code _ refl
+call-code N W (add lane ins outs) k = verdict-code _ refl
+call-code N W flush k = verdict-code _ refl
+call-code N W final k = verdict-code _ refl
+
+pub open-code : (P N : ℕ) (s : Sizes) → CallCode (verdict (check-open P N s))
+unfolding check-open check-range any other-code
+open-code P N s = verdict-code _ refl

@@ -98,8 +98,8 @@ module _ (P N W : ℕ) (hP : 1 ≤ P) where
       record {
         placing = λ c r st k l v p. same-apart k (rest N (place-one P c r k)) (r ∷ st) _ refl refl p;
         setting = λ x k v a p. same-apart (with-set x k) (rest N (with-set x k)) [] _ refl refl (with-set-apart x k [] [] (set-passed N W x k a .free) p);
-        adding = λ ins outs k v a e p. with-add-apart _ k [] _ (add-passed N W ins outs k a .free) p;
-        delaying = λ ins outs k v a e p. same-apart (with-add _ k) _ [] [] refl refl (with-add-apart _ k [] [] (add-passed N W ins outs k a .free) p);
+        adding = λ lane ins outs k v a e p. with-add-apart _ k [] _ (add-passed N W lane ins outs k a .free) p;
+        delaying = λ lane ins outs k v a e p. same-apart (with-add _ k) _ [] [] refl refl (with-add-apart _ k [] [] (add-passed N W lane ins outs k a .free) p);
         flushing = λ k v a p. same-apart k _ [] [] refl refl p;
         closing = λ k v a p. same-apart k _ [] [] refl refl p;
         recording = λ d k v n p. same-apart k _ [] [] refl refl p;

@@ -159,7 +159,7 @@ module _ (φ : ℕ → ℕ) where
     unfolding Balance rest keep place-one lsum
     balance-placing c r st k v b =
         let j = place-one P c r k in
-        let e : Item = record { value = r; added = r; accepted = c } in
+        let e : Item = record { value = r; added = r; accepted = c; lane = (reg-of k r) .lane } in
         let a = after (k .located) ((reg-of k r) .ins) in
         let s = place-step P (k .guide) (v .past) e hP (v .core) (v .later) a in
         omega (arith, step-sum P (k .guide) (v .past) e (place P a e (k .guide)) (v .core) s, off-sum N j, push-sum (off N j) st, b)
@@ -170,8 +170,8 @@ module _ (φ : ℕ → ℕ) where
         record {
           placing = λ c r st k l v b. balance-placing c r st k v b;
           setting = λ x k v a b. omega (arith, off-sum N (with-set x k), b);
-          adding = λ ins outs k v a e b. omega (arith, below-add (k .adds) (record { ins = ins; outs = outs }), b);
-          delaying = λ ins outs k v a e b. omega (arith, below-add (k .adds) (record { ins = ins; outs = outs }), queue-sum (record { under = greatest ins; reg = length (k .adds) }) (k .pending), b);
+          adding = λ lane ins outs k v a e b. omega (arith, below-add (k .adds) (record { lane = lane; ins = ins; outs = outs }), b);
+          delaying = λ lane ins outs k v a e b. omega (arith, below-add (k .adds) (record { lane = lane; ins = ins; outs = outs }), queue-sum (record { under = greatest ins; reg = length (k .adds) }) (k .pending), b);
           flushing = λ k v a b. omega (arith, flush-sum P (k .guide) (v .past) (v .core) (flush-core P (k .guide) (v .past) hP (v .core) (v .later 31 (omega arith))), b);
           closing = λ k v a b. omega (arith, flush-sum P (k .guide) (v .past) (v .core) (flush-core P (k .guide) (v .past) hP (v .core) (v .later 31 (omega arith))), b);
           recording = λ d k v n b. b;

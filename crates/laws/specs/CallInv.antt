@@ -199,7 +199,7 @@ module _ (P N : ℕ) (hP : 1 ≤ P) (k : Model) (v : Inv P N k []) where
   pub call-inv : (c : Call) → Inv P N (apply-call P N c k) []
   unfolding apply-call note-add do-flush note-flush do-final note-final
   call-inv (set x) = set-inv x
-  call-inv (add ins outs) = record-inv P N _ _ [] (add-inv _)
+  call-inv (add lane ins outs) = record-inv P N _ _ [] (add-inv _)
   call-inv flush = record-inv P N _ _ [] (flush-inv _ _)
   call-inv final = record-inv P N _ _ [] (record-inv P N _ _ [] (flush-inv _ _))
 

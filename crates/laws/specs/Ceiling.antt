@@ -40,7 +40,7 @@ module _ (P N W : ℕ) (hP : 1 ≤ P) where
   unfolding rest keep place-one
   ceiling-placing c r st k v b =
       let j = place-one P c r k in
-      let e : Item = record { value = r; added = r; accepted = c } in
+      let e : Item = record { value = r; added = r; accepted = c; lane = (reg-of k r) .lane } in
       let s = place-step P (k .guide) (v .past) e hP (v .core) (v .later) (after (k .located) ((reg-of k r) .ins)) in
       omega (arith, s .advances, push-length (off N j) st, off-rest N j)
 
@@ -51,8 +51,8 @@ module _ (P N W : ℕ) (hP : 1 ≤ P) where
       record {
         placing = λ c r st k l v b. ceiling-placing c r st k v b;
         setting = λ x k v a b. omega (arith, off-rest N (with-set x k), b);
-        adding = λ ins outs k v a e b. simp length-append (omega (arith, b));
-        delaying = λ ins outs k v a e b. simp (length-append, queue-length) (omega (arith, b));
+        adding = λ lane ins outs k v a e b. simp length-append (omega (arith, b));
+        delaying = λ lane ins outs k v a e b. simp (length-append, queue-length) (omega (arith, b));
         flushing = λ k v a b. omega (arith, b);
         closing = λ k v a b. omega (arith, ap ended (final-passed N W k a .not-closed), b);
         recording = λ d k v n b. b;

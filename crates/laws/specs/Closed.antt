@@ -33,7 +33,7 @@ module _ (P N W : ℕ) (hP : 1 ≤ P) (o : List Entry) where
   begins-placing : (c r : ℕ) (st : List ℕ) (k : Model) → Inv P N k (r ∷ st) → Begins o k (r ∷ st) → Begins o (rest N (place-one P c r k)) (push (off N (place-one P c r k)) st)
   unfolding rest keep place-one
   begins-placing c r st k v b =
-      let e : Item = record { value = r; added = r; accepted = c } in
+      let e : Item = record { value = r; added = r; accepted = c; lane = (reg-of k r) .lane } in
       let s = place-step P (k .guide) (v .past) e hP (v .core) (v .later) (after (k .located) ((reg-of k r) .ins)) in
       let m = begins-more k (r ∷ st) (s .more) b in
       (m .0, s .order-grows ∙ m .1)
@@ -44,8 +44,8 @@ module _ (P N W : ℕ) (hP : 1 ≤ P) (o : List Entry) where
       record {
         placing = λ c r st k l v b. begins-placing c r st k v b;
         setting = λ x k v a b. b;
-        adding = λ ins outs k v a e b. b;
-        delaying = λ ins outs k v a e b. b;
+        adding = λ lane ins outs k v a e b. b;
+        delaying = λ lane ins outs k v a e b. b;
         flushing = λ k v a b. begins-more k [] (released P 32 (k .guide .spans)) b;
         closing = λ k v a b. begins-more k [] (released P 32 (k .guide .spans)) b;
         recording = λ d k v n b. b;
@@ -76,8 +76,8 @@ module _ (P N W : ℕ) where
       record {
         placing = λ c r st k l v e. e;
         setting = λ x k v a e. e;
-        adding = λ ins outs k v a h e. e;
-        delaying = λ ins outs k v a h e. e;
+        adding = λ lane ins outs k v a h e. e;
+        delaying = λ lane ins outs k v a h e. e;
         flushing = λ k v a e. e;
         closing = λ k v a e. refl;
         recording = λ d k v n e. e;
@@ -97,7 +97,7 @@ module _ (P N W : ℕ) where
   closing-call : (c : Call) (k : Model) → k .closed ≡ false → (apply-call P N c k) .closed ≡ true → c ≡ final
   unfolding apply-call note-add do-flush note-flush with-record with-flush with-add
   closing-call (set x) k o e = absurd (false≢true (sym o ∙ sym (set-same P N x k .2) ∙ e))
-  closing-call (add ins outs) k o e = absurd (false≢true (sym o ∙ sym (add-same P N _ k .2) ∙ e))
+  closing-call (add lane ins outs) k o e = absurd (false≢true (sym o ∙ sym (add-same P N _ k .2) ∙ e))
   closing-call flush k o e = absurd (false≢true (sym o ∙ e))
   closing-call final k o e = refl
 
@@ -145,8 +145,8 @@ module _ (P N W : ℕ) (hP : 1 ≤ P) where
       record {
         placing = λ c r st k l v d e. absurd (omega (arith, d e .0));
         setting = λ x k v a d e. not-open k (set-passed N W x k a .not-closed) e;
-        adding = λ ins outs k v a z d e. not-open k (add-passed N W ins outs k a .not-closed) e;
-        delaying = λ ins outs k v a z d e. not-open k (add-passed N W ins outs k a .not-closed) e;
+        adding = λ lane ins outs k v a z d e. not-open k (add-passed N W lane ins outs k a .not-closed) e;
+        delaying = λ lane ins outs k v a z d e. not-open k (add-passed N W lane ins outs k a .not-closed) e;
         flushing = λ k v a d e. not-open k (flush-passed N W k a .not-closed) e;
         closing = λ k v a d e. (refl, final-passed N W k a .none, flushed-empty k v);
         recording = λ r k v n d. d;

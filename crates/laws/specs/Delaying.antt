@@ -281,8 +281,8 @@ module _ (P N W : ℕ) (hP : 1 ≤ P) where
       record {
         placing = λ c r st k l v p. moved P N k (place-one P c r k) (r ∷ st) _ v p refl refl (λ t. refl) (tracked-place P c r k);
         setting = λ x k v a p. moved P N k (with-set x k) [] _ v p refl refl (λ t. refl) (tracked-set x k);
-        adding = λ ins outs k v a e p. delaying-adding _ k v e p;
-        delaying = λ ins outs k v a e p. delaying-queued _ k v e p;
+        adding = λ lane ins outs k v a e p. delaying-adding _ k v e p;
+        delaying = λ lane ins outs k v a e p. delaying-queued _ k v e p;
         flushing = λ k v a p. delaying-flushing _ _ k p;
         closing = λ k v a p. delaying-flushing _ _ k p;
         recording = λ d k v n p. delaying-recording d k p;

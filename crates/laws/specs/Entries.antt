@@ -167,7 +167,7 @@ module _ (P N W : ℕ) (hP : 1 ≤ P) where
   entries-kept =
       record {
         placing = λ c r st k l v h.
-            let e : Item = record { value = r; added = r; accepted = c } in
+            let e : Item = record { value = r; added = r; accepted = c; lane = (reg-of k r) .lane } in
             let s = place-step P (k .guide) (v .past) e hP (v .core) (v .later) (after (k .located) ((reg-of k r) .ins)) in
             record {
               all = place-each (OfSession (length (k .adds))) P (after (k .located) ((reg-of k r) .ins)) e (k .guide) (refl, l) (h .all);
@@ -175,8 +175,8 @@ module _ (P N W : ℕ) (hP : 1 ≤ P) where
               places-few = h .places-few;
             };
         setting = λ x k v a h. record { all = h .all; rows-written = h .rows-written; places-few = h .places-few };
-        adding = λ ins outs k v a e h. record { all = more-adds k _ (simp length-append (omega arith)) (h .all); rows-written = h .rows-written; places-few = h .places-few };
-        delaying = λ ins outs k v a e h. record { all = more-adds k _ (simp length-append (omega arith)) (h .all); rows-written = h .rows-written; places-few = h .places-few };
+        adding = λ lane ins outs k v a e h. record { all = more-adds k _ (simp length-append (omega arith)) (h .all); rows-written = h .rows-written; places-few = h .places-few };
+        delaying = λ lane ins outs k v a e h. record { all = more-adds k _ (simp length-append (omega arith)) (h .all); rows-written = h .rows-written; places-few = h .places-few };
         flushing = λ k v a h. flushed k h;
         closing = λ k v a h. flushed k h;
         recording = λ d k v n h. record { all = h .all; rows-written = λ x y. noted k h x (n .each x y); places-few = fixed k d h (n .places-is) };

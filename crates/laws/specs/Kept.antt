@@ -28,10 +28,10 @@ pub record Notes (N : ℕ) (k : Model) (d : Recorded) : Type 0 where
 pub record Kept (P N W : ℕ) (Q : Model → List ℕ → Type 0) : Type 0 where
   pub placing : (c r : ℕ) (st : List ℕ) (k : Model) → c ≤ length (k .adds) → Inv P N k (r ∷ st) → Q k (r ∷ st) → Q (rest N (place-one P c r k)) (push (off N (place-one P c r k)) st)
   pub setting : (x : ℕ) (k : Model) → Inv P N k [] → answer N W (set x) k ≡ 0 → Q k [] → Q (rest N (with-set x k)) (off N (with-set x k))
-  pub adding : (ins outs : List ℕ) (k : Model) → Inv P N k [] → answer N W (add ins outs) k ≡ 0 → ready (watermark N k) ins ≡ true → Q k []
-      → Q (with-add (record { ins = ins; outs = outs }) k) (length (k .adds) ∷ [])
-  pub delaying : (ins outs : List ℕ) (k : Model) → Inv P N k [] → answer N W (add ins outs) k ≡ 0 → ready (watermark N k) ins ≡ false → Q k []
-      → Q (keep (queue (record { under = greatest ins; reg = length (k .adds) }) (k .pending)) (with-add (record { ins = ins; outs = outs }) k)) []
+  pub adding : (lane : ℕ) (ins outs : List ℕ) (k : Model) → Inv P N k [] → answer N W (add lane ins outs) k ≡ 0 → ready (watermark N k) ins ≡ true → Q k []
+      → Q (with-add (record { lane = lane; ins = ins; outs = outs }) k) (length (k .adds) ∷ [])
+  pub delaying : (lane : ℕ) (ins outs : List ℕ) (k : Model) → Inv P N k [] → answer N W (add lane ins outs) k ≡ 0 → ready (watermark N k) ins ≡ false → Q k []
+      → Q (keep (queue (record { under = greatest ins; reg = length (k .adds) }) (k .pending)) (with-add (record { lane = lane; ins = ins; outs = outs }) k)) []
   pub flushing : (k : Model) → Inv P N k [] → answer N W flush k ≡ 0 → Q k [] → Q (with-flush P (suc (k .flushes)) (k .closed) k) []
   pub closing : (k : Model) → Inv P N k [] → answer N W final k ≡ 0 → Q k [] → Q (with-flush P (k .flushes) true k) []
   pub recording : (d : Recorded) (k : Model) → Inv P N k [] → Notes N k d → Q k [] → Q (with-record d k) []
@@ -43,8 +43,8 @@ module _ (P N W : ℕ) where
       record {
         placing = λ c r st k l v q a. κ a .placing c r st k l v (q a);
         setting = λ x k v e q a. κ a .setting x k v e (q a);
-        adding = λ ins outs k v e h q a. κ a .adding ins outs k v e h (q a);
-        delaying = λ ins outs k v e h q a. κ a .delaying ins outs k v e h (q a);
+        adding = λ lane ins outs k v e h q a. κ a .adding lane ins outs k v e h (q a);
+        delaying = λ lane ins outs k v e h q a. κ a .delaying lane ins outs k v e h (q a);
         flushing = λ k v e q a. κ a .flushing k v e (q a);
         closing = λ k v e q a. κ a .closing k v e (q a);
         recording = λ d k v n q a. κ a .recording d k v n (q a);
@@ -56,8 +56,8 @@ module _ (P N W : ℕ) where
       record {
         placing = λ c r st k l v q. to _ _ (κ .placing c r st k l v (from _ _ q));
         setting = λ x k v e q. to _ _ (κ .setting x k v e (from _ _ q));
-        adding = λ ins outs k v e h q. to _ _ (κ .adding ins outs k v e h (from _ _ q));
-        delaying = λ ins outs k v e h q. to _ _ (κ .delaying ins outs k v e h (from _ _ q));
+        adding = λ lane ins outs k v e h q. to _ _ (κ .adding lane ins outs k v e h (from _ _ q));
+        delaying = λ lane ins outs k v e h q. to _ _ (κ .delaying lane ins outs k v e h (from _ _ q));
         flushing = λ k v e q. to _ _ (κ .flushing k v e (from _ _ q));
         closing = λ k v e q. to _ _ (κ .closing k v e (from _ _ q));
         recording = λ d k v n q. to _ _ (κ .recording d k v n (from _ _ q));
@@ -137,7 +137,7 @@ module _ (P N : ℕ) (k : Model) (n : Noted k) where
   pub call-noted : (c : Call) → Noted (apply-call P N c k)
   unfolding apply-call note-add do-flush note-flush do-final note-final with-record with-flush
   call-noted (set x) = let s = set-same P N x k in rw (s .0, s .1) n
-  call-noted (add ins outs) = add-notes N (do-add P N _ k) (added-row _) .many
+  call-noted (add lane ins outs) = add-notes N (do-add P N _ k) (added-row _) .many
   call-noted flush = length-set (k .recorded .written) _ _ ∙ n
   call-noted final = length-set (k .recorded .written) _ _ ∙ n
 
@@ -174,22 +174,22 @@ module _ (P N W : ℕ) (hP : 1 ≤ P) (Q : Model → List ℕ → Type 0) (κ : 
       settle-kept (length (k .adds)) (off N (with-set x k)) (rest N (with-set x k)) (omega arith)
       (off-inv P N (with-set x k) [] (with-set-inv P N hP k v x) (off N (with-set x k)) (λ r h. inl h)) (κ .setting x k v a q)
 
-  add-kept : (ins outs : List ℕ) (k : Model) → Inv P N k [] → answer N W (add ins outs) k ≡ 0 → Q k [] → Q (do-add P N (record { ins = ins; outs = outs }) k) []
+  add-kept : (lane : ℕ) (ins outs : List ℕ) (k : Model) → Inv P N k [] → answer N W (add lane ins outs) k ≡ 0 → Q k [] → Q (do-add P N (record { lane = lane; ins = ins; outs = outs }) k) []
   unfolding do-add with-add
-  add-kept ins outs k v a q = go (bool-cases (ready (watermark N k) ins))
+  add-kept lane ins outs k v a q = go (bool-cases (ready (watermark N k) ins))
     where
-      more : length (k .adds) ≤ length ((with-add (record { ins = ins; outs = outs }) k) .adds)
+      more : length (k .adds) ≤ length ((with-add (record { lane = lane; ins = ins; outs = outs }) k) .adds)
       more = simp length-append (omega arith)
 
-      go : (ready (watermark N k) ins ≡ true) ⊎ (ready (watermark N k) ins ≡ false) → Q (do-add P N (record { ins = ins; outs = outs }) k) []
-      go (inl e) = rw (e, do-add) (settle-kept (length (k .adds)) (length (k .adds) ∷ []) (with-add _ k) more (add-stack P N hP k v (record { ins = ins; outs = outs }) e)
-          (κ .adding ins outs k v a e q))
-      go (inr e) = rw (e, do-add) (κ .delaying ins outs k v a e q)
+      go : (ready (watermark N k) ins ≡ true) ⊎ (ready (watermark N k) ins ≡ false) → Q (do-add P N (record { lane = lane; ins = ins; outs = outs }) k) []
+      go (inl e) = rw (e, do-add) (settle-kept (length (k .adds)) (length (k .adds) ∷ []) (with-add _ k) more (add-stack P N hP k v (record { lane = lane; ins = ins; outs = outs }) e)
+          (κ .adding lane ins outs k v a e q))
+      go (inr e) = rw (e, do-add) (κ .delaying lane ins outs k v a e q)
 
   call-kept : (c : Call) (k : Model) → Inv P N k [] → Noted k → answer N W c k ≡ 0 → Q k [] → Q (apply-call P N c k) []
   unfolding apply-call note-add do-flush note-flush do-final note-final with-flush with-record
   call-kept (set x) k v n a q = set-kept x k v a q
-  call-kept (add ins outs) k v n a q = κ .recording _ _ (add-inv P N hP k v _) (add-notes N (do-add P N _ k) (added-row P N k n _)) (add-kept ins outs k v a q)
+  call-kept (add lane ins outs) k v n a q = κ .recording _ _ (add-inv P N hP k v _) (add-notes N (do-add P N _ k) (added-row P N k n _)) (add-kept lane ins outs k v a q)
   call-kept flush k v n a q =
       let j = with-flush P (suc (k .flushes)) (k .closed) k in
       κ .recording _ j (flush-inv P N hP k v _ _) (flush-notes N j n) (κ .flushing k v a q)

@@ -7,7 +7,7 @@ use Prim.Native.Nat.{ℕ, _+_, _≤_, _<_}
 use mathlib.Core.Bool.{false}
 use native.Mathlib.Omega.{arith}
 use lib.ListN.{length, length-append, List·getD-eq-default}
-use Rattle.rules.specs.Limits.{most-in-a-list, most-flushes}
+use Rattle.rules.specs.Limits.{most-lane, most-in-a-list, most-flushes}
 use Rattle.rules.specs.Model.{with-record, Reg, Model, reg-of, place-one, keep, rest, with-set, with-add, with-flush, initial}
 use Rattle.rules.specs.Checks.{repeats, pooled}
 use Rattle.laws.specs.ModelBase.{In}
@@ -28,8 +28,9 @@ pub record Limits (N W : ℕ) (k : Model) (st : List ℕ) : Type 0 where
   pub few : k .flushes ≤ most-flushes
   pub rows : length (k .recorded .written) ≤ length (k .adds)
 
--- an accepted registration's lists
+-- an accepted registration's lane and lists
 pub record Bounded (N : ℕ) (a : Reg) : Type 0 where
+  pub lane-few : a .lane ≤ most-lane
   pub ins-few : length (a .ins) ≤ most-in-a-list
   pub outs-few : length (a .outs) ≤ most-in-a-list
   pub ins-below : AllBelow N (a .ins)
@@ -57,13 +58,13 @@ reg-cases a k r = go (lt-or-le r (length (k .adds))) (eq-or-ne r (length (k .add
     go (inr h) (inr e) = inl (List·getD-eq-default (k .adds ++ (a ∷ [])) _ {n = r} (simp length-append (omega arith)) ∙ sym (List·getD-eq-default (k .adds) _ {n = r} h))
 
 module _ (P N W : ℕ) where
-  limits-adding : (ins outs : List ℕ) (k : Model) (st : List ℕ) → length (k .adds) < N → pooled (k .adds) + length ins + length outs ≤ W → Limits N W k []
-      → Limits N W (with-add (record { ins = ins; outs = outs }) k) st
+  limits-adding : (lane : ℕ) (ins outs : List ℕ) (k : Model) (st : List ℕ) → length (k .adds) < N → pooled (k .adds) + length ins + length outs ≤ W → Limits N W k []
+      → Limits N W (with-add (record { lane = lane; ins = ins; outs = outs }) k) st
   unfolding with-add
-  limits-adding ins outs k st h p l =
+  limits-adding lane ins outs k st h p l =
       record {
         many = simp length-append (omega arith);
-        pool = rw (pooled-append (k .adds) (record { ins = ins; outs = outs })) p;
+        pool = rw (pooled-append (k .adds) (record { lane = lane; ins = ins; outs = outs })) p;
         few = l .few;
         rows = simp length-append (omega (arith, l .rows));
       }
@@ -75,26 +76,26 @@ module _ (P N W : ℕ) where
       record {
         placing = λ c r st k h v l. record { many = l .many; pool = l .pool; few = l .few; rows = l .rows };
         setting = λ x k v a l. record { many = l .many; pool = l .pool; few = l .few; rows = l .rows };
-        adding = λ ins outs k v a e l. let p = add-passed N W ins outs k a in limits-adding ins outs k _ (p .more) (p .room) l;
-        delaying = λ ins outs k v a e l. let p = add-passed N W ins outs k a in let m = limits-adding ins outs k [] (p .more) (p .room) l in
+        adding = λ lane ins outs k v a e l. let p = add-passed N W lane ins outs k a in limits-adding lane ins outs k _ (p .more) (p .room) l;
+        delaying = λ lane ins outs k v a e l. let p = add-passed N W lane ins outs k a in let m = limits-adding lane ins outs k [] (p .more) (p .room) l in
             record { many = m .many; pool = m .pool; few = m .few; rows = m .rows };
         flushing = λ k v a l. record { many = l .many; pool = l .pool; few = omega (arith, flush-passed N W k a .few); rows = l .rows };
         closing = λ k v a l. record { many = l .many; pool = l .pool; few = l .few; rows = l .rows };
         recording = λ d k v n l. record { many = l .many; pool = l .pool; few = l .few; rows = omega (arith, n .many) };
       }
 
-  inside-adding : (ins outs : List ℕ) (k : Model) (st : List ℕ) → Bounded N (record { ins = ins; outs = outs }) → Inside N k [] → Inside N (with-add (record { ins = ins; outs = outs }) k) st
+  inside-adding : (lane : ℕ) (ins outs : List ℕ) (k : Model) (st : List ℕ) → Bounded N (record { lane = lane; ins = ins; outs = outs }) → Inside N k [] → Inside N (with-add (record { lane = lane; ins = ins; outs = outs }) k) st
   unfolding with-add
-  inside-adding ins outs k st g l = record { lists = λ r. go r (reg-cases _ k r); sets-below = l .sets-below }
+  inside-adding lane ins outs k st g l = record { lists = λ r. go r (reg-cases _ k r); sets-below = l .sets-below }
     where
-      go : (r : ℕ) → (reg-of (with-add (record { ins = ins; outs = outs }) k) r ≡ reg-of k r) ⊎ (reg-of (with-add (record { ins = ins; outs = outs }) k) r ≡ record { ins = ins; outs = outs })
-          → Bounded N (reg-of (with-add (record { ins = ins; outs = outs }) k) r)
+      go : (r : ℕ) → (reg-of (with-add (record { lane = lane; ins = ins; outs = outs }) k) r ≡ reg-of k r) ⊎ (reg-of (with-add (record { lane = lane; ins = ins; outs = outs }) k) r ≡ record { lane = lane; ins = ins; outs = outs })
+          → Bounded N (reg-of (with-add (record { lane = lane; ins = ins; outs = outs }) k) r)
       go r (inl e) = rw e (l .lists r)
       go r (inr e) = rw e g
 
-  -- what the checks say of an accepted add's lists
-  passed-bounded : (ins outs : List ℕ) (k : Model) → AddPassed N W ins outs k → Bounded N (record { ins = ins; outs = outs })
-  passed-bounded ins outs k p = record { ins-few = p .ins-few; outs-few = p .outs-few; ins-below = p .ins-inside; outs-below = p .outs-inside; outs-once = p .once }
+  -- what the checks say of an accepted add's lane and lists
+  passed-bounded : (lane : ℕ) (ins outs : List ℕ) (k : Model) → AddPassed N W lane ins outs k → Bounded N (record { lane = lane; ins = ins; outs = outs })
+  passed-bounded lane ins outs k p = record { lane-few = p .lane-few; ins-few = p .ins-few; outs-few = p .outs-few; ins-below = p .ins-inside; outs-below = p .outs-inside; outs-once = p .once }
 
   set-below : (x : ℕ) (k : Model) → x < N → AllBelow N (k .sets) → AllBelow N (x ∷ k .sets)
   set-below x k h b i y = go (List·Memᴰ·cases-cons y)
@@ -110,8 +111,8 @@ module _ (P N W : ℕ) where
       record {
         placing = λ c r st k h v l. record { lists = l .lists; sets-below = l .sets-below };
         setting = λ x k v a l. record { lists = l .lists; sets-below = set-below x k (set-passed N W x k a .inside) (l .sets-below) };
-        adding = λ ins outs k v a e l. inside-adding ins outs k _ (passed-bounded ins outs k (add-passed N W ins outs k a)) l;
-        delaying = λ ins outs k v a e l. let m = inside-adding ins outs k [] (passed-bounded ins outs k (add-passed N W ins outs k a)) l in record { lists = m .lists; sets-below = m .sets-below };
+        adding = λ lane ins outs k v a e l. inside-adding lane ins outs k _ (passed-bounded lane ins outs k (add-passed N W lane ins outs k a)) l;
+        delaying = λ lane ins outs k v a e l. let m = inside-adding lane ins outs k [] (passed-bounded lane ins outs k (add-passed N W lane ins outs k a)) l in record { lists = m .lists; sets-below = m .sets-below };
         flushing = λ k v a l. record { lists = l .lists; sets-below = l .sets-below };
         closing = λ k v a l. record { lists = l .lists; sets-below = l .sets-below };
         recording = λ d k v n l. record { lists = l .lists; sets-below = l .sets-below };
@@ -125,6 +126,6 @@ pub inside-initial : (N : ℕ) → Inside N initial []
 unfolding initial reg-of repeats
 inside-initial N =
     record {
-      lists = λ r. record { ins-few = omega arith; outs-few = omega arith; ins-below = λ i h. absurd (List·Memᴰ·not-nil h); outs-below = λ i h. absurd (List·Memᴰ·not-nil h); outs-once = refl };
+      lists = λ r. record { lane-few = omega arith; ins-few = omega arith; outs-few = omega arith; ins-below = λ i h. absurd (List·Memᴰ·not-nil h); outs-below = λ i h. absurd (List·Memᴰ·not-nil h); outs-once = refl };
       sets-below = λ i h. absurd (List·Memᴰ·not-nil h);
     }

@@ -9,7 +9,7 @@ use Rattle.rules.specs.Checks.{verdict, any, repeats, written-by, taken, pooled
 use Rattle.rules.specs.Calls.{add, checks, answer}
 
 pub got : List ℕ
-got = answer 1 65535 (add (replicate 65535 0) []) initial ∷ answer 1 65535 (add (replicate 65536 0) []) initial ∷ answer 1 65535 (add [] (replicate 65535 0)) initial ∷ []
+got = answer 1 65535 (add 0 (replicate 65535 0) []) initial ∷ answer 1 65535 (add 0 (replicate 65536 0) []) initial ∷ answer 1 65535 (add 0 [] (replicate 65535 0)) initial ∷ []
 
 pub turns : got ≡ 0 ∷ 3 ∷ 6 ∷ []
 unfolding got initial member marked verdict any repeats written-by taken pooled check-closed check-places check-add checks answer

@@ -210,7 +210,7 @@ spotted-in l (y ∷ xs) x h = go (bool-cases (eqb x y)) (λ k. spotted-in l xs x
 
 -- the history
 abbrev pub no-entry : Item
-no-entry = record { value = 0; added = 0; accepted = 0 }
+no-entry = record { value = 0; added = 0; accepted = 0; lane = 0 }
 
 -- the entry at position q of span s
 unfoldable pub entry-at : List (List Item) → ℕ → ℕ → Item

@@ -59,7 +59,7 @@ record-inv P N d k st v =
 -- placing one registration
 module _ (P N c r : ℕ) (st : List ℕ) (k : Model) (hP : 1 ≤ P) (v : Inv P N k (r ∷ st)) where
   ent : Item
-  ent = record { value = r; added = r; accepted = c }
+  ent = record { value = r; added = r; accepted = c; lane = (reg-of k r) .lane }
 
   plc : Placed
   plc = place P (after (k .located) ((reg-of k r) .ins)) ent (k .guide)

@@ -1,7 +1,7 @@
 -- The proof of laws/Needs: the run of a job and the reading of its needs go through the same lines, and agree on each. Assumes nothing.
 use mathlib.Core.Path.{_≡_, refl, sym, ap, _∙_, subst}
 use mathlib.Core.List.{List, [], _∷_, _++_}
-use mathlib.Core.Logic.{_⊎_, inl, inr}
+use mathlib.Core.Logic.{_⊎_, inl, inr, _≢_}
 use mathlib.Core.Bool.{Bool, true, false}
 use mathlib.Core.Option.{Option, some, none}
 use Prim.Native.Nat.{ℕ, suc, _+_, _*_, _≤_, _<_}
@@ -15,14 +15,14 @@ use Rattle.rules.specs.Text.{newline, comma}
 use Rattle.rules.specs.Model.{Reg, Model, initial, with-record, note-add, note-flush, note-final, with-add, with-flush, do-flush, do-final}
 use Rattle.rules.specs.Checks.{verdict, pooled, check-range, check-open}
 use Rattle.rules.specs.Calls.{Call, set, add, flush, final, answer, apply-call, step}
-use Rattle.rules.specs.Job.{Line, parallelism-line, places-line, set-line, in-line, out-line, flush-line, final-line, malformed, Start, single, inputs, last, start-of, outputs-of}
+use Rattle.rules.specs.Job.{Line, parallelism-line, places-line, set-line, lane-line, in-line, out-line, flush-line, final-line, malformed, Start, single, label, inputs, last}
 use Rattle.rules.specs.Job.{lines-from, lines, ragged, fields-from, both, numbers, list, number, after-key, with-number, with-list, whole, key-or, line-of, places-of, parallelism-of}
-use Rattle.rules.specs.Job.{Outcome, finished, rejected, on-line, closing, run-lines, job-sizes, run-places, run-job, outcome}
-use Rattle.rules.specs.Job.{key-parallelism, key-places, key-set, key-in, key-out, flush-text, final-text}
+use Rattle.rules.specs.Job.{start-of, inputs-of, outputs-of, Begun, nothing, labelled, reading, Outcome, finished, rejected, on-line, closing, run-lines, job-sizes, run-places, run-job, outcome}
+use Rattle.rules.specs.Job.{key-parallelism, key-places, key-set, key-lane, key-in, key-out, flush-text, final-text}
 use Rattle.rules.specs.Needs.{Needs, no-needs, with-call, most-spans, Reading, needing, unread, ending, need-lines, need-places, need-job, needs}
 use Rattle.laws.specs.ModelBase.{bool-cases}
 use Rattle.laws.specs.Kept.{set-same, add-same}
-use Rattle.laws.specs.Accepted.{verdict-head, or-false, accepted-is, call-code, open-code}
+use Rattle.laws.specs.Accepted.{verdict-head, or-false, accepted-is, CallCode, call-code, open-code}
 use Rattle.laws.specs.Ceiling.{Ceiling, ended}
 use Rattle.laws.specs.Limits.{pooled-append}
 use Rattle.laws.specs.Sound.{Between, between-initial, between-step}
@@ -35,8 +35,8 @@ module _ (P N : ℕ) (k : Model) where
   call-used : (c : Call) → used (apply-call P N c k) ≡ with-call c (used k)
   unfolding used with-call apply-call note-add with-add do-flush do-final note-flush note-final with-record with-flush
   call-used (set x) = let s = set-same P N x k in rw (s .0, s .3)
-  call-used (add ins outs) =
-      let a : Reg = record { ins = ins; outs = outs } in
+  call-used (add lane ins outs) =
+      let a : Reg = record { lane = lane; ins = ins; outs = outs } in
       let s = add-same P N a k in
       let l : length (k .adds ++ (a ∷ [])) ≡ suc (length (k .adds)) = simp length-append (omega arith) in
       rw (s .0, s .3, l, pooled-append (k .adds) a)
@@ -53,20 +53,20 @@ module _ (P N : ℕ) (k : Model) where
 -- they agree: finished, the needs are what the model used, which calls reached; refused with 15, the refusal is the same
 abbrev Agrees : ℕ → Outcome → Reading → Type 0
 Agrees W (finished P k) r = (r ≡ needing (used k)) × ((N : ℕ) × Between P N W k)
-Agrees W (rejected n code) r = (code ≤ refusal.malformed) × (code ≡ refusal.malformed → r ≡ unread n refusal.malformed)
+Agrees W (rejected n code) r = (code ≢ refusal.long-job) × (code ≡ refusal.malformed → r ≡ unread n refusal.malformed)
 
 module _ (W : ℕ) where
   alike : (n : ℕ) → Agrees W (rejected n refusal.malformed) (unread n refusal.malformed)
   alike n = (omega arith, λ e. refl)
 
-  -- a call or an opening that is refused does not say 15
-  judged : (n code : ℕ) (o : Outcome) (r : Reading) → code < refusal.malformed → (code ≡ 0 → Agrees W o r) → Agrees W (on-line n code o) r
+  -- a call or an opening that is refused says neither 15 nor 16
+  judged : (n code : ℕ) (o : Outcome) (r : Reading) → CallCode code → (code ≡ 0 → Agrees W o r) → Agrees W (on-line n code o) r
   unfolding on-line
   judged n code o r h f = go (bool-cases (eqb code 0))
     where
       go : (eqb code 0 ≡ true) ⊎ (eqb code 0 ≡ false) → Agrees W (on-line n code o) r
       go (inl e) = rw (on-line, e) (f (eqb-true code 0 e))
-      go (inr e) = rw (on-line, e) (omega arith, λ z. absurd (omega arith))
+      go (inr e) = rw (on-line, e) (h .2, λ z. absurd (h .1 z))
 
 module _ (P N W : ℕ) (hP : 1 ≤ P) where
   closing-agrees : (n : ℕ) (ls : List (List ℕ)) (rag : Bool) (k : Model) → Between P N W k → Agrees W (closing P n ls rag k) (ending n ls rag (used k))
@@ -83,26 +83,33 @@ module _ (P N W : ℕ) (hP : 1 ≤ P) where
       (λ e. rw (used-more P N k W c e) at (f (step P N W c k) (between-step P N W hP c k b)))
 
   abbrev Follow : List (List ℕ) → Bool → Type 0
-  Follow ls rag = (n : ℕ) (begun : Option (List ℕ)) (k : Model) → Between P N W k → Agrees W (run-lines P N W n begun ls rag k) (need-lines n begun ls rag (used k))
+  Follow ls rag = (n : ℕ) (begun : Begun) (k : Model) → Between P N W k → Agrees W (run-lines P N W n begun ls rag k) (need-lines n begun ls rag (used k))
 
   lines-agree : (ls : List (List ℕ)) (rag : Bool) → Follow ls rag
   unfolding run-lines need-lines
   lines-agree [] rag n begun k b = alike W n
-  lines-agree (l ∷ ls) rag n none k b = go (start-of (line-of l)) refl (lines-agree ls rag)
+  lines-agree (l ∷ ls) rag n nothing k b = go (start-of (line-of l)) refl (lines-agree ls rag)
     where
-      go : (x : Option Start) → start-of (line-of l) ≡ x → Follow ls rag → Agrees W (run-lines P N W n none (l ∷ ls) rag k) (need-lines n none (l ∷ ls) rag (used k))
+      go : (x : Option Start) → start-of (line-of l) ≡ x → Follow ls rag → Agrees W (run-lines P N W n nothing (l ∷ ls) rag k) (need-lines n nothing (l ∷ ls) rag (used k))
       go none e f = rw (run-lines, need-lines, e) (alike W n)
       go (some (single c)) e f =
-          rw (run-lines, need-lines, e) (call-agrees n c k b (run-lines P N W (suc n) none ls rag) (need-lines (suc n) none ls rag) (f (suc n) none))
-      go (some (inputs ins)) e f = rw (run-lines, need-lines, e) (f (suc n) (some ins) k b)
+          rw (run-lines, need-lines, e) (call-agrees n c k b (run-lines P N W (suc n) nothing ls rag) (need-lines (suc n) nothing ls rag) (f (suc n) nothing))
+      go (some (label x)) e f = rw (run-lines, need-lines, e) (f (suc n) (labelled x) k b)
+      go (some (inputs ins)) e f = rw (run-lines, need-lines, e) (f (suc n) (reading 0 ins) k b)
       go (some last) e f = rw (run-lines, need-lines, e) (call-agrees n final k b (closing P (suc n) ls rag) (ending (suc n) ls rag) (closing-agrees (suc n) ls rag))
-  lines-agree (l ∷ ls) rag n (some ins) k b = go (outputs-of (line-of l)) refl (lines-agree ls rag)
+  lines-agree (l ∷ ls) rag n (labelled x) k b = go (inputs-of (line-of l)) refl (lines-agree ls rag)
     where
-      go : (x : Option (List ℕ)) → outputs-of (line-of l) ≡ x → Follow ls rag
-          → Agrees W (run-lines P N W n (some ins) (l ∷ ls) rag k) (need-lines n (some ins) (l ∷ ls) rag (used k))
+      go : (y : Option (List ℕ)) → inputs-of (line-of l) ≡ y → Follow ls rag
+          → Agrees W (run-lines P N W n (labelled x) (l ∷ ls) rag k) (need-lines n (labelled x) (l ∷ ls) rag (used k))
+      go none e f = rw (run-lines, need-lines, e) (alike W n)
+      go (some ins) e f = rw (run-lines, need-lines, e) (f (suc n) (reading x ins) k b)
+  lines-agree (l ∷ ls) rag n (reading x ins) k b = go (outputs-of (line-of l)) refl (lines-agree ls rag)
+    where
+      go : (y : Option (List ℕ)) → outputs-of (line-of l) ≡ y → Follow ls rag
+          → Agrees W (run-lines P N W n (reading x ins) (l ∷ ls) rag k) (need-lines n (reading x ins) (l ∷ ls) rag (used k))
       go none e f = rw (run-lines, need-lines, e) (alike W n)
       go (some outs) e f =
-          rw (run-lines, need-lines, e) (call-agrees n (add ins outs) k b (run-lines P N W (suc n) none ls rag) (need-lines (suc n) none ls rag) (f (suc n) none))
+          rw (run-lines, need-lines, e) (call-agrees n (add x ins outs) k b (run-lines P N W (suc n) nothing ls rag) (need-lines (suc n) nothing ls rag) (f (suc n) nothing))
 
 -- an opening that passes its checks has a parallelism
 opened-positive : (P N : ℕ) → verdict (check-open P N job-sizes) ≡ 0 → 1 ≤ P
@@ -110,11 +117,11 @@ unfolding check-open check-range
 opened-positive P N e = ltb-false P 1 (or-false (ltb P 1) (ltb most-parallelism P) (verdict-head _ _ e (omega arith) .0) .0)
 
 opening-agrees : (P N : ℕ) (ls : List (List ℕ)) (rag : Bool)
-    → Agrees job-pool (on-line 2 (verdict (check-open P N job-sizes)) (run-lines P N job-pool 3 none ls rag initial)) (need-lines 3 none ls rag no-needs)
+    → Agrees job-pool (on-line 2 (verdict (check-open P N job-sizes)) (run-lines P N job-pool 3 nothing ls rag initial)) (need-lines 3 nothing ls rag no-needs)
 unfolding used initial no-needs pooled
 opening-agrees P N ls rag =
-    judged job-pool 2 (verdict (check-open P N job-sizes)) (run-lines P N job-pool 3 none ls rag initial) (need-lines 3 none ls rag no-needs) (open-code P N job-sizes)
-    (λ e. let h = opened-positive P N e in lines-agree P N job-pool h ls rag 3 none initial (between-initial P N job-pool h))
+    judged job-pool 2 (verdict (check-open P N job-sizes)) (run-lines P N job-pool 3 nothing ls rag initial) (need-lines 3 nothing ls rag no-needs) (open-code P N job-sizes)
+    (λ e. let h = opened-positive P N e in lines-agree P N job-pool h ls rag 3 nothing initial (between-initial P N job-pool h))
 
 places-agree : (P : ℕ) (ls : List (List ℕ)) (rag : Bool) → Agrees job-pool (run-places P ls rag) (need-places ls rag)
 unfolding run-places need-places
@@ -156,6 +163,7 @@ abbrev listed : Line → ℕ
 listed (parallelism-line n) = 0
 listed (places-line n) = 0
 listed (set-line n) = 0
+listed (lane-line n) = 0
 listed (in-line ns) = length ns
 listed (out-line ns) = length ns
 listed flush-line = 0
@@ -220,10 +228,11 @@ line-few bs =
     key-fits key-parallelism bs _ _ (bare parallelism-line (λ n. refl))
     (key-fits key-places bs _ _ (bare places-line (λ n. refl))
     (key-fits key-set bs _ _ (bare set-line (λ n. refl))
+    (key-fits key-lane bs _ _ (bare lane-line (λ n. refl))
     (key-fits key-in bs _ _ (of-list in-line (λ ns. refl))
     (key-fits key-out bs _ _ (of-list out-line (λ ns. refl))
     (key-fits flush-text bs _ _ (alone flush-line refl)
-    (key-fits final-text bs _ _ (alone final-line refl) (omega arith)))))))
+    (key-fits final-text bs _ _ (alone final-line refl) (omega arith))))))))
   where
     bare : (f : ℕ → Line) → ((n : ℕ) → listed (f n) ≡ 0) → (r : List ℕ) → listed (with-number f (number r)) ≤ suc (length r)
     bare f h r = go (number r)
@@ -263,32 +272,58 @@ ending-few n [] false c = (omega arith, omega arith)
 ending-few n [] true c = (refl, omega arith)
 ending-few n (l ∷ ls) rag c = (refl, omega arith)
 
+-- the inputs that are read of an add
+abbrev begun-in : Begun → ℕ
+begun-in nothing = 0
+begun-in (labelled x) = 0
+begun-in (reading x ins) = length ins
+
 -- the lines from line n on hold no more calls and numbers than bytes
 abbrev FewFrom : List (List ℕ) → Bool → Type 0
-FewFrom ls rag = (n : ℕ) (begun : Option (List ℕ)) (c : Needs)
-    → Few (c .registrations + c .flushes + total ls) (c .pool + held-in begun + total ls) (n + total ls) (need-lines n begun ls rag c)
+FewFrom ls rag = (n : ℕ) (begun : Begun) (c : Needs)
+    → Few (c .registrations + c .flushes + total ls) (c .pool + begun-in begun + total ls) (n + total ls) (need-lines n begun ls rag c)
 
 lines-few : (ls : List (List ℕ)) (rag : Bool) → FewFrom ls rag
 unfolding need-lines total with-call
 lines-few [] rag n begun c = malformed-few _ _ n (omega arith)
-lines-few (l ∷ ls) rag n none c = go (line-of l) refl (line-few l) (lines-few ls rag)
+lines-few (l ∷ ls) rag n nothing c = go (line-of l) refl (line-few l) (lines-few ls rag)
   where
     go : (x : Line) → line-of l ≡ x → FewListed l x → FewFrom ls rag
-        → Few (c .registrations + c .flushes + total (l ∷ ls)) (c .pool + 0 + total (l ∷ ls)) (n + total (l ∷ ls)) (need-lines n none (l ∷ ls) rag c)
-    go (set-line x) e h f = rw (need-lines, e) (few-more _ (f (suc n) none c) (omega arith) (omega arith) (omega arith))
-    go (in-line ins) e h f = rw (need-lines, e) (few-more _ (f (suc n) (some ins) c) (omega arith) (omega (arith, h)) (omega arith))
-    go flush-line e h f = rw (need-lines, e) (few-more _ (f (suc n) none (with-call flush c)) (omega arith) (omega arith) (omega arith))
+        → Few (c .registrations + c .flushes + total (l ∷ ls)) (c .pool + 0 + total (l ∷ ls)) (n + total (l ∷ ls)) (need-lines n nothing (l ∷ ls) rag c)
+    go (set-line x) e h f = rw (need-lines, e) (few-more _ (f (suc n) nothing c) (omega arith) (omega arith) (omega arith))
+    go (lane-line x) e h f = rw (need-lines, e) (few-more _ (f (suc n) (labelled x) c) (omega arith) (omega arith) (omega arith))
+    go (in-line ins) e h f = rw (need-lines, e) (few-more _ (f (suc n) (reading 0 ins) c) (omega arith) (omega (arith, h)) (omega arith))
+    go flush-line e h f = rw (need-lines, e) (few-more _ (f (suc n) nothing (with-call flush c)) (omega arith) (omega arith) (omega arith))
     go final-line e h f = rw (need-lines, e) (few-more _ (ending-few (suc n) ls rag c) (omega arith) (omega arith) (omega arith))
     go (parallelism-line x) e h f = rw (need-lines, e) (malformed-few _ _ n (omega arith))
     go (places-line x) e h f = rw (need-lines, e) (malformed-few _ _ n (omega arith))
     go (out-line outs) e h f = rw (need-lines, e) (malformed-few _ _ n (omega arith))
     go malformed e h f = rw (need-lines, e) (malformed-few _ _ n (omega arith))
-lines-few (l ∷ ls) rag n (some ins) c = go (line-of l) refl (line-few l) (lines-few ls rag)
+lines-few (l ∷ ls) rag n (labelled x) c = go (inputs-of (line-of l)) refl (inputs-few (line-of l) (line-few l)) (lines-few ls rag)
   where
-    go : (x : Line) → line-of l ≡ x → FewListed l x → FewFrom ls rag
-        → Few (c .registrations + c .flushes + total (l ∷ ls)) (c .pool + length ins + total (l ∷ ls)) (n + total (l ∷ ls)) (need-lines n (some ins) (l ∷ ls) rag c)
-    go (out-line outs) e h f = rw (need-lines, e) (few-more _ (f (suc n) none (with-call (add ins outs) c)) (omega arith) (omega (arith, h)) (omega arith))
-    go (set-line x) e h f = rw (need-lines, e) (malformed-few _ _ n (omega arith))
+    -- the inputs of a line are its list
+    inputs-few : (z : Line) → FewListed l z → held-in (inputs-of z) ≤ suc (length l)
+    inputs-few (in-line ins) h = h
+    inputs-few (parallelism-line y) h = omega arith
+    inputs-few (places-line y) h = omega arith
+    inputs-few (set-line y) h = omega arith
+    inputs-few (lane-line y) h = omega arith
+    inputs-few (out-line outs) h = omega arith
+    inputs-few flush-line h = omega arith
+    inputs-few final-line h = omega arith
+    inputs-few malformed h = omega arith
+
+    go : (y : Option (List ℕ)) → inputs-of (line-of l) ≡ y → held-in (inputs-of (line-of l)) ≤ suc (length l) → FewFrom ls rag
+        → Few (c .registrations + c .flushes + total (l ∷ ls)) (c .pool + 0 + total (l ∷ ls)) (n + total (l ∷ ls)) (need-lines n (labelled x) (l ∷ ls) rag c)
+    go none e h f = rw (need-lines, e) (malformed-few _ _ n (omega arith))
+    go (some ins) e h f = rw (need-lines, e) (few-more _ (f (suc n) (reading x ins) c) (omega arith) (omega (arith, rw e at h)) (omega arith))
+lines-few (l ∷ ls) rag n (reading x ins) c = go (line-of l) refl (line-few l) (lines-few ls rag)
+  where
+    go : (z : Line) → line-of l ≡ z → FewListed l z → FewFrom ls rag
+        → Few (c .registrations + c .flushes + total (l ∷ ls)) (c .pool + length ins + total (l ∷ ls)) (n + total (l ∷ ls)) (need-lines n (reading x ins) (l ∷ ls) rag c)
+    go (out-line outs) e h f = rw (need-lines, e) (few-more _ (f (suc n) nothing (with-call (add x ins outs) c)) (omega arith) (omega (arith, h)) (omega arith))
+    go (set-line y) e h f = rw (need-lines, e) (malformed-few _ _ n (omega arith))
+    go (lane-line y) e h f = rw (need-lines, e) (malformed-few _ _ n (omega arith))
     go (in-line xs) e h f = rw (need-lines, e) (malformed-few _ _ n (omega arith))
     go flush-line e h f = rw (need-lines, e) (malformed-few _ _ n (omega arith))
     go final-line e h f = rw (need-lines, e) (malformed-few _ _ n (omega arith))
@@ -303,7 +338,7 @@ places-few (l ∷ ls) rag = go (places-of (line-of l)) refl
   where
     go : (x : Option ℕ) → places-of (line-of l) ≡ x → Few (total (l ∷ ls)) (total (l ∷ ls)) (2 + total (l ∷ ls)) (need-places (l ∷ ls) rag)
     go none e = rw (need-places, e) (malformed-few _ _ 2 (omega arith))
-    go (some N) e = rw (need-places, e) (few-more _ (lines-few ls rag 3 none no-needs) (omega arith) (omega arith) (omega arith))
+    go (some N) e = rw (need-places, e) (few-more _ (lines-few ls rag 3 nothing no-needs) (omega arith) (omega arith) (omega arith))
 
 job-few : (ls : List (List ℕ)) (rag : Bool) → Few (total ls) (total ls) (1 + total ls) (need-job ls rag)
 unfolding need-job total
@@ -377,7 +412,7 @@ module _ (bs : List ℕ) (short : length bs ≤ most-job-bytes) (o : outcome bs 
       record {
         accepted = λ P k f. let a = agreed (finished P k) f in (a .0, under-ceiling k (a .1 .1 .sound .ceiling));
         malformed-alike = λ n f. agreed (rejected n refusal.malformed) f .1 refl;
-        long-alike = λ n f. let a = agreed (rejected n refusal.long-job) f in absurd (omega (arith, a .0));
+        long-alike = λ n f. let a = agreed (rejected n refusal.long-job) f in absurd (a .0 refl);
         only = λ n code f. let b = bounded (unread n code) f in (inl (b .0), omega (arith, b .1));
         few = λ c f. bounded (needing c) f;
         fit = λ c f. let b = bounded (needing c) f in few-fit c (b .0) (b .1);

@@ -49,8 +49,8 @@ module _ (P N W : ℕ) (hP : 1 ≤ P) where
       record {
         placing = λ c r st k l v i. off-inv P N (place-one P c r k) st (place-one-inv P N c r st k hP i) (push (off N (place-one P c r k)) st) (push-from (off N (place-one P c r k)) st);
         setting = λ x k v a i. off-inv P N (with-set x k) [] (with-set-inv P N hP k i x) (off N (with-set x k)) (λ r h. inl h);
-        adding = λ ins outs k v a e i. add-stack P N hP k i _ e;
-        delaying = λ ins outs k v a e i. queued-inv P N hP k i _;
+        adding = λ lane ins outs k v a e i. add-stack P N hP k i _ e;
+        delaying = λ lane ins outs k v a e i. queued-inv P N hP k i _;
         flushing = λ k v a i. flush-inv P N hP k i _ _;
         closing = λ k v a i. flush-inv P N hP k i _ _;
         recording = λ d k v n i. record-inv P N d k [] i;
@@ -122,13 +122,13 @@ module _ (P N W : ℕ) (hP : 1 ≤ P) where
   pub sound-setting : (x : ℕ) (k : Model) → answer N W (set x) k ≡ 0 → Sound P N W k [] → Sound P N W (rest N (with-set x k)) (off N (with-set x k))
   sound-setting x k a s = sound-kept .setting x k (s .inv) a s
 
-  pub sound-adding : (ins outs : List ℕ) (k : Model) → answer N W (add ins outs) k ≡ 0 → ready (watermark N k) ins ≡ true → Sound P N W k []
-      → Sound P N W (with-add (record { ins = ins; outs = outs }) k) (length (k .adds) ∷ [])
-  sound-adding ins outs k a e s = sound-kept .adding ins outs k (s .inv) a e s
+  pub sound-adding : (lane : ℕ) (ins outs : List ℕ) (k : Model) → answer N W (add lane ins outs) k ≡ 0 → ready (watermark N k) ins ≡ true → Sound P N W k []
+      → Sound P N W (with-add (record { lane = lane; ins = ins; outs = outs }) k) (length (k .adds) ∷ [])
+  sound-adding lane ins outs k a e s = sound-kept .adding lane ins outs k (s .inv) a e s
 
-  pub sound-delaying : (ins outs : List ℕ) (k : Model) → answer N W (add ins outs) k ≡ 0 → ready (watermark N k) ins ≡ false → Sound P N W k []
-      → Sound P N W (keep (queue (record { under = greatest ins; reg = length (k .adds) }) (k .pending)) (with-add (record { ins = ins; outs = outs }) k)) []
-  sound-delaying ins outs k a e s = sound-kept .delaying ins outs k (s .inv) a e s
+  pub sound-delaying : (lane : ℕ) (ins outs : List ℕ) (k : Model) → answer N W (add lane ins outs) k ≡ 0 → ready (watermark N k) ins ≡ false → Sound P N W k []
+      → Sound P N W (keep (queue (record { under = greatest ins; reg = length (k .adds) }) (k .pending)) (with-add (record { lane = lane; ins = ins; outs = outs }) k)) []
+  sound-delaying lane ins outs k a e s = sound-kept .delaying lane ins outs k (s .inv) a e s
 
 -- a model between calls
 pub record Between (P N W : ℕ) (k : Model) : Type 0 where

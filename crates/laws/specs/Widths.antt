@@ -96,8 +96,8 @@ module _ (P N W : ℕ) (hP : 1 ≤ P) (tP : P ≤ most-parallelism) (hN : N ≤ 
         positions = low-position;
         span-lengths = λ i. omega (arith, f .capped i);
         order-index = λ j h. omega (arith, f .room, f .many);
-        order-items = λ j h. item-fits _ (f .order-known j h) (order-entry (OfSession (length (k .adds))) (k .guide .order) j (s .entries .all .in-order) h);
-        held-items = λ i q h. item-fits _ (f .held-known i q h) (span-at (OfSession (length (k .adds))) (k .guide .spans) i q (s .entries .all .in-spans) h);
+        order-items = λ j h. item-fits ((nth k j) .item) (f .order-known j h) (order-entry (OfSession (length (k .adds))) (k .guide .order) j (s .entries .all .in-order) h);
+        held-items = λ i q h. item-fits (entry-at (k .guide .spans) i q) (f .held-known i q h) (span-at (OfSession (length (k .adds))) (k .guide .spans) i q (s .entries .all .in-spans) h);
         parallelisms = λ j h. omega (arith, f .parallelisms j h .1);
         rows-written = λ x h. omega (arith, s .entries .rows-written x h, f .room, f .many);
         tally-counts = λ p. omega (arith, tally-each P (k .guide .order) (λ j h. f .parallelisms j h .1) p, having-le p (k .guide .order), f .room, f .many);

@@ -12,6 +12,10 @@ use Rattle.rules.specs.Guide.{Loc, Item, Guide, fresh, flush as flush-gu
 use Rattle.rules.specs.Checks.{Check, verdict, any, short, spans-needed, tally-needed, check-range}
 use Rattle.rules.specs.Calls.{unless-refused}
 
+-- what is pushed: value, added and accepted are the caller's. "The guide alone writes lane 0" (document 02, M-104)
+abbrev pub pushed : ℕ → ℕ → ℕ → Item
+pushed value added accepted = record { value = value; added = added; accepted = accepted; lane = 0 }
+
 -- the guide, and how many pushes were accepted
 pub record Alone : Type 0 where
   pub guide : Guide

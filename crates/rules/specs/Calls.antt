@@ -7,14 +7,15 @@ use lib.Dec.{eqb}
 use Rattle.rules.specs.Model.{Model, do-set, do-add, note-add, do-flush, do-final}
 use Rattle.rules.specs.Checks.{Check, verdict, check-set, check-add, check-flush, check-final}
 
+-- an add: its lane, its inputs and its outputs
 pub data Call : Type 0 where
   set : ℕ → Call
-  add : List ℕ → List ℕ → Call
+  add : ℕ → List ℕ → List ℕ → Call
   flush final : Call
 
 unfoldable pub checks : ℕ → ℕ → Call → Model → List Check
 checks N W (set x) k = check-set N x k
-checks N W (add ins outs) k = check-add N W (record { ins = ins; outs = outs }) k
+checks N W (add lane ins outs) k = check-add N W (record { lane = lane; ins = ins; outs = outs }) k
 checks N W flush k = check-flush k
 checks N W final k = check-final k
 
@@ -25,7 +26,7 @@ answer N W c k = verdict (checks N W c k)
 -- what an accepted call does
 unfoldable pub apply-call : ℕ → ℕ → Call → Model → Model
 apply-call P N (set x) k = do-set P N x k
-apply-call P N (add ins outs) k = note-add (do-add P N (record { ins = ins; outs = outs }) k)
+apply-call P N (add lane ins outs) k = note-add (do-add P N (record { lane = lane; ins = ins; outs = outs }) k)
 apply-call P N flush k = do-flush P k
 apply-call P N final k = do-final P N k
 

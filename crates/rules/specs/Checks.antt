@@ -5,7 +5,7 @@ use mathlib.Core.Bool.{Bool, true, false, _||_}
 use Prim.Native.Nat.{ℕ, _+_, _*_}
 use lib.ListN.{length}
 use lib.Dec.{leb, ltb}
-use Rattle.rules.specs.Limits.{most-parallelism, most-places, most-in-a-list, most-flushes, least-flagged}
+use Rattle.rules.specs.Limits.{most-parallelism, most-places, most-lane, most-in-a-list, most-flushes, least-flagged}
 use Rattle.rules.specs.Refusals as refusal
 use Rattle.rules.specs.Model.{Reg, Model, member}
 
@@ -103,16 +103,17 @@ check-places N xs = record { fails = any (λ x. leb least-flagged x) xs; number 
 unfoldable pub check-set : ℕ → ℕ → Model → List Check
 check-set N x k = check-closed k ∷ (check-places N (x ∷ []) ++ (record { fails = taken k x; number = refusal.taken-place } ∷ []))
 
--- add: 7, 3, 4, 5, 6, 8, 9, 10
+-- add: 7, 18, 3, 4, 5, 6, 8, 9, 10
 unfoldable pub check-add : ℕ → ℕ → Reg → Model → List Check
 check-add N W a k =
     check-closed k
+    ∷ (record { fails = ltb most-lane (a .lane); number = refusal.unknown-lane }
     ∷ (record { fails = ltb most-in-a-list (length (a .ins)) || ltb most-in-a-list (length (a .outs)); number = refusal.too-many-numbers }
     ∷ (check-places N (a .ins ++ a .outs)
     ++ (record { fails = repeats (a .outs); number = refusal.repeated-output }
     ∷ (record { fails = any (taken k) (a .outs); number = refusal.taken-place }
     ∷ (record { fails = leb N (length (k .adds)); number = refusal.too-many-registrations }
-    ∷ (record { fails = ltb W (pooled (k .adds) + length (a .ins) + length (a .outs)); number = refusal.full-pool } ∷ []))))))
+    ∷ (record { fails = ltb W (pooled (k .adds) + length (a .ins) + length (a .outs)); number = refusal.full-pool } ∷ [])))))))
 
 -- flush: 7, 11
 unfoldable pub check-flush : Model → List Check

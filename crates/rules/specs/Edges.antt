@@ -1,5 +1,5 @@
--- Document 01, where each rule turns: the numbers, lists and lines of a job, the line of each refusal, 16 and 17, what a job needs (document
--- 02, M-101), the host's number, each lent length one short, the greatest list and place, the summary of small tallies, and calls as
+-- Document 01, where each rule turns: the numbers, lists and lines of a job, the line of each refusal, 16 and 17, lanes (document 02, M-104), what a
+-- job needs (M-101), the host's number, each lent length one short, the greatest list and place, the summary of small tallies, and calls as
 -- numbers. Computed from the definitions.
 use mathlib.Core.Path.{_≡_, refl}
 use mathlib.Core.List.{List, [], _∷_, _++_, map}
@@ -18,14 +18,14 @@ use Rattle.rules.specs.Checks.{verdict, any, repeats, written-by, taken,
 use Rattle.rules.specs.Calls.{Call, set, add, flush, final, checks, answer, apply-call, unless-refused, step}
 use Rattle.rules.specs.Alone.{check-alone}
 use Rattle.rules.specs.Summary.{Figures, sum, average, median-from, median, counts, thousands, figures}
-use Rattle.rules.specs.Job.{key-parallelism, key-places, key-set, key-in, key-out, flush-text, final-text, Line, parallelism-line, places-line, set-line, in-line, out-line}
+use Rattle.rules.specs.Job.{key-parallelism, key-places, key-set, key-lane, key-in, key-out, flush-text, final-text, Line, parallelism-line, places-line, set-line, lane-line, in-line, out-line}
 use Rattle.rules.specs.Job.{flush-line, final-line, malformed, Outcome, finished, rejected, lines-from, lines, ragged, digits-from, leading-zero, in-64-bits, number}
 use Rattle.rules.specs.Job.{fields-from, both, numbers, list, after-key, with-number, with-list, whole, key-or, line-of, on-line, closing, run-lines, job-sizes, run-places}
 use Rattle.rules.specs.Job.{run-job, outcome}
 use Rattle.rules.specs.Needs.{no-needs, with-call, most-spans, Reading, needing, unread, ending, need-lines, need-places, need-job, needs}
 use Rattle.rules.specs.Listing.{digits, decimal, Reply, fit, told, reply, printed, program, result, bytes-after}
 use Rattle.rules.specs.Listings.{job-1, listing-1}
-use Rattle.rules.specs.Encoding.{counted, set-front, add-outs, add-front, front, before-all, and-then, unless-empty, decode-from, decode}
+use Rattle.rules.specs.Encoding.{counted, set-front, add-outs, add-front, lane-front, front, before-all, and-then, unless-empty, decode-from, decode}
 
 abbrev one : ℕ → List ℕ
 one x = x ∷ []
@@ -106,6 +106,7 @@ abbrev kind : Line → List ℕ
 kind (parallelism-line n) = 1 ∷ n ∷ []
 kind (places-line n) = 2 ∷ n ∷ []
 kind (set-line n) = 3 ∷ n ∷ []
+kind (lane-line n) = 8 ∷ n ∷ []
 kind (in-line ns) = 4 ∷ ns
 kind (out-line ns) = 5 ∷ ns
 kind flush-line = 6 ∷ []
@@ -118,6 +119,11 @@ kinds-got =
     bytes "parallelism=1"
     ∷ bytes "places=1"
     ∷ bytes "set=1"
+    -- a lane of 255, one more, the greatest number of 64 bits
+    ∷ bytes "lane=0"
+    ∷ bytes "lane=255"
+    ∷ bytes "lane=256"
+    ∷ (key-lane ++ decimal (2 ^ 64 - 1))
     ∷ key-in
     ∷ bytes "out=1,2"
     ∷ flush-text
@@ -132,6 +138,13 @@ kinds-got =
     ∷ bytes "set=1=1"
     ∷ bytes "set=1,2"
     ∷ bytes "set=1\r"
+    -- 2^64, 21 digits, a leading zero, no number, two
+    ∷ (key-lane ++ decimal (2 ^ 64))
+    ∷ (key-lane ++ (49 ∷ replicate 20 48))
+    ∷ bytes "lane=00"
+    ∷ bytes "lane=01"
+    ∷ key-lane
+    ∷ bytes "lane=1,2"
     ∷ bytes "flush=12"
     ∷ bytes "flush="
     ∷ bytes "flush=0"
@@ -146,11 +159,15 @@ kinds-want =
     (1 ∷ 1 ∷ [])
     ∷ (2 ∷ 1 ∷ [])
     ∷ (3 ∷ 1 ∷ [])
+    ∷ (8 ∷ 0 ∷ [])
+    ∷ (8 ∷ 255 ∷ [])
+    ∷ (8 ∷ 256 ∷ [])
+    ∷ (8 ∷ 18446744073709551615 ∷ [])
     ∷ (4 ∷ [])
     ∷ (5 ∷ 1 ∷ 2 ∷ [])
     ∷ (6 ∷ [])
     ∷ (7 ∷ [])
-    ∷ replicate 15 (0 ∷ [])
+    ∷ replicate 21 (0 ∷ [])
 
 pub lines-turn : (numbers-got ≡ numbers-want) × (lists-got ≡ lists-want) × (kinds-got ≡ kinds-want)
 unfolding numbers-got numbers-want lists-got lists-want kinds-got kinds-want digits-from leading-zero in-64-bits number fields-from both numbers list after-key with-number
@@ -169,6 +186,9 @@ head P N = ln key-parallelism (decimal P) ++ ln key-places (decimal N)
 
 abbrev set-to : ℕ → List ℕ
 set-to x = ln key-set (decimal x)
+
+abbrev lane-to : ℕ → List ℕ
+lane-to x = ln key-lane (decimal x)
 
 abbrev in-to : ℕ → List ℕ
 in-to x = ln key-in (decimal x)
@@ -241,9 +261,41 @@ jobs =
     ∷ (head 2 6 ++ (set-to 1 ++ (set-to 0 ++ (ln flush-text [] ++ (in-to 1 ++ (out-to 2 ++ end))))))
     ∷ []
 
+-- jobs with lane lines
+abbrev lane-jobs : List (List ℕ)
+lane-jobs =
+    -- 255 is a lane; 256 and the greatest number of 64 bits are 18, on the `out=` line; 2^64 and 21 digits are 15, on their own
+    (head 2 6 ++ (lane-to 255 ++ (ln key-in [] ++ (out-to 0 ++ end))))
+    ∷ (head 2 6 ++ (lane-to 256 ++ (ln key-in [] ++ (out-to 0 ++ end))))
+    ∷ (head 2 6 ++ (lane-to (2 ^ 64 - 1) ++ (ln key-in [] ++ (out-to 0 ++ end))))
+    ∷ (head 2 6 ++ (lane-to (2 ^ 64) ++ (ln key-in [] ++ (out-to 0 ++ end))))
+    ∷ (head 2 6 ++ (ln key-lane (49 ∷ replicate 20 48) ++ (ln key-in [] ++ (out-to 0 ++ end))))
+    -- 18 before 5; a malformed `out=` line before 18; an earlier 18 before a later malformed line
+    ∷ (head 2 6 ++ (lane-to 256 ++ (in-to 6 ++ (out-to 0 ++ end))))
+    ∷ (head 2 6 ++ (lane-to 256 ++ (in-to 0 ++ (bytes "out=x\n" ++ end))))
+    ∷ (head 2 6 ++ (lane-to 256 ++ (in-to 0 ++ (out-to 1 ++ one 10))))
+    -- a line after a lane line that is no `in=` line: a lane, set, out, flush, final, a malformed `in=`, an empty one, none
+    ∷ (head 2 6 ++ (lane-to 1 ++ (lane-to 1 ++ (in-to 0 ++ (out-to 1 ++ end)))))
+    ∷ (head 2 6 ++ (lane-to 1 ++ (set-to 0 ++ end)))
+    ∷ (head 2 6 ++ (lane-to 1 ++ (out-to 1 ++ end)))
+    ∷ (head 2 6 ++ (lane-to 1 ++ (ln flush-text [] ++ end)))
+    ∷ (head 2 6 ++ (lane-to 1 ++ end))
+    ∷ (head 2 6 ++ (lane-to 1 ++ (bytes "in=x\n" ++ (out-to 1 ++ end))))
+    ∷ (head 2 6 ++ (lane-to 1 ++ (one 10 ++ (in-to 0 ++ (out-to 1 ++ end)))))
+    ∷ (head 2 6 ++ lane-to 1)
+    -- after lane and `in=` lines only an `out=` line: a set, none
+    ∷ (head 2 6 ++ (lane-to 1 ++ (in-to 0 ++ (set-to 0 ++ end))))
+    ∷ (head 2 6 ++ (lane-to 1 ++ in-to 0))
+    -- a lane line between `in=` and `out=`, as the first line, as the second, after final
+    ∷ (head 2 6 ++ (in-to 0 ++ (lane-to 1 ++ (out-to 1 ++ end))))
+    ∷ (lane-to 1 ++ (head 2 6 ++ end))
+    ∷ (bytes "parallelism=2\n" ++ (lane-to 1 ++ (bytes "places=6\n" ++ end)))
+    ∷ (head 2 6 ++ (end ++ lane-to 1))
+    ∷ []
+
 -- 16, before anything else, over 65,536 bytes and not at them
 pub jobs-got : List (List ℕ)
-jobs-got = map (λ (bs : List ℕ). ends (outcome bs)) (jobs ++ (replicate 65536 10 ∷ replicate 65537 10 ∷ []))
+jobs-got = map (λ (bs : List ℕ). ends (outcome bs)) (jobs ++ (lane-jobs ++ (replicate 65536 10 ∷ replicate 65537 10 ∷ [])))
 
 pub jobs-want : List (List ℕ)
 jobs-want =
@@ -291,6 +343,30 @@ jobs-want =
     ∷ (4 ∷ 15 ∷ [])
     ∷ (0 ∷ 2 ∷ 0 ∷ 0 ∷ [])
     ∷ (0 ∷ 2 ∷ 1 ∷ 3 ∷ [])
+    -- with lane lines
+    ∷ (0 ∷ 2 ∷ 1 ∷ 1 ∷ [])
+    ∷ (5 ∷ 18 ∷ [])
+    ∷ (5 ∷ 18 ∷ [])
+    ∷ (3 ∷ 15 ∷ [])
+    ∷ (3 ∷ 15 ∷ [])
+    ∷ (5 ∷ 18 ∷ [])
+    ∷ (5 ∷ 15 ∷ [])
+    ∷ (5 ∷ 18 ∷ [])
+    ∷ (4 ∷ 15 ∷ [])
+    ∷ (4 ∷ 15 ∷ [])
+    ∷ (4 ∷ 15 ∷ [])
+    ∷ (4 ∷ 15 ∷ [])
+    ∷ (4 ∷ 15 ∷ [])
+    ∷ (4 ∷ 15 ∷ [])
+    ∷ (4 ∷ 15 ∷ [])
+    ∷ (4 ∷ 15 ∷ [])
+    ∷ (5 ∷ 15 ∷ [])
+    ∷ (5 ∷ 15 ∷ [])
+    ∷ (4 ∷ 15 ∷ [])
+    ∷ (1 ∷ 15 ∷ [])
+    ∷ (2 ∷ 15 ∷ [])
+    ∷ (4 ∷ 15 ∷ [])
+    -- 16
     ∷ (1 ∷ 15 ∷ [])
     ∷ (1 ∷ 16 ∷ [])
     ∷ []
@@ -323,11 +399,12 @@ pub needs-got : List (List ℕ)
 needs-got =
     map (λ (bs : List ℕ). reads (needs bs)) (
     jobs
+    ++ (lane-jobs
     ++ (job-1
     ∷ (head 2 6 ++ (bytes "in=0,1,2\nout=3\n" ++ (ln flush-text [] ++ (bytes "in=\nout=4,5\n" ++ (bytes "in=\nout=\n" ++ (ln flush-text [] ++ end))))))
     ∷ (head (2 ^ 64) 6 ++ end)
     ∷ (head 0 6 ++ (set-to 9 ++ (in-to 0 ++ end)))
-    ∷ [])
+    ∷ []))
     )
 
 pub needs-want : List (List ℕ)
@@ -347,12 +424,28 @@ needs-want =
     -- accepted
     ++ (four 0 0 0 32
     ∷ four 1 2 1 66
+    -- lanes, which are read and not judged
+    ∷ four 1 1 0 34
+    ∷ four 1 1 0 34
+    ∷ four 1 1 0 34
+    ∷ bad 3
+    ∷ bad 3
+    ∷ four 1 2 0 34
+    ∷ bad 5
+    ∷ bad 6
+    ∷ replicate 8 (bad 4)
+    ++ (bad 5
+    ∷ bad 5
+    ∷ bad 4
+    ∷ bad 1
+    ∷ bad 2
+    ∷ bad 4
     -- the others
     ∷ four 4 7 0 40
     ∷ four 3 6 2 102
     ∷ bad 1
     ∷ bad 5
-    ∷ []))))))
+    ∷ [])))))))
 
 pub needs-turn : needs-got ≡ needs-want
 unfolding needs-got needs-want digits decimal lines-from lines ragged digits-from leading-zero in-64-bits number fields-from both numbers list after-key with-number with-list whole
@@ -375,7 +468,7 @@ replies-got =
     ∷ []
 
 pub replies-want : List (List ℕ)
-replies-want = (128 ∷ 1 ∷ 2 ∷ 9 ∷ []) ∷ (81 ∷ 7 ∷ 8 ∷ 9 ∷ []) ∷ (847 ∷ 7 ∷ 8 ∷ 9 ∷ []) ∷ (79 ∷ 7 ∷ 8 ∷ 9 ∷ []) ∷ (15936 ∷ 81 ∷ []) ∷ []
+replies-want = (128 ∷ 1 ∷ 2 ∷ 9 ∷ []) ∷ (81 ∷ 7 ∷ 8 ∷ 9 ∷ []) ∷ (847 ∷ 7 ∷ 8 ∷ 9 ∷ []) ∷ (79 ∷ 7 ∷ 8 ∷ 9 ∷ []) ∷ (17728 ∷ 81 ∷ []) ∷ []
 
 -- the program lends 65,536 listing bytes; with V up to 512 no listing is that long
 pub replies-turn : (replies-got ≡ replies-want) × ((job : List ℕ) → program job ≡ printed (reply 65536 job))
@@ -401,13 +494,13 @@ lengths-want = (0 ∷ 2 ∷ 2 ∷ 2 ∷ 2 ∷ 2 ∷ 2 ∷ 2 ∷ []) ∷ (0 ∷ 2
 pub calls-got : List (List ℕ)
 calls-got =
     -- 3: 65,535 inputs or outputs are not too many: the check after it, 4, answers, and by the first place alone
-    (answer 1 65535 (add (2 ^ 62 ∷ replicate 65534 0) []) initial ∷ answer 1 65535 (add (2 ^ 62 ∷ replicate 65535 0) []) initial ∷ [])
-    ∷ (answer 1 65535 (add [] (2 ^ 62 ∷ replicate 65534 0)) initial ∷ answer 1 65535 (add [] (2 ^ 62 ∷ replicate 65535 0)) initial ∷ [])
+    (answer 1 65535 (add 0 (2 ^ 62 ∷ replicate 65534 0) []) initial ∷ answer 1 65535 (add 0 (2 ^ 62 ∷ replicate 65535 0) []) initial ∷ [])
+    ∷ (answer 1 65535 (add 0 [] (2 ^ 62 ∷ replicate 65534 0)) initial ∷ answer 1 65535 (add 0 [] (2 ^ 62 ∷ replicate 65535 0)) initial ∷ [])
     -- 4: bit 62, bit 63, both; below them 5
     ∷ (answer 3 9 (set (2 ^ 62 - 1)) initial ∷ answer 3 9 (set (2 ^ 62)) initial ∷ answer 3 9 (set (2 ^ 63)) initial ∷ answer 3 9 (set (2 ^ 64 - 1)) initial
-    ∷ answer 3 9 (add (one 3) (one (2 ^ 63))) initial ∷ [])
+    ∷ answer 3 9 (add 0 (one 3) (one (2 ^ 63))) initial ∷ [])
     -- 10: a job's pool holds 4,096 list numbers
-    ∷ (answer 6 job-pool (add (replicate 4096 0) []) initial ∷ answer 6 job-pool (add (replicate 4096 0) (one 1)) initial ∷ [])
+    ∷ (answer 6 job-pool (add 0 (replicate 4096 0) []) initial ∷ answer 6 job-pool (add 0 (replicate 4096 0) (one 1)) initial ∷ [])
     ∷ []
 
 pub calls-want : List (List ℕ)
@@ -456,12 +549,18 @@ decoded-got =
     ∷ given (decode (3 ∷ 2 ∷ 0 ∷ []))
     -- no such call
     ∷ given (decode (0 ∷ []))
+    ∷ given (decode (6 ∷ []))
+    -- an add with a lane, truncated and whole; the lane may be any number
     ∷ given (decode (5 ∷ []))
+    ∷ given (decode (5 ∷ 3 ∷ []))
+    ∷ given (decode (5 ∷ 3 ∷ 1 ∷ 5 ∷ []))
+    ∷ given (decode (5 ∷ 3 ∷ 1 ∷ 5 ∷ 1 ∷ []))
+    ∷ given (decode (5 ∷ 3 ∷ 2 ∷ 6 ∷ 7 ∷ 1 ∷ 8 ∷ 5 ∷ 256 ∷ 0 ∷ 0 ∷ []))
     ∷ []
 
 pub decoded-want : List (List (List Call))
-decoded-want = ((set 7 ∷ add (3 ∷ 4 ∷ []) (5 ∷ []) ∷ flush ∷ add [] [] ∷ final ∷ []) ∷ []) ∷ ([] ∷ []) ∷ replicate 8 []
+decoded-want = ((set 7 ∷ add 0 (3 ∷ 4 ∷ []) (5 ∷ []) ∷ flush ∷ add 0 [] [] ∷ final ∷ []) ∷ []) ∷ ([] ∷ []) ∷ (replicate 12 [] ++ (((add 3 (6 ∷ 7 ∷ []) (8 ∷ []) ∷ add 256 [] [] ∷ []) ∷ []) ∷ []))
 
 pub decoded-turn : decoded-got ≡ decoded-want
-unfolding decoded-got decoded-want counted set-front add-outs add-front front before-all and-then unless-empty decode-from decode
+unfolding decoded-got decoded-want counted set-front add-outs add-front lane-front front before-all and-then unless-empty decode-from decode
 decoded-turn = refl

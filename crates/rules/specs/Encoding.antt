@@ -1,5 +1,5 @@
 -- A list of calls as numbers, as `replay` reads it: set x is 1, x; add is 2, the count of inputs, the inputs, the count of outputs, the
--- outputs; flush is 3; final is 4. (Added beside document 01; the format is described in docs/REPLAY.md.) Assumes nothing.
+-- outputs; flush is 3; final is 4; an add with a lane (document 02, M-104) is 5, the lane, and then as after 2, which stands for lane 0. (Added beside document 01; the format is described in docs/REPLAY.md.) Assumes nothing.
 use mathlib.Core.List.{List, [], _∷_}
 use mathlib.Core.Bool.{true, false}
 use mathlib.Core.Option.{Option, some, none}
@@ -21,6 +21,9 @@ flush-tag = 3
 abbrev pub final-tag : ℕ
 final-tag = 4
 
+abbrev pub lane-add-tag : ℕ
+lane-add-tag = 5
+
 -- a call read off the front, and the numbers that follow it
 pub record Front : Type 0 where
   pub call : Call
@@ -39,13 +42,17 @@ unfoldable pub set-front : List ℕ → Option Front
 set-front [] = none
 set-front (x ∷ l) = some (record { call = set x; rest = l })
 
-unfoldable pub add-outs : List ℕ → Option Counted → Option Front
-add-outs ins none = none
-add-outs ins (some c) = some (record { call = add ins (c .items); rest = c .rest })
+unfoldable pub add-outs : ℕ → List ℕ → Option Counted → Option Front
+add-outs lane ins none = none
+add-outs lane ins (some c) = some (record { call = add lane ins (c .items); rest = c .rest })
 
-unfoldable pub add-front : Option Counted → Option Front
-add-front none = none
-add-front (some c) = add-outs (c .items) (counted (c .rest))
+unfoldable pub add-front : ℕ → Option Counted → Option Front
+add-front lane none = none
+add-front lane (some c) = add-outs lane (c .items) (counted (c .rest))
+
+unfoldable pub lane-front : List ℕ → Option Front
+lane-front [] = none
+lane-front (lane ∷ l) = add-front lane (counted l)
 
 unfoldable pub front : List ℕ → Option Front
 front [] = none
@@ -54,11 +61,15 @@ front (tag ∷ l) =
       | true ↦ set-front l
       | false ↦
           elim (eqb tag add-tag) [
-            | true ↦ add-front (counted l)
+            | true ↦ add-front 0 (counted l)
             | false ↦
                 elim (eqb tag flush-tag) [
                   | true ↦ some (record { call = flush; rest = l })
-                  | false ↦ elim (eqb tag final-tag) [ true ↦ some (record { call = final; rest = l }) | false ↦ none ]
+                  | false ↦
+                      elim (eqb tag final-tag) [
+                        | true ↦ some (record { call = final; rest = l })
+                        | false ↦ elim (eqb tag lane-add-tag) [ true ↦ lane-front l | false ↦ none ]
+                      ]
                 ]
           ]
     ]

@@ -16,11 +16,12 @@ pub record Loc : Type 0 where
 unfoldable pub origin : Loc
 origin = record { span = 0; pos = 0 }
 
--- what a span holds of an entry: all but its parallelism
+-- what a span holds of an entry: all but its parallelism. Its lane (document 02, M-104) is a label: nothing here looks at it
 pub record Item : Type 0 where
   pub value : ℕ
   pub added : ℕ
   pub accepted : ℕ
+  pub lane : ℕ
 
 -- an entry of the order
 pub record Entry : Type 0 where

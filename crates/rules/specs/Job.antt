@@ -23,6 +23,9 @@ key-places = bytes "places="
 abbrev pub key-set : List ℕ
 key-set = bytes "set="
 
+abbrev pub key-lane : List ℕ
+key-lane = bytes "lane="
+
 abbrev pub key-in : List ℕ
 key-in = bytes "in="
 
@@ -89,7 +92,7 @@ list [] = some []
 list (b ∷ bs) = numbers (fields-from [] (b ∷ bs))
 
 pub data Line : Type 0 where
-  parallelism-line places-line set-line : ℕ → Line
+  parallelism-line places-line set-line lane-line : ℕ → Line
   in-line out-line : List ℕ → Line
   flush-line final-line malformed : Line
 
@@ -121,16 +124,19 @@ line-of bs =
     key-or (after-key key-parallelism bs) (λ r. with-number parallelism-line (number r))
     (key-or (after-key key-places bs) (λ r. with-number places-line (number r))
     (key-or (after-key key-set bs) (λ r. with-number set-line (number r))
+    (key-or (after-key key-lane bs) (λ r. with-number lane-line (number r))
     (key-or (after-key key-in bs) (λ r. with-list in-line (list r))
     (key-or (after-key key-out bs) (λ r. with-list out-line (list r))
     (key-or (after-key flush-text bs) (whole flush-line)
-    (key-or (after-key final-text bs) (whole final-line) malformed))))))
+    (key-or (after-key final-text bs) (whole final-line) malformed)))))))
 
--- what a line says where one of the head's or an `out=` line must stand, and where a call must start; any other line says nothing there
+-- what a line says where one of the head's, an `in=` or an `out=` line must stand, and where a call must start; any other line says nothing
+-- there
 abbrev pub parallelism-of : Line → Option ℕ
 parallelism-of (parallelism-line n) = some n
 parallelism-of (places-line n) = none
 parallelism-of (set-line n) = none
+parallelism-of (lane-line n) = none
 parallelism-of (in-line ns) = none
 parallelism-of (out-line ns) = none
 parallelism-of flush-line = none
@@ -141,25 +147,39 @@ abbrev pub places-of : Line → Option ℕ
 places-of (parallelism-line n) = none
 places-of (places-line n) = some n
 places-of (set-line n) = none
+places-of (lane-line n) = none
 places-of (in-line ns) = none
 places-of (out-line ns) = none
 places-of flush-line = none
 places-of final-line = none
 places-of malformed = none
 
+abbrev pub inputs-of : Line → Option (List ℕ)
+inputs-of (parallelism-line n) = none
+inputs-of (places-line n) = none
+inputs-of (set-line n) = none
+inputs-of (lane-line n) = none
+inputs-of (in-line ns) = some ns
+inputs-of (out-line ns) = none
+inputs-of flush-line = none
+inputs-of final-line = none
+inputs-of malformed = none
+
 abbrev pub outputs-of : Line → Option (List ℕ)
 outputs-of (parallelism-line n) = none
 outputs-of (places-line n) = none
 outputs-of (set-line n) = none
+outputs-of (lane-line n) = none
 outputs-of (in-line ns) = none
 outputs-of (out-line ns) = some ns
 outputs-of flush-line = none
 outputs-of final-line = none
 outputs-of malformed = none
 
--- a call starts: one of a single line, an add by its inputs, or final
+-- a call starts: one of a single line, an add by its lane or, where that is 0, by its inputs, or final
 pub data Start : Type 0 where
   single : Call → Start
+  label : ℕ → Start
   inputs : List ℕ → Start
   last : Start
 
@@ -167,6 +187,7 @@ abbrev pub start-of : Line → Option Start
 start-of (parallelism-line n) = none
 start-of (places-line n) = none
 start-of (set-line n) = some (single (set n))
+start-of (lane-line n) = some (label n)
 start-of (in-line ns) = some (inputs ns)
 start-of (out-line ns) = none
 start-of flush-line = some (single flush)
@@ -188,19 +209,32 @@ closing P n [] false k = finished P k
 closing P n [] true k = rejected n refusal.malformed
 closing P n (l ∷ ls) rag k = rejected n refusal.malformed
 
--- the lines from line n on; `begun` holds the inputs of an `in=` line whose `out=` line must come next
-unfoldable pub run-lines : ℕ → ℕ → ℕ → ℕ → Option (List ℕ) → List (List ℕ) → Bool → Model → Outcome
+-- what is read of an add whose `out=` line is still to come: nothing, where none has begun; its lane, and its `in=` line must come next; or
+-- lane and inputs, and its `out=` line must. "A lane line not directly followed by an `in=` line makes the line after it malformed."
+pub data Begun : Type 0 where
+  nothing : Begun
+  labelled : ℕ → Begun
+  reading : ℕ → List ℕ → Begun
+
+-- the lines from line n on
+unfoldable pub run-lines : ℕ → ℕ → ℕ → ℕ → Begun → List (List ℕ) → Bool → Model → Outcome
 run-lines P N W n begun [] rag k = rejected n refusal.malformed
-run-lines P N W n none (l ∷ ls) rag k =
+run-lines P N W n nothing (l ∷ ls) rag k =
     elim (start-of (line-of l)) [
-      | some (single c) ↦ on-line n (answer N W c k) (run-lines P N W (suc n) none ls rag (step P N W c k))
-      | some (inputs ins) ↦ run-lines P N W (suc n) (some ins) ls rag k
+      | some (single c) ↦ on-line n (answer N W c k) (run-lines P N W (suc n) nothing ls rag (step P N W c k))
+      | some (label x) ↦ run-lines P N W (suc n) (labelled x) ls rag k
+      | some (inputs ins) ↦ run-lines P N W (suc n) (reading 0 ins) ls rag k
       | some last ↦ on-line n (answer N W final k) (closing P (suc n) ls rag (step P N W final k))
       | none ↦ rejected n refusal.malformed
     ]
-run-lines P N W n (some ins) (l ∷ ls) rag k =
+run-lines P N W n (labelled x) (l ∷ ls) rag k =
+    elim (inputs-of (line-of l)) [
+      | some ins ↦ run-lines P N W (suc n) (reading x ins) ls rag k
+      | none ↦ rejected n refusal.malformed
+    ]
+run-lines P N W n (reading x ins) (l ∷ ls) rag k =
     elim (outputs-of (line-of l)) [
-      | some outs ↦ on-line n (answer N W (add ins outs) k) (run-lines P N W (suc n) none ls rag (step P N W (add ins outs) k))
+      | some outs ↦ on-line n (answer N W (add x ins outs) k) (run-lines P N W (suc n) nothing ls rag (step P N W (add x ins outs) k))
       | none ↦ rejected n refusal.malformed
     ]
 
@@ -222,7 +256,7 @@ unfoldable pub run-places : ℕ → List (List ℕ) → Bool → Outcome
 run-places P [] rag = rejected 2 refusal.malformed
 run-places P (l ∷ ls) rag =
     elim (places-of (line-of l)) [
-      | some N ↦ on-line 2 (verdict (check-open P N job-sizes)) (run-lines P N job-pool 3 none ls rag initial)
+      | some N ↦ on-line 2 (verdict (check-open P N job-sizes)) (run-lines P N job-pool 3 nothing ls rag initial)
       | none ↦ rejected 2 refusal.malformed
     ]
 
@@ -236,18 +270,20 @@ unfoldable pub outcome : List ℕ → Outcome
 outcome bs = elim (ltb most-job-bytes (length bs)) [ true ↦ rejected 1 refusal.long-job | false ↦ run-job (lines bs) (ragged bs) ]
 
 -- the model after the accepted calls of some lines, up to the first line that is refused
-unfoldable pub reached-lines : ℕ → ℕ → ℕ → Option (List ℕ) → List (List ℕ) → Model → Model
+unfoldable pub reached-lines : ℕ → ℕ → ℕ → Begun → List (List ℕ) → Model → Model
 reached-lines P N W begun [] k = k
-reached-lines P N W none (l ∷ ls) k =
+reached-lines P N W nothing (l ∷ ls) k =
     elim (start-of (line-of l)) [
-      | some (single c) ↦ elim (eqb (answer N W c k) 0) [ true ↦ reached-lines P N W none ls (step P N W c k) | false ↦ k ]
-      | some (inputs ins) ↦ reached-lines P N W (some ins) ls k
+      | some (single c) ↦ elim (eqb (answer N W c k) 0) [ true ↦ reached-lines P N W nothing ls (step P N W c k) | false ↦ k ]
+      | some (label x) ↦ reached-lines P N W (labelled x) ls k
+      | some (inputs ins) ↦ reached-lines P N W (reading 0 ins) ls k
       | some last ↦ step P N W final k
       | none ↦ k
     ]
-reached-lines P N W (some ins) (l ∷ ls) k =
+reached-lines P N W (labelled x) (l ∷ ls) k = elim (inputs-of (line-of l)) [ some ins ↦ reached-lines P N W (reading x ins) ls k | none ↦ k ]
+reached-lines P N W (reading x ins) (l ∷ ls) k =
     elim (outputs-of (line-of l)) [
-      | some outs ↦ elim (eqb (answer N W (add ins outs) k) 0) [ true ↦ reached-lines P N W none ls (step P N W (add ins outs) k) | false ↦ k ]
+      | some outs ↦ elim (eqb (answer N W (add x ins outs) k) 0) [ true ↦ reached-lines P N W nothing ls (step P N W (add x ins outs) k) | false ↦ k ]
       | none ↦ k
     ]
 
@@ -264,7 +300,7 @@ reached-places P (l ∷ ls) =
     elim (places-of (line-of l)) [
       | some N ↦
           elim (eqb (verdict (check-open P N job-sizes)) 0) [
-            | true ↦ some (record { parallelism = P; places = N; model = reached-lines P N job-pool none ls initial })
+            | true ↦ some (record { parallelism = P; places = N; model = reached-lines P N job-pool nothing ls initial })
             | false ↦ none
           ]
       | none ↦ none

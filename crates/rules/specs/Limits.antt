@@ -30,6 +30,10 @@ mark-written = 32768
 abbrev pub mark-set : ℕ
 mark-set = 49152
 
+-- "labels registrations with a lane, 0 to 255" (document 02, M-104)
+abbrev pub most-lane : ℕ
+most-lane = 255
+
 -- "A location is a span number (32 bits) and a position (32 bits)": as one number, the span number times this plus the position
 abbrev pub location-radix : ℕ
 location-radix = 2 ^ 32

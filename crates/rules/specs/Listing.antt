@@ -56,6 +56,9 @@ word-parallelism = bytes " parallelism="
 abbrev pub word-written : List ℕ
 word-written = bytes " written="
 
+abbrev pub word-lane : List ℕ
+word-lane = bytes " lane="
+
 -- a word and its number, and the same as a line
 unfoldable pub field : List ℕ → ℕ → List ℕ
 field word n = word ++ decimal n
@@ -78,12 +81,13 @@ before-run-out P n i (e ∷ es) = elim (leb (i + P) n) [ true ↦ e ∷ before-r
 unfoldable pub floor : ℕ → List Entry → ℕ
 floor P order = least (before-run-out P (length order) 0 order)
 
--- an entry's line: its order index, added, accepted and parallelism, and its row's written
+-- an entry's line: its order index, added, accepted and parallelism, its row's written, and its lane (document 02, M-104)
 unfoldable pub entry-line : ℕ → Entry → ℕ → List ℕ
 entry-line index e written =
     field word-order index
     ++ (field word-added (e .item .added)
-    ++ (field word-accepted (e .item .accepted) ++ (field word-parallelism (e .parallelism) ++ (field word-written written ++ (newline ∷ [])))))
+    ++ (field word-accepted (e .item .accepted)
+    ++ (field word-parallelism (e .parallelism) ++ (field word-written written ++ (field word-lane (e .item .lane) ++ (newline ∷ []))))))
 
 -- the entries from index n on
 unfoldable pub entry-lines : ℕ → List Entry → List ℕ → List ℕ

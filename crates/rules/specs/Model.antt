@@ -9,8 +9,9 @@ use lib.ListN.{length, getD, set as set-at}
 use lib.Dec.{ltb, eqb}
 use Rattle.rules.specs.Guide.{Loc, origin, Guide, fresh, flush as flush-guide, Placed, place}
 
--- a registration: the places that it reads and those that it writes
+-- a registration: its lane (document 02, M-104), the places that it reads and those that it writes
 pub record Reg : Type 0 where
+  pub lane : ℕ
   pub ins : List ℕ
   pub outs : List ℕ
 
@@ -104,7 +105,7 @@ spotted l [] = []
 spotted l (x ∷ xs) = record { at = x; loc = l } ∷ spotted l xs
 
 no-reg : Reg
-no-reg = record { ins = []; outs = [] }
+no-reg = record { lane = 0; ins = []; outs = [] }
 
 -- the accepted add numbered r
 unfoldable pub reg-of : Model → ℕ → Reg
@@ -114,7 +115,7 @@ reg-of k r = getD (k .adds) r no-reg
 -- placing registration r, the own add of c registrations having ended
 unfoldable pub place-one : ℕ → ℕ → ℕ → Model → Model
 place-one P c r k =
-    let p : Placed = place P (after (k .located) ((reg-of k r) .ins)) (record { value = r; added = r; accepted = c }) (k .guide) in
+    let p : Placed = place P (after (k .located) ((reg-of k r) .ins)) (record { value = r; added = r; accepted = c; lane = (reg-of k r) .lane }) (k .guide) in
     record {
       adds = k .adds;
       sets = k .sets;

@@ -9,7 +9,7 @@ use lib.Dec.{ltb}
 use Rattle.rules.specs.Limits.{most-job-bytes}
 use Rattle.rules.specs.Refusals as refusal
 use Rattle.rules.specs.Calls.{Call, set, add, flush, final}
-use Rattle.rules.specs.Job.{single, inputs, last, start-of, outputs-of, places-of, parallelism-of, line-of, lines, ragged}
+use Rattle.rules.specs.Job.{single, label, inputs, last, start-of, inputs-of, outputs-of, Begun, nothing, labelled, reading, places-of, parallelism-of, line-of, lines, ragged}
 
 -- "its registrations n, pool numbers w, plain flushes f"
 pub record Needs : Type 0 where
@@ -23,7 +23,7 @@ no-needs = record { registrations = 0; pool = 0; flushes = 0 }
 -- the needs with a call more
 unfoldable pub with-call : Call → Needs → Needs
 with-call (set x) c = c
-with-call (add ins outs) c = record { registrations = suc (c .registrations); pool = c .pool + length ins + length outs; flushes = c .flushes }
+with-call (add x ins outs) c = record { registrations = suc (c .registrations); pool = c .pool + length ins + length outs; flushes = c .flushes }
 with-call flush c = record { registrations = c .registrations; pool = c .pool; flushes = suc (c .flushes) }
 with-call final c = c
 
@@ -42,26 +42,32 @@ ending n [] false c = needing c
 ending n [] true c = unread n refusal.malformed
 ending n (l ∷ ls) rag c = unread n refusal.malformed
 
--- the lines from line n on; `begun` holds the inputs of an `in=` line whose `out=` line must come next
-unfoldable pub need-lines : ℕ → Option (List ℕ) → List (List ℕ) → Bool → Needs → Reading
+-- the lines from line n on; a lane is read and not judged
+unfoldable pub need-lines : ℕ → Begun → List (List ℕ) → Bool → Needs → Reading
 need-lines n begun [] rag c = unread n refusal.malformed
-need-lines n none (l ∷ ls) rag c =
+need-lines n nothing (l ∷ ls) rag c =
     elim (start-of (line-of l)) [
-      | some (single call) ↦ need-lines (suc n) none ls rag (with-call call c)
-      | some (inputs ins) ↦ need-lines (suc n) (some ins) ls rag c
+      | some (single call) ↦ need-lines (suc n) nothing ls rag (with-call call c)
+      | some (label x) ↦ need-lines (suc n) (labelled x) ls rag c
+      | some (inputs ins) ↦ need-lines (suc n) (reading 0 ins) ls rag c
       | some last ↦ ending (suc n) ls rag (with-call final c)
       | none ↦ unread n refusal.malformed
     ]
-need-lines n (some ins) (l ∷ ls) rag c =
+need-lines n (labelled x) (l ∷ ls) rag c =
+    elim (inputs-of (line-of l)) [
+      | some ins ↦ need-lines (suc n) (reading x ins) ls rag c
+      | none ↦ unread n refusal.malformed
+    ]
+need-lines n (reading x ins) (l ∷ ls) rag c =
     elim (outputs-of (line-of l)) [
-      | some outs ↦ need-lines (suc n) none ls rag (with-call (add ins outs) c)
+      | some outs ↦ need-lines (suc n) nothing ls rag (with-call (add x ins outs) c)
       | none ↦ unread n refusal.malformed
     ]
 
 -- line 2
 unfoldable pub need-places : List (List ℕ) → Bool → Reading
 need-places [] rag = unread 2 refusal.malformed
-need-places (l ∷ ls) rag = elim (places-of (line-of l)) [ some N ↦ need-lines 3 none ls rag no-needs | none ↦ unread 2 refusal.malformed ]
+need-places (l ∷ ls) rag = elim (places-of (line-of l)) [ some N ↦ need-lines 3 nothing ls rag no-needs | none ↦ unread 2 refusal.malformed ]
 
 -- line 1
 unfoldable pub need-job : List (List ℕ) → Bool → Reading

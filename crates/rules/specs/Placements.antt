@@ -8,7 +8,7 @@ use Rattle.rules.specs.Guide.{Loc, Item, Entry, parallelism, parallelism
 use Rattle.rules.specs.Guide.{put, settle, apply, place}
 
 item : Item
-item = record { value = 0; added = 0; accepted = 0 }
+item = record { value = 0; added = 0; accepted = 0; lane = 0 }
 
 start : Placed
 start = record { guide = fresh; loc = record { span = 0; pos = 0 } }

@@ -28,21 +28,22 @@ pack l = l .span * location-radix + l .pos
 unfoldable pub location-of : Model → ℕ → ℕ
 location-of k x = pack (loc-of (k .located) x)
 
--- "A record row has added, accepted, written (below), order index and parallelism."
+-- "A record row has added, accepted, written (below), order index and parallelism." Document 02, M-104: and the entry's lane
 pub record Row : Type 0 where
   pub added : ℕ
   pub accepted : ℕ
   pub written : ℕ
   pub index : ℕ
   pub parallelism : ℕ
+  pub lane : ℕ
 
 -- a row that is zeros but for written
 unfoldable pub unfilled : ℕ → Row
-unfilled written = record { added = 0; accepted = 0; written = written; index = 0; parallelism = 0 }
+unfilled written = record { added = 0; accepted = 0; written = written; index = 0; parallelism = 0; lane = 0 }
 
 -- "in a row all but written is filled when the entry is appended": by entry e, whose order index is n
 unfoldable pub fill : ℕ → Entry → Row → Row
-fill n e row = record { added = e .item .added; accepted = e .item .accepted; written = row .written; index = n; parallelism = e .parallelism }
+fill n e row = record { added = e .item .added; accepted = e .item .accepted; written = row .written; index = n; parallelism = e .parallelism; lane = e .item .lane }
 
 -- registration r's row after these entries were appended, the first of them at order index n; an entry fills the row of its added
 unfoldable pub row-after : ℕ → Row → ℕ → List Entry → Row

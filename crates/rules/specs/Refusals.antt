@@ -30,6 +30,10 @@ long-job = 16
 abbrev pub long-listing : ℕ
 long-listing = 17
 
+-- document 02, M-104: "18, lane over 255"
+abbrev pub unknown-lane : ℕ
+unknown-lane = 18
+
 -- "Refused by the state"
 abbrev pub closed : ℕ
 closed = 7

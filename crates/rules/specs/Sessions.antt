@@ -1,11 +1,12 @@
 -- Document 01, sessions worked through: R1 to R3, J1's record and tally, a placing that fills span 2, and each refusal at its edge with
--- the order of the checks, for the calls, the opening and the guide alone. Computed from the definitions.
+-- the order of the checks, for the calls, the opening and the guide alone; lanes of registrations
+-- that are placed at once and that wait (document 02, M-104). Computed from the definitions.
 use mathlib.Core.Path.{_≡_, refl}
 use mathlib.Core.List.{List, [], _∷_, _++_, map}
 use mathlib.Core.Bool.{false}
 use mathlib.Core.Option.{Option, some, none}
-use Prim.Native.Nat.{ℕ, _^_}
-use lib.ListN.{length, replicate}
+use Prim.Native.Nat.{ℕ, _-_, _^_}
+use lib.ListN.{length, take, replicate}
 use Rattle.rules.specs.Guide.{Loc, Item, Entry, parallelism, parallelism-by, last-parallelism, annotate, released, fresh, release, flush as flush-guide, seek, found, begin}
 use Rattle.rules.specs.Guide.{choose, put, settle, apply, place, tallied, tally}
 use Rattle.rules.specs.Model.{Model, initial, member, marked, tracked, run-from, watermark, greatest, ready, loc-of, later, top, after, spotted, reg-of, place-one, due}
@@ -13,7 +14,8 @@ use Rattle.rules.specs.Model.{left, queue, keep, push, off, rest, with-s
 use Rattle.rules.specs.Model.{with-flush, do-flush, do-final, registrations}
 use Rattle.rules.specs.Checks.{verdict, any, repeats, written-by, taken, pooled, check-range, too-short, check-open, check-closed, check-places, check-set, check-add, check-flush, check-final}
 use Rattle.rules.specs.Calls.{Call, set, add, flush, final, checks, answer, apply-call, unless-refused, step, run, answers}
-use Rattle.rules.specs.Alone.{Alone, alone, check-alone, holds, stray, worn, check-push, check-flush-alone, push as push-request, flush as flush-request, requests, reply}
+use Rattle.rules.specs.Record.{Row, unfilled, fill, row-after, row-of}
+use Rattle.rules.specs.Alone.{Alone, pushed, alone, check-alone, holds, stray, worn, check-push, check-flush-alone, push as push-request, flush as flush-request, requests, reply}
 use Rattle.rules.specs.Alone.{serve, serve-step, serve-all, replies}
 
 -- of each entry of the order: added, accepted and parallelism
@@ -34,20 +36,20 @@ one : ℕ → List ℕ
 one x = x ∷ []
 
 J1 : List Call
-J1 = set 0 ∷ add (one 0) (one 1) ∷ add (one 1) (one 2) ∷ add (one 0) (one 3) ∷ add [] (one 4) ∷ final ∷ []
+J1 = set 0 ∷ add 0 (one 0) (one 1) ∷ add 0 (one 1) (one 2) ∷ add 0 (one 0) (one 3) ∷ add 0 [] (one 4) ∷ final ∷ []
 
 -- set 1, set 2, in=2, in=1
 before : List Call
-before = set 1 ∷ set 2 ∷ add (one 2) [] ∷ add (one 1) [] ∷ []
+before = set 1 ∷ set 2 ∷ add 0 (one 2) [] ∷ add 0 (one 1) [] ∷ []
 
 -- R1: registration 1 is placed before 0; R2: with an add that writes 0 for `set 0` the order is 2, 0, 1; R3: in=2 waits until 0 and 1 are set
 pub registrar-got : List (List ℕ)
 registrar-got =
     placed 6 (before ++ (set 0 ∷ final ∷ []))
-    ∷ placed 6 (before ++ (add [] (one 0) ∷ final ∷ []))
-    ∷ waiting 6 (set 2 ∷ add (one 2) [] ∷ [])
-    ∷ waiting 6 (set 2 ∷ add (one 2) [] ∷ set 0 ∷ [])
-    ∷ waiting 6 (set 2 ∷ add (one 2) [] ∷ set 0 ∷ set 1 ∷ [])
+    ∷ placed 6 (before ++ (add 0 [] (one 0) ∷ final ∷ []))
+    ∷ waiting 6 (set 2 ∷ add 0 (one 2) [] ∷ [])
+    ∷ waiting 6 (set 2 ∷ add 0 (one 2) [] ∷ set 0 ∷ [])
+    ∷ waiting 6 (set 2 ∷ add 0 (one 2) [] ∷ set 0 ∷ set 1 ∷ [])
     ∷ []
 
 pub registrar-want : List (List ℕ)
@@ -55,7 +57,7 @@ registrar-want = (1 ∷ 0 ∷ []) ∷ (2 ∷ 0 ∷ 1 ∷ []) ∷ (0 ∷ []) ∷ 
 
 -- J1's entries, written, tally and counts; a session whose third placing fills span 2 (the released span is span 0 all the same)
 third : List Call
-third = add [] (one 0) ∷ add (one 0) (one 1) ∷ add (one 0) (one 2) ∷ []
+third = add 0 [] (one 0) ∷ add 0 (one 0) (one 1) ∷ add 0 (one 0) (one 2) ∷ []
 
 pub record-got : List (List (List ℕ))
 record-got =
@@ -79,19 +81,19 @@ flushed f = with-flush 2 f false initial
 pub calls-got : List (List ℕ)
 calls-got =
     -- 7 for all four
-    answers 2 3 9 (final ∷ set 0 ∷ add [] [] ∷ flush ∷ final ∷ []) initial
+    answers 2 3 9 (final ∷ set 0 ∷ add 0 [] [] ∷ flush ∷ final ∷ []) initial
     -- 4 before 5; 5 at V; 8 for a place that is set
     ∷ answers 2 3 9 (set (2 ^ 62) ∷ set 3 ∷ set 2 ∷ set 2 ∷ []) initial
     -- 3 over 65,535, before 5
-    ∷ answers 2 3 9 (add (replicate 65536 9) [] ∷ add [] (replicate 65536 9) ∷ []) initial
+    ∷ answers 2 3 9 (add 0 (replicate 65536 9) [] ∷ add 0 [] (replicate 65536 9) ∷ []) initial
     -- 4, 5, 6 before 8; 8 for an output that is set, written, or promised by one that waits
-    ∷ answers 2 3 9 (add (one (2 ^ 62)) (one 3) ∷ add (one 3) (0 ∷ 0 ∷ []) ∷ set 0 ∷ add [] (0 ∷ 0 ∷ []) ∷ add [] (one 0) ∷ add (one 2) (one 1) ∷ add [] (one 1) ∷ set 1 ∷ []) initial
+    ∷ answers 2 3 9 (add 0 (one (2 ^ 62)) (one 3) ∷ add 0 (one 3) (0 ∷ 0 ∷ []) ∷ set 0 ∷ add 0 [] (0 ∷ 0 ∷ []) ∷ add 0 [] (one 0) ∷ add 0 (one 2) (one 1) ∷ add 0 [] (one 1) ∷ set 1 ∷ []) initial
     -- 9 once V are accepted, before 10
-    ∷ answers 2 2 1 (add [] [] ∷ add [] [] ∷ add (0 ∷ 0 ∷ []) [] ∷ []) initial
+    ∷ answers 2 2 1 (add 0 [] [] ∷ add 0 [] [] ∷ add 0 (0 ∷ 0 ∷ []) [] ∷ []) initial
     -- 10 past W, not at W; a refused one takes nothing
-    ∷ answers 2 9 3 (add (0 ∷ 0 ∷ []) (1 ∷ 2 ∷ []) ∷ add [] (1 ∷ 2 ∷ []) ∷ add [] (one 3) ∷ add (one 1) [] ∷ add [] [] ∷ []) initial
+    ∷ answers 2 9 3 (add 0 (0 ∷ 0 ∷ []) (1 ∷ 2 ∷ []) ∷ add 0 [] (1 ∷ 2 ∷ []) ∷ add 0 [] (one 3) ∷ add 0 (one 1) [] ∷ add 0 [] [] ∷ []) initial
     -- 12 with one waiting
-    ∷ answers 2 3 9 (add (one 0) [] ∷ final ∷ set 0 ∷ final ∷ []) initial
+    ∷ answers 2 3 9 (add 0 (one 0) [] ∷ final ∷ set 0 ∷ final ∷ []) initial
     -- 11 with 65,535 plain flushes done; final still runs
     ∷ (answer 3 9 flush (flushed 65534) ∷ answer 3 9 flush (flushed 65535) ∷ answer 3 9 final (flushed 65535) ∷ [])
     -- an accepted plain flush counts, and the 65,535th is the last that is accepted; final counts none
@@ -113,11 +115,75 @@ calls-want =
     ∷ (1 ∷ 65535 ∷ 1 ∷ [])
     ∷ []
 
+-- ---- lanes
+
+-- of each entry of the order its registration and its lane, the same of what the first four spans hold, and of each row parallelism and lane
+labels : List Item → List (List ℕ)
+labels es = map (λ (e : Item). e .added ∷ e .lane ∷ []) es
+
+order-labels : Model → List (List ℕ)
+order-labels k = labels (map (λ (e : Entry). e .item) (k .guide .order))
+
+held-labels : Model → List (List (List ℕ))
+held-labels k = map labels (take 4 (k .guide .spans))
+
+row-labels : List ℕ → Model → List (List ℕ)
+row-labels rs k = map (λ (r : ℕ). let row : Row = row-of k r in row .parallelism ∷ row .lane ∷ []) rs
+
+-- registration 0, in lane 3, waits for place 1, which registration 2, in lane 0, writes; registration 1 is in lane 255
+labelled : List Call
+labelled = add 3 (one 1) (one 2) ∷ add 255 [] (one 0) ∷ add 0 (one 0) (one 1) ∷ []
+
+-- a held entry has its lane, and a row none until its entry is appended
+pub lanes-got : List (List (List ℕ))
+lanes-got =
+    held-labels (run 2 6 100 labelled initial)
+    ++ (order-labels (run 2 6 100 labelled initial)
+    ∷ row-labels (0 ∷ 1 ∷ 2 ∷ []) (run 2 6 100 labelled initial)
+    ∷ order-labels (run 2 6 100 (labelled ++ (final ∷ [])) initial)
+    ∷ row-labels (0 ∷ 1 ∷ 2 ∷ 3 ∷ []) (run 2 6 100 (labelled ++ (final ∷ [])) initial)
+    ∷ [])
+
+pub lanes-want : List (List (List ℕ))
+lanes-want =
+    []
+    ∷ ((1 ∷ 255 ∷ []) ∷ [])
+    ∷ ((2 ∷ 0 ∷ []) ∷ [])
+    ∷ ((0 ∷ 3 ∷ []) ∷ [])
+    ∷ []
+    ∷ ((0 ∷ 0 ∷ []) ∷ (0 ∷ 0 ∷ []) ∷ (0 ∷ 0 ∷ []) ∷ [])
+    ∷ ((1 ∷ 255 ∷ []) ∷ (2 ∷ 0 ∷ []) ∷ (0 ∷ 3 ∷ []) ∷ [])
+    ∷ ((1 ∷ 3 ∷ []) ∷ (1 ∷ 255 ∷ []) ∷ (1 ∷ 0 ∷ []) ∷ (0 ∷ 0 ∷ []) ∷ [])
+    ∷ []
+
+-- 18 over 255, up to the greatest number; after 7, and before 3, 4, 5, 6, 8, 9 and 10
+pub lane-checks-got : List (List ℕ)
+lane-checks-got =
+    answers 2 3 9 (add 255 [] [] ∷ add 256 [] [] ∷ add (2 ^ 64 - 1) [] [] ∷ final ∷ add 256 [] [] ∷ []) initial
+    ∷ answers 2 3 9 (add 255 (replicate 65536 9) [] ∷ add 256 (replicate 65536 9) [] ∷ add 256 [] (replicate 65536 9) ∷ []) initial
+    ∷ answers 2 3 9 (add 256 (one (2 ^ 62)) [] ∷ add 256 (one 3) [] ∷ add 256 [] (0 ∷ 0 ∷ []) ∷ set 0 ∷ add 256 [] (one 0) ∷ add 255 [] (one 0) ∷ []) initial
+    ∷ answers 2 1 9 (add 255 [] [] ∷ add 256 [] [] ∷ add 255 [] [] ∷ []) initial
+    ∷ answers 2 3 0 (add 256 (one 0) [] ∷ add 255 (one 0) [] ∷ []) initial
+    ∷ []
+
+pub lane-checks-want : List (List ℕ)
+lane-checks-want = (0 ∷ 18 ∷ 18 ∷ 0 ∷ 7 ∷ []) ∷ (3 ∷ 18 ∷ 18 ∷ []) ∷ (18 ∷ 18 ∷ 18 ∷ 0 ∷ 18 ∷ 8 ∷ []) ∷ (0 ∷ 18 ∷ 9 ∷ []) ∷ (18 ∷ 10 ∷ []) ∷ []
+
+pub lanes : (lanes-got ≡ lanes-want) × (lane-checks-got ≡ lane-checks-want)
+unfolding lanes-got lanes-want lane-checks-got lane-checks-want labels order-labels held-labels row-labels one labelled parallelism parallelism-by last-parallelism annotate released
+    fresh release flush-guide seek found begin choose put settle apply place initial member marked tracked run-from watermark greatest ready loc-of later top after spotted reg-of
+    place-one due left queue keep push off rest with-set with-add cascade settle-all do-set do-add with-record note-add note-flush note-final with-flush do-flush do-final verdict
+    any repeats written-by taken pooled check-closed check-places check-set check-add check-flush check-final checks answer apply-call unless-refused step run answers unfilled fill
+    row-after row-of
+lanes = (refl, refl)
+
+-- ---- opening, and the guide alone
+
 opens : ℕ → ℕ → ℕ → ℕ → ℕ → ℕ
 opens P N spans waits tally-length = verdict (check-open P N (record { spans = spans; order = 5; rows = 5; marks = 5; locations = 5; waiting = waits; tally = tally-length }))
 
 item : ℕ → Item
-item n = record { value = n; added = n; accepted = n }
+item n = pushed n n n
 
 -- a guide whose last span number is n + 31
 far : ℕ → Alone

@@ -11,6 +11,9 @@ pub const MOST_IN_A_LIST: usize = 65535;
 
 pub const MOST_FLUSHES: u32 = 65535;
 
+// The greatest lane.
+pub const MOST_LANE: u64 = 255;
+
 // The least place with bit 62 or 63.
 pub const LEAST_FLAGGED: u64 = 4611686018427387904;
 
@@ -82,3 +85,5 @@ pub const MALFORMED: u64 = 15;
 pub const LONG_JOB: u64 = 16;
 
 pub const LONG_LISTING: u64 = 17;
+
+pub const UNKNOWN_LANE: u64 = 18;
