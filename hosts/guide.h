@@ -42,7 +42,7 @@ extern "C" {
    requests   6 numbers a request: kind, span, position, value, added, accepted; span and position
               are those of `after` for kind 2 and not looked at otherwise; a flush has a kind alone
    spans      the guide's own
-   order      4 numbers an entry: value, added, accepted, parallelism
+   order      4 numbers an entry: value, added, accepted, parallelism (its lane, by layout.h, is 0)
    tally      how many entries have the parallelism 0, 1, .. P
    answers    37 numbers a request: its number, 0 if it was accepted; span and position of an
               accepted push, else 0, 0; the order's length in entries; span 0's number; 32 lengths */

@@ -14,17 +14,19 @@
 extern "C" {
 #endif
 
-/* An entry of the order; 16 bytes, of which the last two are free. */
+/* An entry of the order; 16 bytes, of which the last is free. */
 struct order_info {
     uint32_t value, added, accepted;
     uint16_t parallelism;
+    uint8_t lane;
 };
 
 /* Copies entries `from` to `to` - 1 of a flat order (four numbers an entry) to the same indices of
    `order`; every other struct stays as it was. Each slice is a pointer and a count; they do not
    overlap, and neither pointer is null, also where the count is 0. Returns 0; or ORDER_TOO_SHORT, every
    struct as it was, where `from` is past `to`, one of the two slices is too short for `to` entries, or
-   the parallelism of an entry to be copied has more than 16 bits (none of a session has). */
+   the fourth number of an entry to be copied, parallelism + 65,536 * lane, has more than 24 bits (none of
+   a session has). */
 uint64_t order_append_new(struct order_info *order, size_t order_count,
                           const uint32_t *flat, size_t flat_count,
                           size_t from, size_t to);

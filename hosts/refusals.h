@@ -23,7 +23,8 @@ enum order_code {
     ORDER_GUIDE_EXHAUSTED = 14,
     ORDER_MALFORMED = 15,
     ORDER_LONG_JOB = 16,
-    ORDER_LONG_LISTING = 17
+    ORDER_LONG_LISTING = 17,
+    ORDER_UNKNOWN_LANE = 18
 };
 
 /* A number in words: when it is given. Never null; a number that is none of the above is said to be so. */
@@ -65,6 +66,8 @@ static inline const char *order_code_text(uint64_t number) {
         return "the job has more than 65,536 bytes";
     case ORDER_LONG_LISTING:
         return "the listing is longer than the bytes that are lent for it";
+    case ORDER_UNKNOWN_LANE:
+        return "a registration's lane is over 255";
     default:
         return "no number of a refusal";
     }

@@ -31,6 +31,11 @@ extern "C" {
 #define REPLAY_LOCATIONS(v) ((size_t)(v))
 #define REPLAY_WAITING(v) ((size_t)ORDER_WAITING_NUMBERS * (size_t)(v))
 
+/* Parallelism and lane of x, an entry's fourth number or a row's fifth, which is parallelism + 65,536 * lane.
+   The lane is at most ORDER_MOST_LANE. */
+#define REPLAY_PARALLELISM(x) ((uint32_t)(x) % ORDER_LANE_RADIX)
+#define REPLAY_LANE(x) ((uint32_t)(x) / ORDER_LANE_RADIX)
+
 /* Marks of a place. */
 #define REPLAY_UNTRACKED 0
 #define REPLAY_WRITTEN ORDER_MARK_WRITTEN
@@ -43,9 +48,10 @@ extern "C" {
    slice that is too short.
 
    spans, waiting, pool   the session's own
-   order                  4 numbers an entry: value, added, accepted, parallelism
+   order                  4 numbers an entry: value, added, accepted, parallelism + 65,536 * lane
    tally                  how many entries have the parallelism 0, 1, .. P
-   rows                   5 numbers a registration: added, accepted, written, order index, parallelism
+   rows                   5 numbers a registration: added, accepted, written, order index,
+                          parallelism + 65,536 * lane; all but written is 0 until its entry is in the order
    marks, locations       for each place; a location is its span number * 2^32 + its position
    answers                the number of each call, 0 if it was accepted; one for each call is needed */
 typedef uint64_t replay_function(uint32_t *spans, size_t spans_count,

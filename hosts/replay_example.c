@@ -26,7 +26,7 @@ int main(void) {
         2, 1, 0, 1, 1, /* add, input 0, output 1 */
         2, 1, 1, 1, 2, /* add, input 1, output 2 */
         2, 1, 0, 1, 3, /* add, input 0, output 3 */
-        2, 0, 1, 4,    /* add, no input, output 4 */
+        2, 0, 1, 4,    /* add, no input, output 4; in lane 3: 5, 3, 0, 1, 4 */
         4,             /* final */
     };
     uint64_t answers[6];
@@ -50,8 +50,9 @@ int main(void) {
     for (uint64_t i = 0; i < returned / 64; i++) {
         const uint32_t *entry = order + REPLAY_ENTRY_NUMBERS * i;
         printf("order=%" PRIu64 " added=%" PRIu32 " accepted=%" PRIu32 " parallelism=%" PRIu32
-               " written=%" PRIu32 "\n",
-               i, entry[1], entry[2], entry[3], rows[REPLAY_ROW_NUMBERS * entry[1] + 2]);
+               " written=%" PRIu32 " lane=%" PRIu32 "\n",
+               i, entry[1], entry[2], REPLAY_PARALLELISM(entry[3]),
+               rows[REPLAY_ROW_NUMBERS * entry[1] + 2], REPLAY_LANE(entry[3]));
     }
     return ended;
 }

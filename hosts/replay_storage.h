@@ -42,12 +42,12 @@ struct replay_storage {
 
 /* An entry of the order. */
 struct replay_entry {
-    uint32_t value, added, accepted, parallelism;
+    uint32_t value, added, accepted, parallelism, lane;
 };
 
 /* What is recorded of a registration. */
 struct replay_row {
-    uint32_t added, accepted, written, order_index, parallelism;
+    uint32_t added, accepted, written, order_index, parallelism, lane;
 };
 
 /* Where a place stands: (0,0) if it is set. */
@@ -173,13 +173,14 @@ static inline uint64_t replay_run_held(struct replay_storage *storage, const uin
 
 /* Entry `index` of the order; past its end all zeros, which no entry is: its parallelism is 1 or more. */
 static inline struct replay_entry replay_entry_at(const struct replay_storage *storage, size_t index) {
-    struct replay_entry entry = {0, 0, 0, 0};
+    struct replay_entry entry = {0, 0, 0, 0, 0};
     if (index < storage->entries) {
         const uint32_t *numbers = storage->order + REPLAY_ENTRY_NUMBERS * index;
         entry.value = numbers[0];
         entry.added = numbers[1];
         entry.accepted = numbers[2];
-        entry.parallelism = numbers[3];
+        entry.parallelism = REPLAY_PARALLELISM(numbers[3]);
+        entry.lane = REPLAY_LANE(numbers[3]);
     }
     return entry;
 }
@@ -187,14 +188,15 @@ static inline struct replay_entry replay_entry_at(const struct replay_storage *s
 /* The row of a registration, numbered from 0 as it was added; after an accepted run. All but `written`
    is 0 until the entry stands in the order; all zeros where there is no such registration. */
 static inline struct replay_row replay_row_at(const struct replay_storage *storage, size_t registration) {
-    struct replay_row row = {0, 0, 0, 0, 0};
+    struct replay_row row = {0, 0, 0, 0, 0, 0};
     if (storage->refusal == ORDER_ACCEPTED && registration < storage->v) {
         const uint32_t *numbers = storage->rows + REPLAY_ROW_NUMBERS * registration;
         row.added = numbers[0];
         row.accepted = numbers[1];
         row.written = numbers[2];
         row.order_index = numbers[3];
-        row.parallelism = numbers[4];
+        row.parallelism = REPLAY_PARALLELISM(numbers[4]);
+        row.lane = REPLAY_LANE(numbers[4]);
     }
     return row;
 }

@@ -35,8 +35,9 @@ static void print_order(const struct replay_storage *storage) {
     for (size_t i = 0; i < storage->entries; i++) {
         struct replay_entry entry = replay_entry_at(storage, i);
         struct replay_row row = replay_row_at(storage, entry.added);
-        printf("order=%zu added=%" PRIu32 " accepted=%" PRIu32 " parallelism=%" PRIu32 " written=%" PRIu32 "\n",
-               i, entry.added, entry.accepted, entry.parallelism, row.written);
+        printf("order=%zu added=%" PRIu32 " accepted=%" PRIu32 " parallelism=%" PRIu32 " written=%" PRIu32
+               " lane=%" PRIu32 "\n",
+               i, entry.added, entry.accepted, entry.parallelism, row.written, entry.lane);
     }
     for (size_t parallelism = 1; parallelism <= storage->p; parallelism++)
         printf("parallelism %zu: %" PRIu32 " entries\n", parallelism, replay_tally_at(storage, parallelism));
@@ -57,8 +58,8 @@ static int print_last_struct(const struct replay_storage *storage) {
     if (code != ORDER_ACCEPTED)
         return refused("the order as structs", code);
     if (storage->entries > 0)
-        printf("the last entry: added %" PRIu32 ", parallelism %u\n",
-               infos[storage->entries - 1].added, (unsigned)infos[storage->entries - 1].parallelism);
+        printf("the last entry: added %" PRIu32 ", parallelism %u, lane %u\n", infos[storage->entries - 1].added,
+               (unsigned)infos[storage->entries - 1].parallelism, (unsigned)infos[storage->entries - 1].lane);
     return 0;
 }
 

@@ -208,7 +208,7 @@ def head(constructors):
         other = OTHER.get(module, {})
         words = [f"{name} as {other[name]}" if name in other else name for name in names.split()] + constructors.get(module, [])
         lines.append(f"use Rattle.rules.specs.{module}.{{{', '.join(words)}}}\n")
-    lines.append(f"use Rattle.vectors.specs.Shown.{{Compared, {', '.join(SHOWN.split())}}}\n")
+    lines.append(f"use Rattle.vectors.specs.Shown.{{Compared, add, {', '.join(SHOWN.split())}}}\n")
     return "".join(lines)
 
 
@@ -219,7 +219,7 @@ def unfolded():
 def written():
     """The files by name, and a sentence on what is in them."""
     sessions, guides = list(chosen_sessions()), list(chosen_guides())
-    parts = [(sessions[i:i + A_FILE], {"Calls": ["set", "add", "flush", "final"]}) for i in range(0, len(sessions), A_FILE)]
+    parts = [(sessions[i:i + A_FILE], {"Calls": ["set", "flush", "final"]}) for i in range(0, len(sessions), A_FILE)]
     parts += [(guides[i:i + A_FILE], {"Alone": ["push", "flush"]}) for i in range(0, len(guides), A_FILE)]
     texts = {}
     for number, (runs, constructors) in enumerate(parts, 1):

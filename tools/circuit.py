@@ -8,6 +8,7 @@
     circuit.py backwards N     N registrations sent in reverse: each waits for the one that comes after it
 
     --parallelism P            P of the job, 8 unless given
+    --lanes L                  the registrations take the lanes 0 to L - 1 in turn; without it no lane line is written
 
 The same words always give the same job. The exit status is 2 where a word is wrong, the circuit would have more
 than 16,777,216 places, or the job cannot be written.
@@ -17,7 +18,7 @@ import itertools
 import os
 import sys
 
-MOST_PLACES = 16_777_216  # no job has more
+MOST_PLACES, LANES = 16_777_216, 256  # no job has more
 STATE, RATE, SPONGES, ROUNDS = 12, 8, 16, 30
 FULL = {*range(4), *range(26, 30)}
 
@@ -85,9 +86,21 @@ KINDS = {
 }
 
 
+def in_lanes(calls, count):
+    """The calls, a line with its lane before each registration."""
+    turns = itertools.cycle(range(count))
+    return (f"lane={next(turns)}\n{call}" if call.startswith("in=") else call for call in calls)
+
+
 def positive(word):
     if not (word.isascii() and word.isdigit() and len(word) <= 20) or int(word) == 0:
         raise argparse.ArgumentTypeError("a number from 1 on, of at most 20 digits")
+    return int(word)
+
+
+def lanes(word):
+    if positive(word) > LANES:
+        raise argparse.ArgumentTypeError(f"a number from 1 to {LANES}")
     return int(word)
 
 
@@ -98,16 +111,19 @@ def main():
     parser.add_argument("kind", choices=KINDS)
     parser.add_argument("count", type=positive, metavar="N")
     parser.add_argument("--parallelism", type=positive, default=8, metavar="P")
+    parser.add_argument("--lanes", type=lanes, metavar="L")
     options = parser.parse_args()
-    calls, places_of = KINDS[options.kind]
-    places = places_of(options.count)
+    calls_of, places_of = KINDS[options.kind]
+    calls, places = calls_of(options.count), places_of(options.count)
+    if options.lanes is not None:
+        calls = in_lanes(calls, options.lanes)
     if places > MOST_PLACES:
         return f"{name}: {options.kind} {options.count} has {places:,} places, and a job has at most {MOST_PLACES:,}"
     if sys.stdout is None:
         return f"{name}: standard output is closed"
     try:
         sys.stdout.write(f"parallelism={options.parallelism}\nplaces={places}\n")
-        sys.stdout.writelines(calls(options.count))
+        sys.stdout.writelines(calls)
         sys.stdout.write("final=1\n")
         sys.stdout.flush()
     except OSError as error:

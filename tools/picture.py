@@ -8,9 +8,9 @@
 
 An entry's bar covers the entries that may run together from it on: itself and its parallelism - 1
 successors, stopping where the order stops. With the job, a dot in an entry's row stands under each
-entry that writes one of its inputs. An order of more than 200 entries is drawn as a curve instead:
-along the order the least and the greatest width of neighbouring entries, scaled; --entries draws a part
-of it as bars. The job goes with bars only.
+entry that writes one of its inputs. Lanes are told beside the bars unless all are 0. An order of more than
+200 entries is drawn as a curve instead: along the order the least and the greatest width of neighbouring
+entries, scaled; --entries draws a part of it as bars. The job goes with bars only.
 
 The exit status is 1 where the job was refused and 2 where there is no listing, an option is wrong or the
 drawing cannot be written.
@@ -25,7 +25,7 @@ COLUMNS = 1000
 MARGIN = 100  # of a curve and of a histogram, for the marks' words
 LIGHT, DARK, DOT, GRID, MARK = "#9ecae1", "#3182bd", "#b3541e", "#dddddd", "#555555"
 
-Entry = collections.namedtuple("Entry", "index added width")
+Entry = collections.namedtuple("Entry", "index added width lane")
 Listing = collections.namedtuple("Listing", "head entries")
 
 
@@ -63,7 +63,7 @@ def listing_of(text):
     if head["status"] != 0:
         raise Refused(f"the job is refused: status={head['status']}, line={head.get('line', '?')}; docs/JOB.md says why")
     try:
-        entries = [Entry(line["order"], line["added"], line["parallelism"]) for line in lines]
+        entries = [Entry(line["order"], line["added"], line["parallelism"], line.get("lane", 0)) for line in lines]
     except KeyError as missing:
         raise Unreadable(f"an entry's line has no {missing}") from None
     for index, entry in enumerate(entries):
@@ -94,14 +94,21 @@ def covered(entry, count):
     return min(entry.index + entry.width, count)
 
 
+def in_lanes(entries):
+    """Whether the lanes are told: not where all are 0."""
+    return any(entry.lane for entry in entries)
+
+
 def bars_as_text(entries, count):
     first = entries[0].index if entries else 0
     last = entries[-1].index + 1 if entries else 0
-    out = ["entry  reg  width"]
+    told = in_lanes(entries)
+    out = ["entry  reg  width" + ("  lane" if told else "")]
     for entry in entries:
         end = min(covered(entry, count), last)
         bar = "." * (entry.index - first) + "#" * (end - entry.index) + "." * (last - end)
-        out.append(f"{entry.index:5} {entry.added:4} {entry.width:6}  {bar}")
+        lane = f" {entry.lane:5}" if told else ""
+        out.append(f"{entry.index:5} {entry.added:4} {entry.width:6}{lane}  {bar}")
     return out
 
 
@@ -153,13 +160,15 @@ def rule(x1, y1, x2, y2, colour=GRID):
 
 
 def bars_as_svg(entries, count, reads):
-    first, rows, cell, left, top = entries[0].index if entries else 0, len(entries), 22, 190, 30
+    told = in_lanes(entries)
+    first, rows, cell, left, top = entries[0].index if entries else 0, len(entries), 22, 250 if told else 190, 30
     shown = range(first, first + rows)
-    out = [label(8, top - 10, "entry: registration, width")]
+    out = [label(8, top - 10, "entry: registration, width" + (", lane" if told else ""))]
     for row, entry in enumerate(entries):
         x, y = left + row * cell, top + row * cell
         end = min(covered(entry, count), first + rows)
-        out.append(label(8, y + 15, f"{entry.index}: registration {entry.added}, {entry.width}"))
+        lane = f", lane {entry.lane}" if told else ""
+        out.append(label(8, y + 15, f"{entry.index}: registration {entry.added}, {entry.width}{lane}"))
         out.append(label(x + cell / 2, top - 10, entry.index, "middle"))
         out.append(box(x, y + 3, (end - entry.index) * cell, cell - 6, LIGHT))
         out.append(box(x, y + 3, cell, cell - 6, DARK))

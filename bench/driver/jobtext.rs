@@ -30,15 +30,21 @@ fn write_calls(numbers: &[u64], out: &mut impl Write) -> std::io::Result<()> {
     while let Some(tag) = numbers.next() {
         match tag {
             1 => writeln!(out, "set={}", numbers.next().expect("a place"))?,
-            2 => {
-                write_list("in=", &mut numbers, out)?;
-                write_list("out=", &mut numbers, out)?;
+            2 => write_lists(&mut numbers, out)?,
+            5 => {
+                writeln!(out, "lane={}", numbers.next().expect("a lane"))?;
+                write_lists(&mut numbers, out)?;
             }
             3 => writeln!(out, "flush=1")?,
             _ => writeln!(out, "final=1")?,
         }
     }
     Ok(())
+}
+
+fn write_lists(numbers: &mut std::slice::Iter<u64>, out: &mut impl Write) -> std::io::Result<()> {
+    write_list("in=", numbers, out)?;
+    write_list("out=", numbers, out)
 }
 
 fn write_list(key: &str, numbers: &mut std::slice::Iter<u64>, out: &mut impl Write) -> std::io::Result<()> {

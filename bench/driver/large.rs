@@ -1,5 +1,5 @@
 //! Host code, not proved: the Rust behind order-large's own reading and printing, a job from a file,
-//! its listing on standard output.
+//! its listing on standard output. The Rust knows no lanes: they are left out of the calls, and listed as 0.
 //!
 //!   large SIDE FILE    SIDE is published or ordered
 
@@ -22,7 +22,7 @@ macro_rules! list {
                 listing.borrow_mut().head(&head).expect(told)
             },
             |added, accepted, parallelism, written| {
-                let listed = Listed { added, accepted, parallelism, written };
+                let listed = Listed { added, accepted, parallelism, written, lane: 0 };
                 listing.borrow_mut().entry(listed).expect(told)
             },
         );

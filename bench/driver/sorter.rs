@@ -34,14 +34,15 @@ pub struct Calls {
 }
 
 impl Calls {
-    /// Reads calls encoded as docs/REPLAY.md says; the list must be well formed.
+    /// Reads calls encoded as docs/REPLAY.md says; the list must be well formed. Lanes are left out.
     pub fn decoded(numbers: &[u64]) -> Self {
         let mut read = Self { calls: Vec::new(), lists: Vec::new() };
         let mut numbers = numbers.iter().copied();
         while let Some(tag) = numbers.next() {
             let call = match tag {
                 1 => Call::Set(Place(numbers.next().expect("a place"))),
-                2 => {
+                2 | 5 => {
+                    skip_lane(tag, &mut numbers);
                     let inputs = read.lists.len();
                     let outputs = read.counted(&mut numbers);
                     Call::Add(inputs, outputs, read.counted(&mut numbers))
@@ -59,6 +60,13 @@ impl Calls {
         let count = numbers.next().expect("a count") as usize;
         self.lists.extend(numbers.take(count).map(Place));
         self.lists.len()
+    }
+}
+
+/// Passes over the lane of an add that has one: the Rust knows no lanes.
+fn skip_lane(tag: u64, numbers: &mut impl Iterator<Item = u64>) {
+    if tag == 5 {
+        numbers.next().expect("a lane");
     }
 }
 
@@ -98,7 +106,8 @@ impl Sorter {
         }
     }
 
-    /// Makes calls encoded as docs/REPLAY.md says, each as it is read; the list must be well formed.
+    /// Makes calls encoded as docs/REPLAY.md says, each as it is read; the list must be well formed. Lanes
+    /// are left out.
     pub fn run_encoded(&mut self, numbers: &[u64]) {
         let (mut inputs, mut outputs) = (Vec::new(), Vec::new());
         let mut numbers = numbers.iter().copied();
@@ -108,7 +117,8 @@ impl Sorter {
                     let place = Place(numbers.next().expect("a place"));
                     self.sorter.set_value(place, Element::from_u64_unchecked(1))
                 }
-                2 => {
+                2 | 5 => {
+                    skip_lane(tag, &mut numbers);
                     for list in [&mut inputs, &mut outputs] {
                         let count = numbers.next().expect("a count") as usize;
                         list.clear();

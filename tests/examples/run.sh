@@ -1,6 +1,6 @@
 #!/bin/bash
 # Every job of examples/ gives the listing that is kept beside it, the generated ones are what their
-# commands write, and examples/README.md tells the answers of the refused ones, one for every number. Needs
+# commands write, lanes change nothing else, and examples/README.md tells the answers of the refused ones, one for every number. Needs
 # target/bin/order, which the proofs' step builds.
 set -euo pipefail
 trap 'echo "$0: line $LINENO ended with $?" >&2' ERR
@@ -19,7 +19,14 @@ while read -r name command; do
   $command | tests/same.sh - "examples/$name" || { echo "tests/examples: $name is not what '$command' writes" >&2; failed=1; }
 done < <(sed -n 's/^| \[\([a-z]*\.job\)\].*| `\(tools[^`]*\)` |$/\1 \2/p' examples/README.md)
 
-[ $generated -eq "$(ls examples/*.job | wc -l)" ] || { echo "tests/examples: README says of $generated jobs only how they are made" >&2; failed=1; }
+by_hand=$(grep -c '^| \[[a-z]*\.job\].*| by hand |$' examples/README.md)
+[ $((generated + by_hand)) -eq "$(ls examples/*.job | wc -l)" ] ||
+  { echo "tests/examples: README says of $generated jobs only how they are made, and of $by_hand that they are by hand" >&2; failed=1; }
+
+# Without its lane lines lanes.job has the same listing but for the lanes.
+without_lanes() { sed -E -f tests/reference/without_lanes.sed; }
+without_lanes <examples/lanes.job | $order | without_lanes | tests/same.sh - <(without_lanes <examples/lanes.listing) ||
+  { echo "tests/examples: lanes.job without its lane lines has another listing" >&2; failed=1; }
 
 told=0
 while IFS='|' read -r name status line; do
@@ -33,14 +40,24 @@ python3 .ci/transcripts.py examples/README.md
 
 # Of every number that a job can be refused with by `order` there is an example there.
 answers=$(sed -n 's/.*status=\([1-9][0-9]*\).*/\1/p' examples/README.md | sort -nu | paste -sd' ')
-[ "$answers" = "1 2 4 5 6 8 9 10 12 15 16" ] || { echo "tests/examples: README has examples of $answers" >&2; exit 1; }
+[ "$answers" = "1 2 4 5 6 8 9 10 12 15 16 18" ] || { echo "tests/examples: README has examples of $answers" >&2; exit 1; }
 
-for words in 'poseidon' 'poseidon 0' 'tower 3' 'chain 4 --parallelism x' 'chain ³'; do
+misuses=0
+for words in 'poseidon' 'poseidon 0' 'tower 3' 'chain 4 --parallelism x' 'chain ³' 'chain 4 --lanes 0' 'chain 4 --lanes 257' 'chain 4 --lanes x'; do
+  misuses=$((misuses + 1))
   status=0
   # shellcheck disable=SC2086
   tools/circuit.py $words >/dev/null 2>&1 || status=$?
   [ $status = 2 ] || { echo "tests/examples: circuit.py takes '$words'" >&2; exit 1; }
 done
+# The lanes of a circuit take turns, and without their lines it is the circuit.
+[ "$(tools/circuit.py wide 5 --lanes 3 | sed -n 's/^lane=//p' | paste -sd' ')" = "0 1 2 0 1" ] || { echo "tests/examples: circuit.py wide 5 --lanes 3 has other lanes" >&2; exit 1; }
+for words in 'poseidon 1' 'backwards 300 --parallelism 3'; do
+  # shellcheck disable=SC2086
+  tools/circuit.py $words --lanes 256 | without_lanes | tests/same.sh - <(tools/circuit.py $words) || { echo "tests/examples: circuit.py $words --lanes 256 is another circuit" >&2; exit 1; }
+done
+tools/circuit.py wide 300 --lanes 256 >target/circuit.out
+tests/prints.sh ' lane=255' $order <target/circuit.out || { echo "tests/examples: a circuit in 256 lanes has no entry in lane 255" >&2; exit 1; }
 tools/circuit.py wide 100000 2>&1 | head -n 1 | grep -qx 'parallelism=8' || { echo "tests/examples: circuit.py minds a closed pipe" >&2; exit 1; }
 
 # The count of places in a job's head is that of the places it names, and the greatest is 16,777,216: one registration more, or
@@ -74,4 +91,4 @@ lost() { # SENTENCE REDIRECTION
 }
 lost 'standard output is closed' '>&-'
 lost 'the job cannot be written: [Errno 28] No space left on device' '>/dev/full'
-echo "examples: $count jobs with their listings, $generated of them generated, $told answers told, 5 misuses and 4 circuits that are too large refused, 2 lost jobs said"
+echo "examples: $count jobs with their listings, $generated of them generated, $told answers told, $misuses misuses and 4 circuits that are too large refused, 2 lost jobs said"

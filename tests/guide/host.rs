@@ -1,6 +1,7 @@
 //! Answers runs of the guide alone (oracle/FORMAT.md) through the exported `guide_replay`, on storage
 //! that is full of other numbers before the opening. After every run it looks that the order's entries
-//! not yet appended and all that lies beyond the needed lengths are as they were.
+//! not yet appended and all that lies beyond the needed lengths are as they were, and that every lane is 0:
+//! an entry's fourth number is its parallelism alone, and that of an entry held is 0.
 //!
 //!   guide runs       runs on standard input, printed again with the answers beside them
 //!   guide refusals   calls that must be refused with 15, 1 or 2 and change nothing, each beside one that is not
@@ -13,7 +14,7 @@ use std::process::exit;
 #[allow(dead_code)]
 mod layout;
 
-use layout::{Needed, ANSWER, ENTRY, REQUEST, SPANS};
+use layout::{Needed, ANSWER, ENTRY, LANE_RADIX, REQUEST, SPANS};
 
 extern "C" {
     #[allow(clippy::too_many_arguments)]
@@ -312,6 +313,9 @@ fn answer(run: &Run) -> String {
     {
         fail("storage beyond the needed lengths, or of entries not yet appended, was changed");
     }
+    if storage.order[..ENTRY * written].chunks(ENTRY).any(|entry| entry[3] >= LANE_RADIX) {
+        fail("the guide alone writes a lane");
+    }
     say(&mut text, "refused", refused);
     say(&mut text, "locations", locations);
     say(&mut text, "order", storage.order[..ENTRY * written].chunks(ENTRY).map(tuple));
@@ -321,9 +325,12 @@ fn answer(run: &Run) -> String {
     // A span's row is its number modulo the count of spans.
     let held = (0..SPANS).flat_map(|i| {
         let row = (last[4] as usize + i) % SPANS * (p + 1);
-        storage.spans[ENTRY * row..].chunks(ENTRY).take(last[5 + i] as usize).map(|entry| tuple(&entry[..3]))
+        storage.spans[ENTRY * row..].chunks(ENTRY).take(last[5 + i] as usize)
     });
-    say(&mut text, "held", held);
+    if held.clone().any(|entry| entry[3] != 0) {
+        fail("the guide alone holds an entry with a parallelism or a lane");
+    }
+    say(&mut text, "held", held.map(|entry| tuple(&entry[..3])));
     text.push_str("end\n");
     text
 }

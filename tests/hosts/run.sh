@@ -362,7 +362,10 @@ done
 head='parallelism=2\nplaces=6\n' long=$(seq -s, 100)
 for text in 'parallelism=2' '\n' 'parallelism=2\nplaces=x\n' 'parallelism=2\nplaces=0\n' "$head" "${head}in=1" "${head}in=1,\n" \
   "${head}in=1\n" "${head}in=1\nin=2\n" "${head}in=1\nout=2" "${head}in=\nout=1,1\n" "${head}in=$long\nout=9\n" "${head}in=$long,\n" \
-  "${head}in=$long," "${head}set=$long\n" "${head}set=\t\e[2J\r\0\377\\\n" "${head}final=1\nfinal=1\n" "${head}final=1" "${head}\n"; do
+  "${head}in=$long," "${head}set=$long\n" "${head}set=\t\e[2J\r\0\377\\\n" "${head}final=1\nfinal=1\n" "${head}final=1" "${head}\n" \
+  "${head}lane=256\nin=1\nout=2\n" "${head}lane=255\nin=6\nout=2\n" "${head}lane=1\nset=0\n" "${head}lane=1\n" "${head}lane=1" \
+  "${head}lane=1\nin=1,\n" "${head}lane=1\nin=1" "${head}lane=1\nlane=1\n" "${head}lane=01\n" "${head}in=\nlane=1\nout=1\n" \
+  "lane=1\n$head" "parallelism=2\nlane=1\n"; do
   printf "$text" >"$work/words.${#jobs[@]}.job"
   jobs+=("$work/words.${#jobs[@]}.job")
 done

@@ -18,10 +18,11 @@ static void look(int holds, const char *what) {
     }
 }
 
-/* J1 of document 01, with a set that is refused (8) and a plain flush. */
-static const uint64_t calls[] = {1, 0, 1, 0, 2, 1, 0, 1, 1, 2, 1, 1, 1, 2, 2, 1, 0, 1, 3, 3, 2, 0, 1, 4, 4};
-enum { CALLS = sizeof calls / sizeof *calls, MADE = 8, P = 2, V = 6, W = 16 };
-static const uint64_t codes[MADE] = {0, ORDER_TAKEN_PLACE, 0, 0, 0, 0, 0, 0};
+/* J1 of document 01 with its last registration in lane 9, a set (8) and a lane (18) that are refused, and a plain flush. */
+static const uint64_t calls[] = {1, 0, 1, 0, 2, 1, 0, 1, 1, 2, 1, 1, 1, 2, 2, 1, 0, 1, 3, 3,
+                                 5, 256, 0, 1, 5, 5, 9, 0, 1, 4, 4};
+enum { CALLS = sizeof calls / sizeof *calls, MADE = 9, P = 2, V = 6, W = 16 };
+static const uint64_t codes[MADE] = {0, ORDER_TAKEN_PLACE, 0, 0, 0, 0, ORDER_UNKNOWN_LANE, 0, 0};
 
 /* The slices lie in the block, one after the other, none over another. */
 static void look_at_layout(const struct replay_storage *s, const char *block, size_t bytes) {
@@ -44,13 +45,15 @@ static void look_at_layout(const struct replay_storage *s, const char *block, si
 
 /* The order, the rows and the places after a run. */
 static void look_at_results(const struct replay_storage *s) {
-    struct replay_entry first = replay_entry_at(s, 0), past = replay_entry_at(s, 4);
-    look(first.value == 0 && first.added == 0 && first.accepted == 0 && first.parallelism == 2, "entry 0");
-    look(past.value == 0 && past.added == 0 && past.accepted == 0 && past.parallelism == 0, "no entry 4");
+    struct replay_entry first = replay_entry_at(s, 0), labelled = replay_entry_at(s, 3), past = replay_entry_at(s, 4);
+    look(first.value == 0 && first.added == 0 && first.accepted == 0 && first.parallelism == 2 && first.lane == 0, "entry 0");
+    look(labelled.added == 3 && labelled.parallelism == 1 && labelled.lane == 9, "entry 3");
+    look(past.value == 0 && past.added == 0 && past.accepted == 0 && past.parallelism == 0 && past.lane == 0, "no entry 4");
+    look(REPLAY_PARALLELISM(s->order[15]) == 1 && REPLAY_LANE(s->order[15]) == 9, "the fourth number of entry 3");
     struct replay_row last = replay_row_at(s, 3), none = replay_row_at(s, V);
     look(last.added == 3 && last.accepted == 3 && last.written == 4 && last.order_index == 3 &&
-         last.parallelism == 1, "row 3");
-    look(none.added == 0 && none.parallelism == 0 && none.written == 0, "no row V");
+         last.parallelism == 1 && last.lane == 9, "row 3");
+    look(none.added == 0 && none.parallelism == 0 && none.written == 0 && none.lane == 0, "no row V");
     look(replay_mark_at(s, 0) == REPLAY_SET && replay_mark_at(s, 4) == REPLAY_WRITTEN &&
          replay_mark_at(s, 5) == REPLAY_UNTRACKED && replay_mark_at(s, V) == REPLAY_UNTRACKED, "marks");
     look(replay_location_at(s, 0).span == 0 && replay_location_at(s, 1).span == 1 &&
@@ -103,8 +106,8 @@ static void look_at_runs(char *memory, size_t offset) {
 /* What the window holds after each beginning of the list; two blocks of memory, one for each call, are the same
    afterwards. */
 static void look_at_held(void) {
-    static const size_t ends[MADE] = {2, 4, 9, 14, 19, 20, 24, 25};
-    static const uint64_t held[MADE] = {0, 0, 1, 2, 3, 0, 1, 0};
+    static const size_t ends[MADE] = {2, 4, 9, 14, 19, 20, 25, 30, 31};
+    static const uint64_t held[MADE] = {0, 0, 1, 2, 3, 0, 0, 1, 0};
     static char block[100000], other[sizeof block];
     uint64_t answers[MADE], others[MADE];
     struct replay_storage s = replay_storage_in(block, P, V, W), t = replay_storage_in(other, P, V, W);
@@ -196,14 +199,20 @@ static void look_at_others(void) {
     uint8_t listing[1000];
     const char *empty = "parallelism=1\nplaces=1\nfinal=1\n";
     struct order_info info;
-    uint32_t flat[4] = {7, 8, 9, 10};
+    uint32_t flat[4] = {7, 8, 9, 10 + 65536 * 11};
     look(order_job((const uint8_t *)empty, strlen(empty), listing, sizeof listing) % 64 == 0, "an empty job");
     look(order_job((const uint8_t *)empty, strlen(empty), listing, 1) == 64 + ORDER_LONG_LISTING, "17 on line 1");
     look(sizeof info == 16, "an entry has 16 bytes");
-    look(order_append_new(&info, 1, flat, 4, 0, 1) == 0 && info.value == 7 && info.parallelism == 10, "a struct");
+    look(order_append_new(&info, 1, flat, 4, 0, 1) == 0 && info.value == 7 && info.parallelism == 10 && info.lane == 11,
+         "a struct");
     look(order_append_new(&info, 1, flat, 4, 0, 2) == ORDER_TOO_SHORT, "two entries of one are refused");
+    flat[3] = REPLAY_MOST_PARALLELISM + ORDER_LANE_RADIX * (ORDER_MOST_LANE + 1);
+    look(order_append_new(&info, 1, flat, 4, 0, 1) == ORDER_TOO_SHORT && info.lane == 11, "a lane of nine bits is refused");
+    flat[3] -= ORDER_LANE_RADIX;
+    look(REPLAY_PARALLELISM(flat[3]) == 64999 && REPLAY_LANE(flat[3]) == 255, "the greatest parallelism and lane");
+    look(order_append_new(&info, 1, flat, 4, 0, 1) == 0 && info.parallelism == 64999 && info.lane == 255, "as a struct");
     look(strcmp(order_code_text(0), "accepted") == 0, "0 is accepted");
-    for (uint64_t n = 1; n <= 17; n++)
+    for (uint64_t n = 1; n <= ORDER_UNKNOWN_LANE; n++)
         look(strcmp(order_code_text(n), order_code_text(1000)) != 0, "each number has its words");
 }
 

@@ -10,10 +10,11 @@
 //! A program's status, the length and digest of what it printed, and how many bytes it said on standard error; of each
 //! call what it returned and the digest of all that was lent, with what lies around it. A digest is FNV-1a of 64 bits.
 //!
-//! Where ANSWERS_WITHOUT is KEY, the line that begins with KEY= is left out of every listing, and of its length in what is
-//! printed and returned. `order_job` has then LENT RETURNED DIGEST UNTOUCHED for each call: LENT is `all`, `enough`, `fewer`
-//! or `none`, since a length would tell of the line; DIGEST is that of what is left; UNTOUCHED says whether all else that
-//! is lent, and what lies around it, is as it was.
+//! Where ANSWERS_WITHOUT is KEY, the line that begins with KEY= and the field KEY= of any other line are left out of every
+//! listing, and of its length in what is printed and returned; out of every job, too, before it is asked. `order_job` has
+//! then LENT RETURNED DIGEST UNTOUCHED for each call: LENT is `all`, `enough`, `fewer` or `none`, since a length would tell
+//! of what is left out; DIGEST is that of what is left; UNTOUCHED says whether all else that is lent, and what lies around
+//! it, is as it was.
 
 #[path = "../../hosts/rust/src/sys.rs"]
 #[allow(dead_code)]
@@ -94,6 +95,7 @@ fn main() {
     let all = all_sources(number(seed), number(jobs), number(bytes), paths);
     for Source { name, jobs } in &all {
         for (i, (job, lent)) in jobs.iter().enumerate() {
+            let job = &key.map_or_else(|| job.clone(), |key| left(job, key));
             let run = key.map_or_else(|| run(job, *lent), |key| run_without(job, key));
             let answers = [printed(program, job, key), run, needed(job)].join(" ");
             writeln!(lines, "{name} {i} job {} {} {answers}", job.len(), digest(job)).expect("room");
@@ -156,10 +158,17 @@ fn digest(bytes: &[u8]) -> String {
     format!("{:016x}", bytes.iter().fold(0xcbf2_9ce4_8422_2325, step))
 }
 
-/// What is left of a listing without the line that begins with KEY=.
+/// What is left of a text without the lines that begin with KEY= and without the fields ` KEY=` of other lines.
 fn left(text: &[u8], key: &str) -> Vec<u8> {
-    let keep = |line: &&[u8]| !line.strip_prefix(key.as_bytes()).is_some_and(|rest| rest.starts_with(b"="));
-    text.split_inclusive(|&byte| byte == 10).filter(keep).flatten().copied().collect()
+    let named = |word: &[u8]| word.strip_prefix(key.as_bytes()).is_some_and(|rest| rest.starts_with(b"="));
+    let mut kept = Vec::new();
+    for line in text.split_inclusive(|&byte| byte == 10).filter(|line| !named(line)) {
+        let (line, end) = line.strip_suffix(b"\n").map_or((line, &b""[..]), |line| (line, b"\n"));
+        let words: Vec<&[u8]> = line.split(|&byte| byte == b' ').filter(|word| !named(word)).collect();
+        kept.extend(words.join(&b' '));
+        kept.extend(end);
+    }
+    kept
 }
 
 /// By the program.
@@ -198,7 +207,7 @@ fn asked(job: &[u8], lent: usize) -> (u64, Vec<u8>) {
     (returned, bytes)
 }
 
-/// By `order_job`, of listings without a line.
+/// By `order_job`, of listings without what KEY names.
 fn run_without(job: &[u8], key: &str) -> String {
     let length = listing_length(asked(job, model::LISTING_BYTES).0);
     let lents = [("all", model::LISTING_BYTES), ("enough", length), ("fewer", length.saturating_sub(1)), ("none", 0)];
@@ -207,8 +216,8 @@ fn run_without(job: &[u8], key: &str) -> String {
         let end = AROUND + listing_length(returned);
         let text = left(&bytes[AROUND..end], key);
         let untouched = bytes[..AROUND].iter().chain(&bytes[end..]).all(|&byte| byte == PATTERN);
-        let line = (end - AROUND - text.len()) as u64;
-        format!("{name} {} {} {untouched}", returned - 64 * line, digest(&text))
+        let left_out = (end - AROUND - text.len()) as u64;
+        format!("{name} {} {} {untouched}", returned - 64 * left_out, digest(&text))
     };
     format!("host {}", lents.map(answer).join(" "))
 }

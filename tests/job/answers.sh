@@ -5,9 +5,10 @@
 #
 #   tests/job/answers.sh FILE
 #
-# JOB_SEED chooses the random jobs (default 1). ANSWERS_WITHOUT=KEY leaves the line KEY= out of every listing, for a change
-# that is about this line: the files then show whether anything else has changed. ANSWERS_TARGET names the target/ of
-# another checkout, whose archives and program are asked about the jobs of this one, and are taken as they are.
+# JOB_SEED chooses the random jobs (default 1). ANSWERS_WITHOUT=KEY leaves the line or the field KEY= out of every job and
+# every listing, for a change that is about it: the files then show whether anything else has changed. ANSWERS_TARGET
+# names the target/ of another checkout, whose archives and program are asked about the jobs of this one, and are taken as
+# they are.
 set -euo pipefail
 trap 'echo "$0: line $LINENO ended with $?" >&2' ERR
 

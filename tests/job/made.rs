@@ -43,10 +43,11 @@ pub fn unescaped(text: &str) -> Vec<u8> {
 
 /// Bytes of no plan, and pieces of jobs in any order.
 pub fn random_bytes(seed: u64, count: u64) -> Vec<(Vec<u8>, usize)> {
-    const PIECES: [&str; 24] = [
+    const PIECES: [&str; 27] = [
         "parallelism=",
         "places=",
         "set=",
+        "lane=",
         "in=",
         "out=",
         "flush=1",
@@ -60,6 +61,7 @@ pub fn random_bytes(seed: u64, count: u64) -> Vec<(Vec<u8>, usize)> {
         "2",
         "7",
         "19",
+        "256",
         "00",
         "18446744073709551615",
         "18446744073709551616",
@@ -68,6 +70,7 @@ pub fn random_bytes(seed: u64, count: u64) -> Vec<(Vec<u8>, usize)> {
         "\r",
         "parallelism=2\nplaces=9\n",
         "set=0\n",
+        "lane=3\nin=0\n",
     ];
     let mut all = Vec::new();
     for i in 0..count {
@@ -199,6 +202,20 @@ pub fn edge_jobs() -> Vec<Vec<u8>> {
         "in=\nset=1",
         "in=\nout",
         "in=\nout=1\nout=1",
+        "lane=1",
+        "lane=256",
+        "lane=",
+        "lane=1\nlane=1",
+        "lane=1\nset=1",
+        "lane=1\nout=1",
+        "lane=1\nflush=1",
+        "lane=1\nplaces=1",
+        "lane=1\n",
+        "lane=1\nin=,",
+        "lane=1\nin=",
+        "lane=1\nin=\nlane=1",
+        "lane=1\nin=\nout=1",
+        "in=\nlane=1\nout=1",
     ] {
         made.push(format!("{start}{line}\nfinal=1\n"));
         made.push(format!("{start}{line}\n"));
@@ -207,6 +224,7 @@ pub fn edge_jobs() -> Vec<Vec<u8>> {
         made.push(format!("{start}final=1\n{line}"));
         made.push(format!("{line}\n{start}final=1\n"));
     }
+    made.extend(lane_jobs(&start));
     // lists at W exactly and one over, of inputs, of outputs and of both, in one add and in several
     let zeros = |n: usize| vec!["0"; n].join(",");
     for n in [4094, 4095, 4096, 4097] {
@@ -258,4 +276,66 @@ pub fn edge_jobs() -> Vec<Vec<u8>> {
         ));
     }
     made.into_iter().map(String::into_bytes).collect()
+}
+
+/// Lanes at the boundaries, and what is no lane.
+const LANES: [&str; 26] = [
+    "0",
+    "1",
+    "255",
+    "256",
+    "257",
+    "511",
+    "65535",
+    "65536",
+    "16777216",
+    "4294967296",
+    "4294967551",
+    "9223372036854775808",
+    "18446744073709551615",
+    "18446744073709551616",
+    "99999999999999999999",
+    "100000000000000000000",
+    "000000000000000000000",
+    "00",
+    "0255",
+    "+1",
+    "-1",
+    " 1",
+    "1 ",
+    "1,",
+    "1\r",
+    "0x1",
+];
+/// A registration after its lane line: accepted, waiting, malformed, and with each refusal of an add that needs no more.
+const IN_LANE: [&str; 10] = [
+    "in=\nout=1",
+    "in=\nout=1\nin=1\nout=2",
+    "in=7\nout=8",
+    "in=\nout=",
+    "in=\nout=,",
+    "in=,\nout=",
+    "in=4611686018427387904\nout=",
+    "in=512\nout=1",
+    "in=\nout=1,1",
+    "in=\nout=3",
+];
+
+/// Jobs in these lanes, with 18 beside every other refusal of an add.
+fn lane_jobs(start: &str) -> Vec<String> {
+    let zeros = vec!["0"; 4_097].join(",");
+    let mut made = Vec::new();
+    for lane in LANES {
+        let line = format!("lane={lane}\n");
+        let calls = IN_LANE.map(|calls| format!("{start}set=3\n{line}{calls}\nfinal=1\n"));
+        made.extend(calls);
+        // one registration too many, and one list number
+        made.push(format!(
+            "parallelism=1\nplaces=1\nin=\nout=\n{line}in=\nout=\nfinal=1\n"
+        ));
+        made.push(format!("{start}set=0\n{line}in={zeros}\nout=\nfinal=1\n"));
+        made.push(format!("{line}{start}final=1\n"));
+        made.push(format!("parallelism=3\n{line}places=9\nfinal=1\n"));
+    }
+    made
 }

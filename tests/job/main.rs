@@ -5,6 +5,7 @@
 //!   job jobs SEED COUNT     random jobs, half of them damaged, as `reference jobs` makes them
 //!   job bytes SEED COUNT    random bytes, and random bytes of a job's own alphabet
 //!   job edges               jobs at every boundary of document 01, made here
+//!   job lanes SEED COUNT    pairs of jobs that differ in the numbers of their lanes alone
 //!   job stack KB            how much stack the call needs, which must be less (by `job on SIZE FILE`, one call each)
 
 #[path = "../reference/generate.rs"]
@@ -16,6 +17,7 @@ mod made;
 #[path = "../reference/model.rs"]
 #[allow(dead_code)]
 mod model;
+mod pairs;
 mod stack;
 #[path = "../../hosts/rust/src/sys.rs"]
 #[allow(dead_code)]
@@ -34,9 +36,10 @@ fn main() {
         ["jobs", seed, count] => on_thread(random_jobs(number(seed), number(count))),
         ["bytes", seed, count] => on_thread(random_bytes(number(seed), number(count))),
         ["edges"] => on_thread(edges()),
+        ["lanes", seed, count] => return println!("job: {}", pairs::check(number(seed), number(count))),
         ["stack", most] => return measure(number(most) as usize),
         ["on", size, path] => return stack::on(number(size) as usize, path, accepted),
-        _ => fail("jobs SEED COUNT | bytes SEED COUNT | edges | stack KB"),
+        _ => fail("jobs SEED COUNT | bytes SEED COUNT | edges | lanes SEED COUNT | stack KB"),
     };
     let codes: Vec<String> = done.codes.iter().map(u64::to_string).collect();
     println!(
@@ -44,7 +47,7 @@ fn main() {
         words[0], done.jobs, done.accepted, codes.join(" ")
     );
     // 3, 7 and 11 need more lines or longer lists than a job has room for
-    if words[0] == "edges" && codes.join(" ") != "1 2 4 5 6 8 9 10 12 15 16 17" {
+    if words[0] == "edges" && codes.join(" ") != "1 2 4 5 6 8 9 10 12 15 16 17 18" {
         fail("the edges do not reach every refusal that a job can reach");
     }
 }

@@ -64,6 +64,7 @@ fi
 $work/job edges
 $work/job jobs "$seed" $((4000 * times))
 $work/job bytes "$seed" $((20000 * times))
+$work/job lanes "$seed" $((2000 * times))
 
 # The stack, beside the figures that host code and documents tell.
 told() { sed -n "s/.*needs less than \([0-9]*\) KB of $1.*/\1/p" "$2"; }

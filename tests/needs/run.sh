@@ -42,11 +42,11 @@ $work/needs compare "$seed" $((2000 * times)) $((5000 * times)) $work/worked.cas
   examples/*.job examples/refused/*.job
 
 # The ceiling beside the spans that the Rust released.
-cat oracle/sample/placements.txt oracle/sample/sessions.txt | $work/needs runs
+cat oracle/sample/placements.txt oracle/sample/sessions.txt | $reference label "$seed" | $work/needs runs
 at_hand=$(oracle/at_hand.sh)
 if [ $at_hand = yes ]; then
   oracle/build.sh
-  $reference random session "$seed" $((2000 * times)) | target/oracle/oracle | $work/needs runs
+  $reference random session "$seed" $((2000 * times)) | target/oracle/oracle | $reference label "$seed" | $work/needs runs
 else
   echo "needs: NOT compared with the Rust, but for the kept sample of its answers"
 fi

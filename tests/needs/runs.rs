@@ -1,4 +1,4 @@
-//! The ceiling beside the Rust: sessions with its answers (oracle/FORMAT.md). Each that a final closed is
+//! The ceiling beside the Rust: sessions with its answers (oracle/FORMAT.md), given lanes. Each that a final closed is
 //! written as a job; the Rust tells its registrations, and by span 0's number how many spans it released.
 
 use crate::compared::{shown, Answer, Ceiling};
@@ -50,8 +50,9 @@ impl Run {
         let number = |word: &str| word.parse().expect("a number");
         match words {
             ["set", place] => self.job += &format!("set={place}\n"),
-            ["add", inputs, outputs] => {
+            ["add", inputs, outputs, lane @ ..] => {
                 let (inputs, outputs) = (self.list(inputs), self.list(outputs));
+                self.job.extend(lane.iter().map(|lane| format!("lane={lane}\n")));
                 self.job += &format!("in={inputs}\nout={outputs}\n");
             }
             ["flush"] => {

@@ -18,7 +18,9 @@ for fault in ceiling-{without-final,without-flushes,one-a-registration,of-17-bit
   {inputs,outputs,flush}-not-counted {bytes,commas,empty-lists,set,final}-counted set-in-the-numbers \
   numbers-to-{4096,one-list} numbers-before-registrations registrations-to-512 flushes-to-4095 \
   {malformed-out,other-line,missing-out}-at-its-in missing-line-at-the-last \
-  judged-{1,2,4,5,6,8,9,10,12} places-judged 16-at-{65536,line-2} 15-before-16 \
+  lane-{line-dropped,before-set,before-flush,before-final,before-out,twice,in-the-head} \
+  lane-{in-the-numbers,counted} {missing-in,other-line}-at-its-lane \
+  judged-{1,2,4,5,6,8,9,10,12,18} places-judged 16-at-{65536,line-2} 15-before-16 \
   refused-and-written writes-{past,before}-the-four; do
   for command in worked "compare 1 200 200 $work/worked.cases"; do
     ! STAND_IN_FAULT=$fault $work/needs $command >$work/fault.out 2>&1 || fail "$fault: not noticed by $command"

@@ -6,17 +6,22 @@ use crate::{fail, made, worked};
 /// J1 of document 01.
 pub const J1: &str = "parallelism=2\nplaces=6\nset=0\nin=0\nout=1\nin=1\nout=2\nin=0\nout=3\nin=\nout=4\nfinal=1\n";
 
-/// Jobs whose every beginning is compared: a refused call, flushes, long numbers, a list of several, surplus lines.
-const SMALL: [&str; 5] = [
+/// The same registrations in lanes 3, 255, 0 (without a line) and 0.
+pub const J1_LANES: &str = "parallelism=2\nplaces=6\nset=0\nlane=3\nin=0\nout=1\nlane=255\nin=1\nout=2\nin=0\nout=3\n\
+                            lane=0\nin=\nout=4\nfinal=1\n";
+
+/// Jobs whose every beginning is compared: lanes, a refused call, flushes, long numbers, a list of several, surplus lines.
+const SMALL: [&str; 6] = [
     J1,
+    J1_LANES,
     "parallelism=1\nplaces=4\nflush=1\nin=\nout=0,1,2\nflush=1\nin=0,1\nout=3\nfinal=1\n",
     "parallelism=0\nplaces=18446744073709551615\nset=4611686018427387904\nin=7,7\nout=7\nfinal=1\nfinal=1\n",
     "parallelism=64\nplaces=512\nin=511\nout=\nset=0\nset=0\nfinal=1\n\n",
     "parallelism=18446744073709551616\nplaces=00\nflush=2\nin=,\nout\n",
 ];
 /// The job of which every byte is changed, and what it becomes.
-const CHANGED: &str = "parallelism=3\nplaces=9\nset=0\nflush=1\nin=0,0\nout=1,2\nin=\nout=3\nfinal=1\n";
-const BYTES: [u8; 12] = [b'\n', b',', b'0', b'1', b'9', b'=', b'i', b'f', b' ', b'-', 0, 255];
+const CHANGED: &str = "parallelism=3\nplaces=9\nset=0\nflush=1\nin=0,0\nout=1,2\nlane=25\nin=\nout=3\nfinal=1\n";
+const BYTES: [u8; 13] = [b'\n', b',', b'0', b'1', b'9', b'=', b'i', b'f', b'l', b' ', b'-', 0, 255];
 
 pub fn check(seed: u64, jobs: u64, bytes: u64, paths: &[&str]) -> Result<String, String> {
     let only_jobs = |made: Vec<(Vec<u8>, usize)>| made.into_iter().map(|(job, _)| job).collect();

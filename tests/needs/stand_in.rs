@@ -93,8 +93,26 @@ fn read_as(job: &[u8]) -> Cow<'_, [u8]> {
             text.replace("18446744073709551616", "1").into_bytes().into()
         }
         "reads-up-to-a-refusal" => up_to_refusal(job).into(),
-        _ => job.into(),
+        _ => without_lanes(job).into(),
     }
+}
+
+/// The job without those of its lane lines that a fault passes over.
+fn without_lanes(job: &[u8]) -> Vec<u8> {
+    let lines: Vec<&[u8]> = job.split_inclusive(|&byte| byte == 10).collect();
+    let next = |i: usize| lines.get(i + 1).copied().unwrap_or_default();
+    let passed_over = |i: usize| match asked() {
+        "lane-line-dropped" => true,
+        "lane-before-set" => next(i).starts_with(b"set="),
+        "lane-before-flush" => next(i) == b"flush=1\n",
+        "lane-before-final" => next(i) == b"final=1\n",
+        "lane-before-out" => next(i).starts_with(b"out="),
+        "lane-twice" => next(i).starts_with(b"lane="),
+        "lane-in-the-head" => i < 2,
+        _ => false,
+    };
+    let kept = lines.iter().enumerate().filter(|(i, line)| !(line.starts_with(b"lane=") && passed_over(*i)));
+    kept.flat_map(|(_, line)| line.to_vec()).collect()
 }
 
 /// How many bytes the lines up to the first final have, where they are well formed; else all of them.
@@ -136,6 +154,8 @@ fn numbers(job: &[u8], needs: Needs) -> [u64; 4] {
         "numbers-to-one-list" => w = w.min(32_748),
         "set-counted" => n += lists(b"set=").count() as u64,
         "set-in-the-numbers" => w += lists(b"set=").count() as u64,
+        "lane-in-the-numbers" => w += lists(b"lane=").count() as u64,
+        "lane-counted" => n += lists(b"lane=").count() as u64,
         "registrations-to-512" => n = n.min(512),
         "flush-not-counted" => f = 0,
         "flushes-to-4095" => f %= 4_096,
@@ -161,10 +181,13 @@ fn told(job: &[u8], refusal: Refusal) -> Refusal {
     let there = lines.get(line as usize - 1);
     let before = (line as usize).checked_sub(2).and_then(|i| lines.get(i));
     let after_in = before.is_some_and(|line| line.starts_with(b"in="));
+    let after_lane = before.is_some_and(|line| line.starts_with(b"lane="));
     let earlier = match there.filter(|line| line.ends_with(b"\n")) {
         Some(line) if after_in && line.starts_with(b"out=") => fault("malformed-out-at-its-in"),
         Some(_) if after_in => fault("other-line-at-its-in"),
         None if after_in => fault("missing-out-at-its-in"),
+        None if after_lane && fault("missing-in-at-its-lane") => true,
+        Some(_) if after_lane => fault("other-line-at-its-lane"),
         None => fault("missing-line-at-the-last"),
         _ => false,
     };

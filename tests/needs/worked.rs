@@ -76,6 +76,8 @@ fn accepted() -> Vec<Worked> {
         ("inputs alone", "parallelism=2\nplaces=6\nset=0\nin=0,0,0\nout=\nfinal=1\n", [1, 3, 0, 34]),
         ("outputs alone", "parallelism=2\nplaces=6\nin=\nout=0,1,2,3\nfinal=1\n", [1, 4, 0, 34]),
         ("numbers of three digits", "parallelism=2\nplaces=512\nin=\nout=110,111,112\nflush=1\nfinal=1\n", [1, 3, 1, 66]),
+        ("J1 in lanes", sources::J1_LANES, [4, 7, 0, 40]),
+        ("a lane without places", "parallelism=2\nplaces=6\nlane=255\nin=\nout=\nfinal=1\n", [1, 0, 0, 34]),
     ]
     .map(|(what, job, needs)| told(what, job.to_owned(), needs, None))
     .into()
@@ -85,7 +87,7 @@ fn accepted() -> Vec<Worked> {
 /// where it is refused.
 fn judged() -> Vec<(&'static str, String, [u64; 4], u64)> {
     let pool = format!("parallelism=2 places=6 set=0 in={} out=", zeros(4_097));
-    let rows: [(&str, &str, [u64; 4], u64); 13] = [
+    let rows: [(&str, &str, [u64; 4], u64); 17] = [
         ("P of 0", "parallelism=0 places=6 set=0 in=0 out=1 flush=1", [1, 2, 1, 66], at(2, 1)),
         ("P of 65", "parallelism=65 places=6 in= out=0,1 in=1 out=", [2, 3, 0, 36], at(2, 2)),
         ("P of 2^64 - 1", "parallelism=18446744073709551615 places=6", [0, 0, 0, 32], at(2, 1)),
@@ -99,6 +101,10 @@ fn judged() -> Vec<(&'static str, String, [u64; 4], u64)> {
         ("4,097 list numbers", &pool, [1, 4_097, 0, 34], at(5, 10)),
         ("more than V registrations", "parallelism=2 places=1 in= out=0 in=0 out= in=0 out=", [3, 3, 0, 38], at(6, 9)),
         ("long numbers", "parallelism=2 places=6 in=10,200,3000 out=18446744073709551615", [1, 4, 0, 34], at(4, 4)),
+        ("a lane of 256", "parallelism=2 places=6 set=0 lane=256 in=0 out=1,2 flush=1", [1, 3, 1, 66], at(6, 18)),
+        ("a lane of 2^64 - 1", "parallelism=2 places=6 lane=18446744073709551615 in= out=", [1, 0, 0, 34], at(5, 18)),
+        ("a lane of 256 and a place of V", "parallelism=2 places=6 lane=256 in=6 out=", [1, 1, 0, 34], at(5, 18)),
+        ("a place of V and a lane after it", "parallelism=2 places=6 in=6 out= lane=256 in= out=0", [2, 2, 0, 36], at(4, 5)),
     ];
     rows.map(|(what, words, needs, ran)| (what, words.replace(' ', "\n") + "\n", needs, ran)).into()
 }
@@ -113,6 +119,7 @@ fn refused_when_run() -> Vec<Worked> {
         // who waits is judged at final alone
         if ran % 64 != 12 {
             later.extend([("set=x\nfinal=1\n", next), ("in=1\nout=1,\nfinal=1\n", next + 1), ("", next)]);
+            later.extend([("lane=x\nin=\nout=\nfinal=1\n", next), ("lane=256\nfinal=1\n", next + 1)]);
         }
         for (rest, line) in later {
             let worked = refused(&format!("{what}, and a line after it"), lines.clone() + rest, at(line, 15));
@@ -123,7 +130,7 @@ fn refused_when_run() -> Vec<Worked> {
 }
 
 /// Malformed, missing and surplus lines, each with the line that is told: whole jobs, and what follows a head.
-const MALFORMED: [(&str, &str, u64); 8] = [
+const MALFORMED: [(&str, &str, u64); 10] = [
     ("no bytes", "", 1),
     ("a head line without byte 10", "parallelism=2", 1),
     ("final without byte 10 or head", "final=1", 1),
@@ -132,8 +139,10 @@ const MALFORMED: [(&str, &str, u64); 8] = [
     ("P of 0 and V of 2^64", "parallelism=0\nplaces=18446744073709551616\nfinal=1\n", 2),
     ("no second line", "parallelism=2\n", 2),
     ("the head lines exchanged", "places=6\nparallelism=2\nfinal=1\n", 1),
+    ("a lane line before the head", "lane=1\nparallelism=2\nplaces=6\nin=\nout=\nfinal=1\n", 1),
+    ("a lane line in the head", "parallelism=2\nlane=1\nplaces=6\nin=\nout=\nfinal=1\n", 2),
 ];
-const AFTER_HEAD: [(&str, &str, u64); 21] = [
+const AFTER_HEAD: [(&str, &str, u64); 38] = [
     ("a line after final", "final=1\nset=0\n", 4),
     ("a second final", "final=1\nfinal=1\n", 4),
     ("an empty line after final", "final=1\n\n", 4),
@@ -155,6 +164,23 @@ const AFTER_HEAD: [(&str, &str, u64); 21] = [
     ("an output of 2^64", "in=\nout=18446744073709551616\nfinal=1\n", 4),
     ("another flush", "flush=2\nfinal=1\n", 3),
     ("a head line once more", "places=6\nfinal=1\n", 3),
+    ("a lane of 2^64", "lane=18446744073709551616\nin=\nout=\nfinal=1\n", 3),
+    ("a lane of 21 digits", "lane=100000000000000000000\nin=\nout=\nfinal=1\n", 3),
+    ("a lane with a leading zero", "lane=00\nin=\nout=\nfinal=1\n", 3),
+    ("a lane without a number", "lane=\nin=\nout=\nfinal=1\n", 3),
+    ("a lane line and nothing more", "lane=1\n", 4),
+    ("a lane line without byte 10", "lane=1", 3),
+    ("a lane line, and in= without byte 10", "lane=1\nin=", 4),
+    ("a lane line and final", "lane=1\nfinal=1\n", 4),
+    ("a lane line and a flush", "lane=1\nflush=1\nin=\nout=\nfinal=1\n", 4),
+    ("a lane line and a set", "lane=1\nset=0\nfinal=1\n", 4),
+    ("a lane line and out=", "lane=1\nout=\nfinal=1\n", 4),
+    ("a lane line twice", "lane=1\nlane=1\nin=\nout=\nfinal=1\n", 4),
+    ("a lane line and a malformed in=", "lane=1\nin=0,\nout=\nfinal=1\n", 4),
+    ("a lane line between in= and out=", "in=\nlane=1\nout=\nfinal=1\n", 4),
+    ("a lane of 256 and a malformed out=", "lane=256\nin=\nout=1,\nfinal=1\n", 5),
+    ("a lane line before final", "in=\nout=\nlane=1\nfinal=1\n", 6),
+    ("a lane line after final", "final=1\nlane=1\n", 4),
 ];
 
 fn malformed() -> Vec<Worked> {
@@ -172,10 +198,12 @@ pub fn largest() -> Vec<Worked> {
         worked
     };
     let registrations = job(&"in=\nout=\n".repeat(7_278));
+    let in_lanes = job(&"lane=0\nin=\nout=\n".repeat(4_094));
     let flushes = job(&"flush=1\n".repeat(8_188));
     let longer_head = flushes.replace("places=1\n", "places=10\n");
     vec![
         sized(told("registrations", registrations, [7_278, 0, 0, 14_588], Some(at(6, 9))), 65_533),
+        sized(told("registrations in lanes", in_lanes, [4_094, 0, 0, 8_220], Some(at(8, 9))), 65_535),
         sized(told("flushes", flushes, [0, 0, 8_188, 262_048], None), 65_535),
         sized(told("flushes, all bytes", longer_head, [0, 0, 8_188, 262_048], None), 65_536),
         sized(told("numbers of one list", lists(32_748, ""), [1, 32_748, 0, 34], Some(at(4, 10))), 65_535),

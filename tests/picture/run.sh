@@ -39,10 +39,23 @@ tests/prints.sh '<- median' tools/picture.py --histogram <$listing || fail "no m
 long=$(mktemp -d)
 trap 'rm -rf "$long"' EXIT
 { printf 'status=0\nentries=5000\nplaces=5000\nfloor=1\nmedian=7\nopened=3\n'
-  seq 0 4999 | awk '{ printf "order=%d added=%d accepted=0 parallelism=%d written=0 lane=0\n", $1, $1, 1 + $1 % 13 }'; } >"$long/listing"
+  seq 0 4999 | awk '{ printf "order=%d added=%d accepted=0 parallelism=%d written=0 lane=0 later=0\n", $1, $1, 1 + $1 % 13 }'; } >"$long/listing"
 tools/picture.py --svg <"$long/listing" | well_formed || fail "no SVG of a long order"
 [ "$(tools/picture.py --svg <"$long/listing" | wc -c)" -lt 400000 ] || fail "the SVG of a long order is long itself"
 [ "$(tools/picture.py <"$long/listing" | wc -l)" -le 41 ] || fail "the text of a long order is long itself"
+# Lanes are told beside the bars, unless all are 0 or the listing has none; a job's lane lines are passed over.
+lanes=examples/lanes
+without_lanes() { sed -E -f tests/reference/without_lanes.sed "$1"; }
+[ "$(tools/picture.py <$lanes.listing | awk '{ print $4 }' | paste -sd' ')" = "lane $(sed -n 's/.* lane=//p' $lanes.listing | paste -sd' ')" ] ||
+  fail "other lanes are told than the listing's"
+without_lanes $lanes.listing | tools/picture.py >"$long/drawn"
+! grep -q lane "$long/drawn" || fail "lanes are told of a listing without them"
+sed 's/ lane=[0-9]*$/ lane=0/' $lanes.listing | tools/picture.py | tests/same.sh - "$long/drawn" || fail "lanes that are 0 are told"
+tools/picture.py --svg $lanes.job <$lanes.listing >"$long/lanes.svg"
+well_formed <"$long/lanes.svg" || fail "no SVG of an order in lanes"
+grep -q ', lane 1<' "$long/lanes.svg" || fail "no lane in the SVG of an order in lanes"
+without_lanes $lanes.job >"$long/plain.job"
+tools/picture.py --svg "$long/plain.job" <$lanes.listing | tests/same.sh - "$long/lanes.svg" || fail "a job's lane lines change the drawing"
 # A reader that has gone before anything is written, and one that goes after a line of a drawing that no pipe holds.
 unread() { # COMMAND..
   python3 -c 'import os, subprocess, sys; read, write = os.pipe(); os.close(read); sys.exit(subprocess.run(sys.argv[1:], stdout=write).returncode)' "$@"
@@ -110,4 +123,4 @@ lost() { # SENTENCE REDIRECTION
 lost 'standard output is closed' '>&-'
 lost '[Errno 28] No space left on device' '>/dev/full'
 tests/prints.sh histogram tools/picture.py --help || fail "no help"
-echo "picture: those of docs/GUARANTEE.md are what their commands draw; 18 drawings and 20 refusals as expected"
+echo "picture: those of docs/GUARANTEE.md are what their commands draw; other drawings, of lanes too, and 20 refusals as expected"

@@ -36,8 +36,10 @@ def random_list(seed):
             outs = [source.randrange(places) for _ in range(source.randrange(3))]
             # Inputs below the outputs, so that no two registrations wait for each other.
             ins = [source.randrange(min(outs, default=places)) for _ in range(source.randrange(4)) if 0 not in outs]
-            calls.add(ins, outs)
-            lines.append(["in=" + ",".join(map(str, ins)), "out=" + ",".join(map(str, outs))])
+            lane = source.choice([None, 0, source.randrange(256), source.randrange(258)])
+            calls.add(ins, outs, lane)
+            label = [] if lane is None else [f"lane={lane}"]
+            lines.append([*label, "in=" + ",".join(map(str, ins)), "out=" + ",".join(map(str, outs))])
     # Whatever is still waited for is set; the others are refused.
     for place in range(places if source.random() < 0.9 else 0):
         calls.set(place)
@@ -52,8 +54,14 @@ class Jobs(unittest.TestCase):
         listing = order.run_job(read("crates", "order", "stdin"))
         self.assertEqual(str(listing), read("crates", "order", "stdout"))
         self.assertEqual([entry.added for entry in listing.entries], [0, 2, 1, 3])
+        self.assertEqual([entry.lane for entry in listing.entries], [0, 0, 0, 0])
         self.assertEqual(listing.head["median"], 2)
         self.assertEqual(order.run_job(read("crates", "order", "stdin").encode()).text, listing.text)
+
+    def test_lanes(self):
+        listing = order.run_job(read("examples", "lanes.job"))
+        self.assertEqual(str(listing), read("examples", "lanes.listing"))
+        self.assertEqual({entry.lane for entry in listing.entries}, {0, 1})
 
     def test_refused(self):
         for name in sorted(os.listdir(os.path.join(ROOT, "examples", "refused"))):
@@ -127,7 +135,7 @@ class Needs(unittest.TestCase):
                 self.assertEqual(str(refused.exception), str(run.exception), name)
             else:
                 self.assertEqual(order.job_needs(text), counted(text), name)
-        self.assertEqual(numbers, {1, 2, 4, 5, 6, 8, 9, 10, 12, 15, 16})
+        self.assertEqual(numbers, {1, 2, 4, 5, 6, 8, 9, 10, 12, 15, 16, 18})
 
     def test_random(self):
         """Lists with refused calls among them: the pool holds all list numbers."""
@@ -198,22 +206,25 @@ class LineEnds(unittest.TestCase):
 class Lists(unittest.TestCase):
     def test_beside_jobs(self):
         """The calls that are accepted, as a job, give the order that the whole list gives."""
-        finished = 0
+        finished, lanes, numbers = 0, set(), set()
         for seed in range(400):
             parallelism, places, calls, lines = random_list(seed)
             result = order.replay(parallelism, places, calls)
             self.assertEqual(len(result.numbers), len(lines))
+            numbers.update(result.numbers)
             if result.numbers[-1]:
                 continue
             finished += 1
+            lanes.update(entry.lane for entry in result.entries())
             accepted = [line for number, call in zip(result.numbers, lines) if number == 0 for line in call]
             listing = order.run_job("\n".join([f"parallelism={parallelism}", f"places={places}", *accepted, ""]))
             self.assertEqual(
-                [(entry.added, entry.accepted, entry.parallelism, result.row(entry.added).written) for entry in result.entries()],
-                [(entry.added, entry.accepted, entry.parallelism, entry.written) for entry in listing.entries],
+                [(entry.added, entry.accepted, entry.parallelism, result.row(entry.added).written, entry.lane) for entry in result.entries()],
+                [(entry.added, entry.accepted, entry.parallelism, entry.written, entry.lane) for entry in listing.entries],
             )
             for index, entry in enumerate(result.entries()):
-                self.assertEqual(result.row(entry.added).index, index)
+                row = result.row(entry.added)
+                self.assertEqual((row.index, row.parallelism, row.lane), (index, entry.parallelism, entry.lane))
                 self.assertEqual(entry.value, entry.added)
             tally = [0] * (parallelism + 1)
             for entry in result.entries():
@@ -225,6 +236,8 @@ class Lists(unittest.TestCase):
             self.assertEqual(sum(summary.counts), result.length)
             self.assertAlmostEqual(summary.average, result.length / 65_000, places=7)
         self.assertGreater(finished, 200)
+        self.assertTrue({0, 255} <= lanes <= set(range(256)), lanes)
+        self.assertIn(order.Refusal.UNKNOWN_LANE, numbers)
 
     def test_marks(self):
         result = order.replay(2, 4, order.Calls().set(0).add([0], [1]).add([3], [2]))
@@ -234,6 +247,17 @@ class Lists(unittest.TestCase):
         calls = order.Calls().set(0).set(0).add([0], [9]).final().flush()
         self.assertEqual(order.replay(2, 4, calls).numbers, [0, 8, 5, 0, 7])
         self.assertEqual(order.replay(2, 4, order.Calls().add([], [0, 1]), pool=1).numbers, [10])
+        calls = order.Calls().add([], [9], 256).add([], [9], lane=255).add([], [], lane=2**64 - 1).final().add([], [], 256)
+        self.assertEqual(order.replay(2, 4, calls).numbers, [18, 5, 18, 0, 7])
+
+    def test_lanes(self):
+        """A row's lane is 0 until its entry is in the order; the first registration waits, and keeps its own."""
+        calls = order.Calls().add([0], [1], lane=7).add([], [2], lane=255).add([], [3])
+        result = order.replay(2, 4, calls)
+        self.assertEqual([result.row(r).lane for r in range(4)], [0, 0, 0, 0])
+        result = order.replay(2, 4, calls.set(0).final())
+        self.assertEqual({entry.added: entry.lane for entry in result.entries()}, {0: 7, 1: 255, 2: 0})
+        self.assertEqual([result.row(r).lane for r in range(4)], [7, 255, 0, 0])
 
     def test_held(self):
         """The accepted adds are in the order, in the window or waiting; J1 by its beginnings, and two that wait."""
@@ -261,6 +285,7 @@ class Lists(unittest.TestCase):
             for call in (lambda: order.Calls().set(bad), lambda: order.Calls().add([bad], []), lambda: order.Calls().add([], [bad])):
                 self.assertRaises(ValueError, call)
             if bad is not None:
+                self.assertRaises(ValueError, order.Calls().add, [], [], bad)
                 self.assertRaises(ValueError, order.replay, 1, 1, order.Calls(), pool=bad)
             self.assertRaises(ValueError, order.replay, bad, 1, order.Calls())
         self.assertRaisesRegex(ValueError, "'x' is no 64-bit number", order.replay, 1, "x", order.Calls())

@@ -1,8 +1,9 @@
-"""Cases worked out by hand from document 01, with the points that it leaves open read as
-docs/DECISIONS.md settles them. Each has a sentence, what is fed, and what must come.
+"""Cases worked out by hand from document 01, and of document 02 from M-103 and M-104, with the points that
+they leave open read as docs/DECISIONS.md settles them. Each has a sentence, what is fed, and what must come.
 
 RUNS are call lists in the format of oracle/FORMAT.md with the refusals expected: the number of each
-call that is refused, calls counted from 0; the key "open" stands for the opening. JOBS are jobs with
+call that is refused, calls counted from 0; the key "open" stands for the opening. LANES are call lists
+with the lanes of the order's entries, of the rows and of the entries held at their end. JOBS are jobs with
 the program's output. FLOORS are jobs with the floor of their listing. HOSTS are jobs with the lent
 listing length and the number returned. PLACEMENTS are the figures of document 01 ("Placements worked
 through") for the runs of that name in the kept sample oracle/sample/placements.txt: the answer line,
@@ -83,6 +84,25 @@ RUNS = [
     ("an empty pool takes empty lists", run("session 1 4 0", "add - -", "add 0 -", "add - 0"), {1: 10, 2: 10}),
     ("9 before 10", run("session 1 1 0", "add - -", "add 0 -"), {1: 9}),
     ("8 before 10", run("session 1 2 0", "set 0", "add - 0"), {1: 8}),
+    # 18: a lane over 255, after 7 and before all else.
+    ("lanes 0 and 255", run("session 1 2", "add - - 0", "add - - 255"), {}),
+    ("lane 256", run("session 1 2", "add - - 256"), {0: 18}),
+    ("lanes whose lower 8, 16 and 32 bits are small", run("session 1 2", "add - - 511", "add - - 65536", "add - - 4294967296"), {0: 18, 1: 18, 2: 18}),
+    ("the greatest lanes", run("session 1 2", f"add - - {PLACEHOLDER}", f"add - - {LARGEST}"), {0: 18, 1: 18}),
+    ("7 before 18", run("session 1 2", "final", "add - - 256", f"add {many(0, 65536)} - {LARGEST}"), {1: 7, 2: 7}),
+    (
+        "18 before 3, and 255 leaves it to 3",
+        run("session 1 1", "set 0", f"add {many(0, 65536)} - 256", f"add {many(0, 65536)} - 255",
+            f"add - {many(0, 65536)} 256", f"add - {many(0, 65536)} 255"),
+        {1: 18, 2: 3, 3: 18, 4: 3},
+    ),
+    ("18 before 4", run("session 1 1", f"add {FLAGGED} - 256", f"add {FLAGGED} - 255"), {0: 18, 1: 4}),
+    ("18 before 5", run("session 1 1", "add 1 - 256", "add 1 - 255"), {0: 18, 1: 5}),
+    ("18 before 6", run("session 1 1", "add - 0,0 256", "add - 0,0 255"), {0: 18, 1: 6}),
+    ("18 before 8", run("session 1 1", "set 0", "add - 0 256", "add - 0 255"), {1: 18, 2: 8}),
+    ("18 before 9", run("session 1 1", "add - -", "add - - 256", "add - - 255"), {1: 18, 2: 9}),
+    ("18 before 10", run("session 1 1 0", "add 0 - 256", "add 0 - 255"), {0: 18, 1: 10}),
+    ("a refused lane promises nothing and counts nowhere", run("session 1 1 1", "add - 0 256", "add - 0 255", "add - - 0"), {0: 18, 2: 9}),
     # 11: plain flushes.
     (
         "65,535 plain flushes, then only final",
@@ -103,6 +123,26 @@ RUNS = [
 ]
 
 
+# Of J1 document 01 tells the order 0 2 1 3, and of R2 the order 2 0 1.
+LANES = [
+    ("J1", run("session 2 6", "set 0", "add 0 1 10", "add 1 2 20", "add 0 3 30", "add - 4 40", "final"),
+     "10 30 20 40", "10 20 30 40", ""),
+    ("two held, and a row's lane is 0 until its entry is appended", run("session 2 6", "set 0", "add 0 1 10", "add 1 2 20"),
+     "", "0 0", "10 20"),
+    ("J1 before final: two appended, two held", run("session 2 6", "set 0", "add 0 1 10", "add 1 2 20", "add 0 3 30", "add - 4 40"),
+     "10 30", "10 0 30 0", "20 40"),
+    ("the same after a flush", run("session 2 6", "set 0", "add 0 1 10", "add 1 2 20", "add 0 3 30", "add - 4 40", "flush"),
+     "10 30 20 40", "10 20 30 40", ""),
+    ("one that waits has its lane in no row", run("session 1 3", "add 0 1 7"), "", "0", ""),
+    ("one that waited: the other is placed before it", run("session 1 3", "add 0 1 7", "add - - 9", "set 0", "final"), "9 7", "7 9", ""),
+    ("R2: those who come off a stack", run("session 2 6", "set 1", "set 2", "add 2 - 5", "add 1 - 6", "add - 0 7", "final"),
+     "7 5 6", "5 6 7", ""),
+    ("a refused add's lane goes nowhere", run("session 2 2", "add - - 3", "add - 9 200", "add - - 256", "add - - 4", "final"),
+     "3 4", "3 4", ""),
+    ("without a lane it is 0", run("session 2 3", "add - -", "add - - 255", "add - -", "final"), "0 255 0", "0 255 0", ""),
+]
+
+
 def lines(*text):
     return "".join(line + "\n" for line in text).encode()
 
@@ -116,10 +156,19 @@ EMPTY = lines("status=0", "entries=0", "places=0", "floor=0", "median=0")
 J1 = lines(*HEAD, "set=0", "in=0", "out=1", "in=1", "out=2", "in=0", "out=3", "in=", "out=4", "final=1")
 J1_LISTING = lines(
     "status=0", "entries=4", "places=5", "floor=2", "median=2",
-    "order=0 added=0 accepted=0 parallelism=2 written=0",
-    "order=1 added=2 accepted=2 parallelism=2 written=0",
-    "order=2 added=1 accepted=1 parallelism=2 written=0",
-    "order=3 added=3 accepted=3 parallelism=1 written=4",
+    "order=0 added=0 accepted=0 parallelism=2 written=0 lane=0",
+    "order=1 added=2 accepted=2 parallelism=2 written=0 lane=0",
+    "order=2 added=1 accepted=1 parallelism=2 written=0 lane=0",
+    "order=3 added=3 accepted=3 parallelism=1 written=4 lane=0",
+)
+# The same registrations in lanes 3, 255, 0 (without a line) and 0.
+J1_LANES = lines(*HEAD, "set=0", "lane=3", "in=0", "out=1", "lane=255", "in=1", "out=2", "in=0", "out=3", "lane=0", "in=", "out=4", "final=1")
+J1_LANES_LISTING = lines(
+    "status=0", "entries=4", "places=5", "floor=2", "median=2",
+    "order=0 added=0 accepted=0 parallelism=2 written=0 lane=3",
+    "order=1 added=2 accepted=2 parallelism=2 written=0 lane=0",
+    "order=2 added=1 accepted=1 parallelism=2 written=0 lane=255",
+    "order=3 added=3 accepted=3 parallelism=1 written=4 lane=0",
 )
 # Exactly 65,536 bytes: 24 for the head, 8,188 flushes and final of 8 bytes each.
 FULL = lines("parallelism=1", "places=10", *["flush=1"] * 8188, "final=1")
@@ -135,19 +184,31 @@ def malformed(line):
     return (f"malformed: {line!r}", body(line, "final=1"), refused(15, 3))
 
 
+def in_lane(lane, *outcome):
+    """A job of one registration, with its lane line on line 3 and its out line on line 5: listed with that lane, or refused."""
+    listed = lines("status=0", "entries=1", "places=1", "floor=0", "median=1",
+                   f"order=0 added=0 accepted=0 parallelism=1 written=1 lane={lane}")
+    return (f"lane {lane!r}", body(f"lane={lane}", "in=", "out=0", "final=1"), refused(*outcome) if outcome else listed)
+
+
+def after_lane(what, *text):
+    """A job whose third line is a lane line, with what must not follow it: line 4 is refused."""
+    return (f"after a lane line: {what}", body("lane=1", *text), refused(15, 4))
+
+
 JOBS = [
     ("J1", J1, J1_LISTING),
     ("nothing but final", body("final=1"), EMPTY),
     ("sets alone", body("set=1", "set=0", "final=1"), lines("status=0", "entries=0", "places=2", "floor=0", "median=0")),
     ("fewer entries than P: no floor", lines("parallelism=3", "places=6", *["in=", "out="] * 2, "final=1"),
      lines("status=0", "entries=2", "places=0", "floor=0", "median=1",
-           "order=0 added=0 accepted=0 parallelism=2 written=0",
-           "order=1 added=1 accepted=1 parallelism=1 written=2")),
+           "order=0 added=0 accepted=0 parallelism=2 written=0 lane=0",
+           "order=1 added=1 accepted=1 parallelism=1 written=2 lane=0")),
     ("as many entries as P: the floor is the first one's", lines("parallelism=3", "places=6", *["in=", "out="] * 3, "final=1"),
      lines("status=0", "entries=3", "places=0", "floor=3", "median=2",
-           "order=0 added=0 accepted=0 parallelism=3 written=0",
-           "order=1 added=1 accepted=1 parallelism=2 written=0",
-           "order=2 added=2 accepted=2 parallelism=1 written=3")),
+           "order=0 added=0 accepted=0 parallelism=3 written=0 lane=0",
+           "order=1 added=1 accepted=1 parallelism=2 written=0 lane=0",
+           "order=2 added=2 accepted=2 parallelism=1 written=3 lane=0")),
     ("no bytes at all", b"", refused(15, 1)),
     ("an empty line", b"\n", refused(15, 1)),
     ("a last line without byte 10 is no line", b"parallelism=2", refused(15, 1)),
@@ -185,6 +246,8 @@ JOBS = [
         "final", "final=", "final=0", "final=01", "final=11",
         "in", "in=,", "in=1,", "in=,1", "in=1,,2", "in=1, 2", "in=1 2", "in=01", "in=18446744073709551616",
         "out=", "out=1", "parallelism=2", "places=6", "set=1\0",
+        "lane", "lane=", "lane=00", "lane=01", "lane=0255", "lane=+1", "lane=-1", "lane= 1", "lane=1 ", "lane=1\r", "lane=1,2",
+        "lane=x", "lane=0x1", "Lane=1", " lane=1", "lane =1", "lane=1=1", "lanes=1", "lane=1\0",
     ]),
     # An add is its two lines.
     ("no out line", body("in=0"), refused(15, 4)),
@@ -208,14 +271,85 @@ JOBS = [
     ("8 before 9", lines("parallelism=1", "places=1", "in=", "out=0", "in=", "out=0", "final=1"), refused(8, 6)),
     ("the pool just full", body("set=0", "in=" + many(0, 4096), "out=", "in=", "out=", "final=1"),
      lines("status=0", "entries=2", "places=1", "floor=2", "median=1",
-           "order=0 added=0 accepted=0 parallelism=2 written=0",
-           "order=1 added=1 accepted=1 parallelism=1 written=2")),
+           "order=0 added=0 accepted=0 parallelism=2 written=0 lane=0",
+           "order=1 added=1 accepted=1 parallelism=1 written=2 lane=0")),
     ("10", body("set=0", "in=" + many(0, 4097), "out=", "final=1"), refused(10, 5)),
     ("10 by the second add", body("set=0", "in=" + many(0, 4096), "out=", "in=", "out=1", "final=1"), refused(10, 7)),
     ("12", body("in=0", "out=", "final=1"), refused(12, 5)),
     ("12 before what follows final", body("in=0", "out=", "final=1", "set=0"), refused(12, 5)),
     ("an earlier refusal before a later malformed line", body("set=6", "nonsense"), refused(5, 3)),
     ("an earlier malformed line before a later refusal", body("nonsense", "set=6"), refused(15, 3)),
+    # Lanes: the numbers of a lane line.
+    ("J1 with lanes", J1_LANES, J1_LANES_LISTING),
+    in_lane(0),
+    in_lane(1),
+    in_lane(255),
+    in_lane(256, 18, 5),
+    in_lane(257, 18, 5),
+    in_lane(65536, 18, 5),
+    in_lane(4294967296, 18, 5),
+    in_lane(18446744073709551615, 18, 5),
+    in_lane(18446744073709551616, 15, 3),
+    in_lane(99999999999999999999, 15, 3),
+    in_lane(100000000000000000000, 15, 3),
+    in_lane("000000000000000000000", 15, 3),
+    in_lane("01", 15, 3),
+    in_lane("", 15, 3),
+    ("a lane line is for the one registration after it", body("lane=9", "in=", "out=0", "in=", "out=1", "final=1"),
+     lines("status=0", "entries=2", "places=2", "floor=2", "median=1",
+           "order=0 added=0 accepted=0 parallelism=2 written=0 lane=9",
+           "order=1 added=1 accepted=1 parallelism=1 written=2 lane=0")),
+    # Registration 0 waits for place 0; registration 1 writes it, and is placed before.
+    ("the lane of one that waits", body("lane=7", "in=0", "out=1", "in=", "out=0", "final=1"),
+     lines("status=0", "entries=2", "places=2", "floor=1", "median=1",
+           "order=0 added=1 accepted=1 parallelism=1 written=2 lane=0",
+           "order=1 added=0 accepted=1 parallelism=1 written=0 lane=7")),
+    # What must not follow a lane line, and where a lane line must not stand.
+    after_lane("another", "lane=2", "in=", "out=0", "final=1"),
+    after_lane("a malformed one", "lane=x", "in=", "out=0", "final=1"),
+    after_lane("a set", "set=0", "final=1"),
+    after_lane("a malformed set", "set=x", "final=1"),
+    after_lane("an out line", "out=0", "final=1"),
+    after_lane("a flush", "flush=1", "in=", "out=0", "final=1"),
+    after_lane("final", "final=1"),
+    after_lane("a head line", "places=6", "final=1"),
+    after_lane("a malformed in line", "in=x", "out=0", "final=1"),
+    after_lane("an in line with a comma more", "in=0,", "out=0", "final=1"),
+    after_lane("an empty line", "", "in=", "out=0", "final=1"),
+    after_lane("no line at all"),
+    ("after a lane line: an in line without byte 10", body("lane=1") + b"in=", refused(15, 4)),
+    ("after a lane line of 256: no line at all", body("lane=256"), refused(15, 4)),
+    ("after a lane line of 256: a set", body("lane=256", "set=0", "final=1"), refused(15, 4)),
+    ("a lane line without byte 10 is no line", body() + b"lane=1", refused(15, 3)),
+    ("a lane line before the head", lines("lane=1", *HEAD, "in=", "out=0", "final=1"), refused(15, 1)),
+    ("a lane line in the head", lines("parallelism=2", "lane=1", "places=6", "in=", "out=0", "final=1"), refused(15, 2)),
+    ("15 in the head before 1", lines("parallelism=0", "lane=1"), refused(15, 2)),
+    ("a lane line between in and out", body("in=", "lane=1", "out=0", "final=1"), refused(15, 4)),
+    ("a malformed one there", body("in=", "lane=", "out=0", "final=1"), refused(15, 4)),
+    ("one there, after another", body("lane=1", "in=", "lane=1", "out=0", "final=1"), refused(15, 5)),
+    ("a lane line between out and final", body("in=", "out=0", "lane=1", "final=1"), refused(15, 6)),
+    ("a lane line after final", body("final=1", "lane=1"), refused(15, 4)),
+    # 18, on the out line.
+    ("a malformed out line before 18", body("lane=256", "in=", "out=x", "final=1"), refused(15, 5)),
+    ("another line for the out line before 18", body("lane=256", "in=", "set=0", "final=1"), refused(15, 5)),
+    ("no out line before 18", body("lane=256", "in="), refused(15, 5)),
+    ("a malformed in line before 18", body("lane=256", "in=x", "out=0", "final=1"), refused(15, 4)),
+    ("18 before 4", body("lane=256", "in=4611686018427387904", "out=", "final=1"), refused(18, 5)),
+    ("4 with lane 255", body("lane=255", "in=4611686018427387904", "out=", "final=1"), refused(4, 5)),
+    ("18 before 5", body("lane=256", "in=6", "out=", "final=1"), refused(18, 5)),
+    ("5 with lane 255", body("lane=255", "in=6", "out=", "final=1"), refused(5, 5)),
+    ("18 before 6", body("lane=256", "in=", "out=1,1", "final=1"), refused(18, 5)),
+    ("6 with lane 255", body("lane=255", "in=", "out=1,1", "final=1"), refused(6, 5)),
+    ("18 before 8", body("set=1", "lane=256", "in=", "out=1", "final=1"), refused(18, 6)),
+    ("8 with lane 255", body("set=1", "lane=255", "in=", "out=1", "final=1"), refused(8, 6)),
+    ("18 before 9", lines("parallelism=1", "places=1", "in=", "out=", "lane=256", "in=", "out=", "final=1"), refused(18, 7)),
+    ("9 with lane 255", lines("parallelism=1", "places=1", "in=", "out=", "lane=255", "in=", "out=", "final=1"), refused(9, 7)),
+    ("18 before 10", body("set=0", "lane=256", "in=" + many(0, 4097), "out=", "final=1"), refused(18, 6)),
+    ("10 with lane 255", body("set=0", "lane=255", "in=" + many(0, 4097), "out=", "final=1"), refused(10, 6)),
+    ("18 before a later malformed line", body("lane=256", "in=", "out=", "nonsense"), refused(18, 5)),
+    ("18 while one waits", body("in=0", "out=", "lane=256", "in=", "out=", "final=1"), refused(18, 7)),
+    ("12 after a lane that is accepted", body("lane=255", "in=0", "out=", "final=1"), refused(12, 6)),
+    ("an earlier refusal before 18", body("set=6", "lane=256", "in=", "out=", "final=1"), refused(5, 3)),
     # After final.
     ("a call after final", body("final=1", "set=0"), refused(15, 4)),
     ("final twice", body("final=1", "final=1"), refused(15, 4)),
@@ -270,6 +404,8 @@ HOSTS = [
     ("more than enough", J1, 65536, 64 * len(J1_LISTING)),
     ("one byte short", J1, len(J1_LISTING) - 1, 64 * 1 + 17),
     ("no listing bytes", J1, 0, 64 * 1 + 17),
+    ("the digits of lane 255 take two bytes more", J1_LANES, len(J1_LISTING) + 1, 64 * 1 + 17),
+    ("18 on line 5", body("lane=256", "in=", "out=0", "final=1"), 65536, 64 * 5 + 18),
     ("a refusal needs none", b"", 0, 64 * 1 + 15),
     ("17 comes last", J1 + b"x", 0, 64 * 13 + 15),
     ("16", b"x" * 65537, 65536, 64 * 1 + 16),

@@ -4,6 +4,7 @@
 
     check.py placements              the kept sample has the figures that document 01 works through
     check.py runs COMMAND..          the command answers runs, as `reference runs` does
+    check.py lanes COMMAND..         the same of cases.LANES: the lanes of order, rows and held entries
     check.py jobs [FILE] COMMAND..   the command reads a job and prints what the program prints
     check.py floors COMMAND..        the command reads a job and prints a listing with the floor of cases.FLOORS
     check.py host [FILE] COMMAND..   the command, given the listing length as its last argument, reads
@@ -90,6 +91,14 @@ def untouched(command, run, codes, answer):
     return answers(other), answers(answer)
 
 
+def check_lanes(command):
+    for sentence, run, *lanes in cases.LANES:
+        answer = ask(command, run.encode()).decode().splitlines()
+        words = ("order-lanes", "row-lanes", "held-lanes")
+        wanted = [" ".join(["=", word] + told.split()) for word, told in zip(words, lanes)]
+        yield sentence, wanted, [line for line in answer if line.startswith(tuple("= " + word for word in words))]
+
+
 def check_jobs(path, command):
     if path:
         for sentence, job, out, _, _ in read_cases(path):
@@ -128,6 +137,7 @@ def main():
     checks = {
         "placements": check_placements,
         "runs": lambda: check_runs(command),
+        "lanes": lambda: check_lanes(command),
         "jobs": lambda: check_jobs(path, command),
         "floors": lambda: check_floors(command),
         "host": lambda: check_host(path, command),

@@ -1,8 +1,8 @@
 //! Call lists for comparing: random ones of many shapes, and all short ones over a few calls. Of the
 //! kinds `session` and `guide` a call goes into a list only if the model accepts it there, so every
 //! list can be compared with the Rust. The kinds `session-refused` and `guide-refused` keep refused
-//! calls in the list, add calls that are wrong on purpose, and narrow V and W. Deterministic: the
-//! numbers come from a seed.
+//! calls in the list, add calls that are wrong on purpose, and narrow V and W; their adds have lanes, some
+//! over 255. Deterministic: the numbers come from a seed.
 
 use crate::model::{Guide, Lent, Location, Session};
 
@@ -88,6 +88,22 @@ impl Numbers {
         items[self.below(items.len() as u64) as usize]
     }
 
+    /// A lane that is accepted: any, or one at an end.
+    pub fn lane(&mut self) -> u64 {
+        match self.below(4) {
+            0 => self.choice(&[0, 1, 254, 255]),
+            _ => self.below(256),
+        }
+    }
+
+    /// A lane that is refused: just over 255, or one whose lower bits are an accepted lane.
+    pub fn wide_lane(&mut self) -> u64 {
+        match self.below(3) {
+            0 => self.choice(&[256, 257, u64::MAX - 1, u64::MAX]),
+            _ => self.below(256) + self.choice(&[1 << 8, 1 << 16, 1 << 24, 1 << 32, 1 << 63]),
+        }
+    }
+
     /// Mostly small, now and then large.
     fn parallelism(&mut self) -> u64 {
         if self.chance(90) {
@@ -106,7 +122,8 @@ impl Numbers {
 #[derive(Clone)]
 enum Call {
     Set(u64),
-    Add(Vec<u64>, Vec<u64>),
+    /// Lane, inputs and outputs.
+    Add(u64, Vec<u64>, Vec<u64>),
     Flush,
     Final,
 }
@@ -154,9 +171,9 @@ impl SessionLines {
     fn try_call(&mut self, call: Call) -> bool {
         let (code, line) = match &call {
             Call::Set(place) => (self.session.set(*place), format!("set {place}\n")),
-            Call::Add(inputs, outputs) => (
-                self.session.add(inputs, outputs),
-                format!("add {} {}\n", list_text(inputs), list_text(outputs)),
+            Call::Add(lane, inputs, outputs) => (
+                self.session.add(*lane, inputs, outputs),
+                add_line(*lane, inputs, outputs),
             ),
             Call::Flush => (self.session.flush(), "flush\n".to_owned()),
             Call::Final => (
@@ -178,6 +195,15 @@ impl SessionLines {
         }
         self.text + "end\n"
     }
+}
+
+/// An add as a line of a run; lane 0 goes without saying.
+fn add_line(lane: u64, inputs: &[u64], outputs: &[u64]) -> String {
+    let lane = match lane {
+        0 => String::new(),
+        _ => format!(" {lane}"),
+    };
+    format!("add {} {}{lane}\n", list_text(inputs), list_text(outputs))
 }
 
 fn list_text(list: &[u64]) -> String {
@@ -243,7 +269,12 @@ fn random_session(numbers: &mut Numbers, refused: bool) -> String {
             inputs.clear();
         }
         let outputs = (front..v).take(numbers.below(outs + 1) as usize).collect();
-        run.try_call(Call::Add(inputs, outputs));
+        let lane = match refused {
+            true if numbers.chance(5) => numbers.wide_lane(),
+            true => numbers.lane(),
+            false => 0,
+        };
+        run.try_call(Call::Add(lane, inputs, outputs));
         if refused && numbers.chance(20) {
             run.try_call(wrong_call(numbers, v));
         }
@@ -260,7 +291,7 @@ fn random_session(numbers: &mut Numbers, refused: bool) -> String {
     run.end()
 }
 
-/// A call that is likely to be refused: far places, flagged places, outputs twice, an early final.
+/// A call that is likely to be refused: far places, flagged places, outputs twice, a lane over 255, an early final.
 fn wrong_call(numbers: &mut Numbers, v: u64) -> Call {
     let list = |numbers: &mut Numbers| -> Vec<u64> {
         let far = [
@@ -289,7 +320,20 @@ fn wrong_call(numbers: &mut Numbers, v: u64) -> Call {
     match numbers.below(10) {
         0 => Call::Final,
         1..=3 => Call::Set(list(numbers).first().copied().unwrap_or(v)),
-        _ => Call::Add(list(numbers), list(numbers)),
+        4 => Call::Add(numbers.wide_lane(), list(numbers), list(numbers)),
+        _ => Call::Add(numbers.lane(), list(numbers), list(numbers)),
+    }
+}
+
+/// Gives most adds of runs that have no lanes one of 0 to 255. All other lines, answers too, stay as they are.
+pub fn label(lines: impl Iterator<Item = String>, seed: u64, sink: &mut Sink) {
+    let mut numbers = Numbers(seed);
+    for line in lines {
+        let lane = match line.starts_with("add ") && numbers.chance(80) {
+            true => format!(" {}", numbers.lane()),
+            false => String::new(),
+        };
+        sink(format!("{line}{lane}\n").as_bytes());
     }
 }
 
@@ -304,10 +348,10 @@ fn all_sessions(run: &SessionLines, made: usize, depth: usize, sink: &mut Sink) 
     let mut calls: Vec<Call> = (0..3).map(Call::Set).collect();
     for inputs in &some {
         for outputs in &some {
-            calls.push(Call::Add(inputs.clone(), outputs.clone()));
+            calls.push(Call::Add(0, inputs.clone(), outputs.clone()));
         }
     }
-    calls.push(Call::Add(vec![1, 0], vec![]));
+    calls.push(Call::Add(0, vec![1, 0], vec![]));
     calls.push(Call::Flush);
     let mut any = false;
     for call in calls {

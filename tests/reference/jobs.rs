@@ -52,7 +52,7 @@ fn escaped(bytes: &[u8]) -> String {
 }
 
 /// A well-formed job. Most of its calls are accepted: outputs are places not yet used, inputs mostly
-/// lie below them.
+/// lie below them, lanes are seldom over 255.
 fn random_job(numbers: &mut Numbers) -> Vec<u8> {
     let v = match numbers.below(10) {
         0 => 512,
@@ -74,6 +74,7 @@ fn random_job(numbers: &mut Numbers) -> Vec<u8> {
     }
     let calls = numbers.below(if v == 512 { 600 } else { 2 * v });
     let (sets, flushes) = (numbers.below(50), numbers.choice(&[0, 3, 20]));
+    let (lanes, wide) = (numbers.choice(&[0, 50, 100]), numbers.choice(&[0, 0, 0, 5]));
     for _ in 0..calls {
         if numbers.chance(flushes) {
             text += "flush=1\n";
@@ -94,6 +95,9 @@ fn random_job(numbers: &mut Numbers) -> Vec<u8> {
                 .map(|_| numbers.below(bound))
                 .collect(),
         };
+        if numbers.chance(lanes) {
+            text += &lane_line(numbers, wide);
+        }
         text += &format!("in={}\nout={}\n", list(&inputs), list(&outputs));
     }
     // Fill the gaps, mostly, so that nothing waits at the end.
@@ -104,6 +108,15 @@ fn random_job(numbers: &mut Numbers) -> Vec<u8> {
     }
     text += "final=1\n";
     text.into_bytes()
+}
+
+/// A lane line, with so many percent of lanes over 255.
+fn lane_line(numbers: &mut Numbers, wide: u64) -> String {
+    let lane = match numbers.chance(wide) {
+        true => numbers.wide_lane(),
+        false => numbers.lane(),
+    };
+    format!("lane={lane}\n")
 }
 
 fn list(places: &[u64]) -> String {
@@ -142,7 +155,7 @@ fn damage(numbers: &mut Numbers, job: &mut Vec<u8>) {
         }
         5 => job.truncate(at),
         6 => {
-            let lines: [&[u8]; 10] = [
+            let lines: [&[u8]; 15] = [
                 b"set=0\n",
                 b"set=18446744073709551615\n",
                 b"set=18446744073709551616\n",
@@ -153,6 +166,11 @@ fn damage(numbers: &mut Numbers, job: &mut Vec<u8>) {
                 b"final=1\n",
                 b"in=1\n",
                 b"\n",
+                b"lane=0\n",
+                b"lane=255\n",
+                b"lane=256\n",
+                b"lane=\n",
+                b"lane=7\nin=0\nout=\n",
             ];
             let line = numbers.choice(&lines);
             job.splice(line_start..line_start, line.iter().copied());

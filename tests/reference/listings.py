@@ -1,7 +1,7 @@
 #!/usr/bin/env python3
 """Holds the listings of accepted jobs to the Rust: from a file of cases that `reference jobs` or
-`reference floors` wrote, each accepted job is put to the oracle as a session, and a listing is made of
-the oracle's answers.
+`reference floors` wrote, each accepted job is put to the oracle as a session, its lanes removed, and a
+listing is made of the oracle's answers and of the lanes in the job.
 
     listings.py FILE ORACLE
 """
@@ -24,9 +24,14 @@ def accepted_jobs(path):
             yield job, out
 
 
+def lines_of(job):
+    """Key and value of each line."""
+    return [line.split("=") for line in job.splitlines()]
+
+
 def run_of(job):
     """The job as a run of the oracle."""
-    lines = [line.split("=") for line in job.splitlines()]
+    lines = lines_of(job)
     (_, p), (_, v) = lines[:2]
     run, inputs = [f"session {p} {v}"], ""
     for key, value in lines[2:]:
@@ -36,17 +41,24 @@ def run_of(job):
             run.append(f"add {inputs} {value or '-'}")
         elif key == "set":
             run.append(f"set {value}")
-        else:
+        elif key != "lane":
             run.append(key)
     return "\n".join(run + ["end"]) + "\n"
+
+
+def lanes_of(job):
+    """The lane of each registration: that of the line before its in line, or 0."""
+    lines = lines_of(job)
+    return [int(value) if before == "lane" else 0 for (before, value), (key, _) in zip(lines, lines[1:]) if key == "in"]
 
 
 def parallelism_of(job):
     return int(job.partition("\n")[0].partition("=")[2])
 
 
-def listing_of(p, answers):
-    """The listing by the oracle's answers; the floor, which the Rust does not know, by its order."""
+def listing_of(job, answers):
+    """The listing by the oracle's answers; floor and lanes, which the Rust does not know, by its order and by the job."""
+    p, lanes = parallelism_of(job), lanes_of(job)
     order = [tuple(map(int, entry.split(","))) for entry in answers["order"].split()]
     rows = [tuple(map(int, row.split(","))) for row in answers["rows"].split()]
     places = answers["final"].split()[1]
@@ -59,7 +71,7 @@ def listing_of(p, answers):
         assert (row_parallelism, value) == (parallelism, added)
         lines.append(
             f"order={index} added={added} accepted={accepted} "
-            f"parallelism={parallelism} written={written}"
+            f"parallelism={parallelism} written={written} lane={lanes[added]}"
         )
     return "".join(line + "\n" for line in lines)
 
@@ -72,7 +84,7 @@ def main():
     answers, listings = {}, []
     for line in done.stdout.splitlines():
         if line == "end":
-            listings.append(listing_of(parallelism_of(jobs[len(listings)][0]), answers))
+            listings.append(listing_of(jobs[len(listings)][0], answers))
             answers = {}
         elif line.startswith("= "):
             word, _, rest = line[2:].partition(" ")

@@ -6,6 +6,7 @@
 //!                               returned number on a line, then the listing
 //!   reference needs             a job: what it needs by its text alone, or its refusal; and what it used,
 //!                               where it is accepted
+//!   reference label SEED        runs, printed again with lanes of 0 to 255 on most adds; answers stay beside them
 //!   reference random KIND SEED COUNT
 //!                               random runs, KIND session, guide, session-refused, guide-refused
 //!   reference exhaustive KIND   all short runs, KIND session or guide
@@ -17,6 +18,7 @@
 mod floors;
 mod generate;
 mod jobs;
+#[allow(dead_code)] // how storage has entries and rows is for the tests of storage
 mod model;
 
 use model::{Code, Entry, Guide, Lent, Location, Needs, Session, Summary, Window, SPANS};
@@ -37,6 +39,9 @@ fn main() {
             put(&mut out, &listing);
         }
         ["needs"] => put(&mut out, needs_text(&read_input()).as_bytes()),
+        ["label", seed] => {
+            generate::label(input_lines(), plain(seed), &mut |line| put(&mut out, line))
+        }
         ["random", kind, seed, count] => {
             generate::random(kind, plain(seed), plain(count), &mut |run| put(&mut out, run))
         }
@@ -45,7 +50,7 @@ fn main() {
         }
         ["floors"] => floors::cases(&mut |case| put(&mut out, case)),
         ["exhaustive", kind] => generate::exhaustive(kind, &mut |run| put(&mut out, run)),
-        _ => fail("use: runs | job | host LENT | needs | random KIND SEED COUNT | exhaustive KIND | jobs SEED COUNT | floors"),
+        _ => fail("use: runs | job | host LENT | needs | label SEED | random KIND SEED COUNT | exhaustive KIND | jobs SEED COUNT | floors"),
     }
     let _ = out.flush();
 }
@@ -66,6 +71,13 @@ fn read_input() -> Vec<u8> {
         fail(&format!("the input can't be read: {error}"));
     }
     input
+}
+
+/// Line by line, since runs with answers may be long.
+fn input_lines() -> impl Iterator<Item = String> {
+    let lines = std::io::stdin().lines();
+    lines
+        .map(|line| line.unwrap_or_else(|error| fail(&format!("the input can't be read: {error}"))))
 }
 
 fn put(out: &mut impl Write, bytes: &[u8]) {
@@ -106,6 +118,8 @@ enum Opened {
 struct Run {
     opened: Opened,
     traced: bool,
+    /// Whether an accepted add has a lane beside it.
+    labelled: bool,
     calls: usize,
     /// The index and code of each refused call.
     refused: Vec<(usize, Code)>,
@@ -149,6 +163,7 @@ fn answer_line(line: &str, run: &mut Option<Run>, text: &mut String) -> Result<(
         }
         (Some(open), _) => {
             let (code, answer) = call(&mut open.opened, &words)?;
+            open.labelled |= code == 0 && matches!(words[..], ["add", _, _, _]);
             if code != 0 {
                 open.refused.push((open.calls, code));
             }
@@ -184,6 +199,7 @@ fn open(words: &[&str]) -> Result<Run, String> {
     Ok(Run {
         opened,
         traced: false,
+        labelled: false,
         calls: 0,
         refused: Vec::new(),
     })
@@ -195,7 +211,10 @@ fn call(opened: &mut Opened, words: &[&str]) -> Result<(Code, String), String> {
         Opened::Session(session, summary) => {
             let code = match words {
                 ["set", place] => session.set(number(place)?),
-                ["add", inputs, outputs] => session.add(&list(inputs)?, &list(outputs)?),
+                ["add", inputs, outputs, lane @ ..] if lane.len() <= 1 => {
+                    let lane = lane.first().map_or(Ok(0), |lane| number(lane))?;
+                    session.add(lane, &list(inputs)?, &list(outputs)?)
+                }
                 ["flush"] => session.flush(),
                 ["final"] => match session.final_flush() {
                     Ok(given) => {
@@ -253,6 +272,9 @@ fn end(run: &Run) -> Vec<String> {
             answers.push(format!("mark {}", mark(session)));
             answers.push(waiting(session));
             answers.extend(held(window));
+            if run.labelled {
+                answers.extend(lanes(session));
+            }
             if let Some(summary) = summary {
                 answers.push(format!("final {} {}", session.rows.len(), session.leading));
                 answers.push(format!("average {}", summary.average));
@@ -313,6 +335,7 @@ fn order(window: &Window) -> String {
                 added,
                 accepted,
                 parallelism,
+                ..
             } = entry;
             format!("{value},{added},{accepted},{parallelism}")
         }),
@@ -329,6 +352,7 @@ fn rows(session: &Session) -> String {
                 written,
                 index,
                 parallelism,
+                ..
             } = row;
             format!("{added},{accepted},{written},{index},{parallelism}")
         }),
@@ -367,6 +391,19 @@ fn held(shown: &Window) -> [String; 3] {
         line(
             "held",
             entries.map(|e| format!("{},{},{}", e.value, e.added, e.accepted)),
+        ),
+    ]
+}
+
+/// The lanes of the order's entries, of the rows and of the window's entries.
+fn lanes(session: &Session) -> [String; 3] {
+    let window = &session.window;
+    [
+        line("order-lanes", window.order.iter().map(|entry| entry.lane)),
+        line("row-lanes", session.rows.iter().map(|row| row.lane)),
+        line(
+            "held-lanes",
+            window.spans.iter().flatten().map(|entry| entry.lane),
         ),
     ]
 }

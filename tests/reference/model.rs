@@ -1,8 +1,8 @@
-//! The reference model: document 01's clerk as a plain program, fed only P, V, W and the calls. It
-//! follows the paper and is meant to be read beside it, paragraph by paragraph: the records, the
-//! guide, the registrar and sorter, the checks, the summary, the job; everything is kept in growing
-//! lists. It shares no code with the Rust or with what is tested by it. All arithmetic is in 64 bits,
-//! far from any limit.
+//! The reference model: document 01's clerk, with the floor and the lanes of document 02 (M-103, M-104), as
+//! a plain program, fed only P, V, W and the calls. It follows the papers and is meant to be read beside
+//! them, paragraph by paragraph: the records, the guide, the registrar and sorter, the checks, the summary,
+//! the job; everything is kept in growing lists. It shares no code with the Rust or with what is tested by
+//! it. All arithmetic is in 64 bits, far from any limit.
 
 use std::collections::BTreeMap;
 
@@ -13,13 +13,15 @@ pub const SPANS: usize = 32;
 /// The greatest P and V.
 pub const MOST_PARALLELISM: u64 = 64_999;
 pub const MOST_PLACES: u64 = 16_777_216;
+/// The greatest lane (document 02, M-104).
+pub const MOST_LANE: u64 = 255;
 
 /// A place's marks.
 pub const UNTRACKED: u16 = 0;
 pub const WRITTEN: u16 = 32_768;
 pub const SET: u16 = 49_152;
 
-/// The number of a refusal, 1 to 17.
+/// The number of a refusal, 1 to 18.
 pub type Code = u64;
 
 /// Ordered by span, then position.
@@ -36,6 +38,16 @@ pub struct Entry {
     pub added: u64,
     pub accepted: u64,
     pub parallelism: u64,
+    /// Its registration's label, which nothing here looks at.
+    pub lane: u64,
+}
+
+impl Entry {
+    /// As storage has them, also of an entry that the window holds.
+    pub fn numbers(&self) -> [u64; 4] {
+        let last = packed(self.parallelism, self.lane);
+        [self.value, self.added, self.accepted, last]
+    }
 }
 
 /// A record row; written is filled at the end of the add, the rest when the entry is appended.
@@ -46,6 +58,20 @@ pub struct Row {
     pub written: u64,
     pub index: u64,
     pub parallelism: u64,
+    pub lane: u64,
+}
+
+impl Row {
+    /// As storage has them.
+    pub fn numbers(&self) -> [u64; 5] {
+        let last = packed(self.parallelism, self.lane);
+        [self.added, self.accepted, self.written, self.index, last]
+    }
+}
+
+/// "parallelism + 65,536 · lane" (document 02, M-104).
+fn packed(parallelism: u64, lane: u64) -> u64 {
+    parallelism + 65_536 * lane
 }
 
 // ---- Guide
@@ -256,6 +282,7 @@ pub struct Place {
 }
 
 struct Registration {
+    lane: u64,
     inputs: Vec<u64>,
     outputs: Vec<u64>,
 }
@@ -323,14 +350,15 @@ impl Session {
         0
     }
 
-    pub fn add(&mut self, inputs: &[u64], outputs: &[u64]) -> Code {
-        let code = self.check_add(inputs, outputs);
+    pub fn add(&mut self, lane: u64, inputs: &[u64], outputs: &[u64]) -> Code {
+        let code = self.check_add(lane, inputs, outputs);
         if code != 0 {
             return code;
         }
         let number = self.registrations.len() as u64;
         self.list_numbers += (inputs.len() + outputs.len()) as u64;
         self.registrations.push(Registration {
+            lane,
             inputs: inputs.to_vec(),
             outputs: outputs.to_vec(),
         });
@@ -399,10 +427,12 @@ impl Session {
         }
     }
 
-    fn check_add(&self, inputs: &[u64], outputs: &[u64]) -> Code {
+    fn check_add(&self, lane: u64, inputs: &[u64], outputs: &[u64]) -> Code {
         let places = || inputs.iter().chain(outputs);
         if self.closed {
             7
+        } else if lane > MOST_LANE {
+            18
         } else if inputs.len() > 65_535 || outputs.len() > 65_535 {
             3
         } else if places().any(|&place| is_flagged(place)) {
@@ -441,7 +471,11 @@ impl Session {
 
     /// Places one registration, tracks its outputs and says who comes off.
     fn place_one(&mut self, number: u64) -> Vec<u64> {
-        let Registration { inputs, outputs } = &self.registrations[number as usize];
+        let Registration {
+            lane,
+            inputs,
+            outputs,
+        } = &self.registrations[number as usize];
         let after = inputs
             .iter()
             .map(|&input| self.places[input as usize].location)
@@ -451,6 +485,7 @@ impl Session {
             added: number,
             accepted: self.ended,
             parallelism: 0,
+            lane: *lane,
         };
         let appended_before = self.window.order.len();
         let location = self.window.place(entry, after);
@@ -487,6 +522,7 @@ impl Session {
             row.accepted = entry.accepted;
             row.index = index as u64;
             row.parallelism = entry.parallelism;
+            row.lane = entry.lane;
         }
     }
 
@@ -561,6 +597,7 @@ impl Guide {
                 added,
                 accepted,
                 parallelism: 0,
+                lane: 0,
             },
             after,
         ))
@@ -766,17 +803,19 @@ impl<'a> Lines<'a> {
         Ok((head("parallelism")?, head("places")?))
     }
 
-    /// The call that the next line makes (with its `out=` line, for an add).
+    /// The call that the next line makes (with those that must follow it, for an add).
     fn take_call(&mut self) -> Result<JobCall, Refusal> {
         let line = self.take()?;
         if let Some(value) = value_of(line, "set") {
             return self.formed(number(value)).map(JobCall::Set);
         }
-        if let Some(value) = value_of(line, "in") {
-            let inputs = self.formed(numbers(value))?;
-            let value = self.take_value("out")?;
-            let outputs = self.formed(numbers(value))?;
-            return Ok(JobCall::Add(inputs, outputs));
+        if let Some(value) = value_of(line, "lane") {
+            let lane = self.formed(number(value))?;
+            let inputs = self.take_value("in")?;
+            return self.take_add(lane, inputs);
+        }
+        if let Some(inputs) = value_of(line, "in") {
+            return self.take_add(0, inputs);
         }
         match line {
             b"flush=1" => Ok(JobCall::Flush),
@@ -784,12 +823,24 @@ impl<'a> Lines<'a> {
             _ => Err(self.refuse(15)),
         }
     }
+
+    /// The add whose inputs stand on the line that was taken last; its `out=` line must come next.
+    fn take_add(&mut self, lane: u64, inputs: &[u8]) -> Result<JobCall, Refusal> {
+        let inputs = self.formed(numbers(inputs))?;
+        let value = self.take_value("out")?;
+        let outputs = self.formed(numbers(value))?;
+        Ok(JobCall::Add(Registration {
+            lane,
+            inputs,
+            outputs,
+        }))
+    }
 }
 
 /// A call of a job as it is read.
 enum JobCall {
     Set(u64),
-    Add(Vec<u64>, Vec<u64>),
+    Add(Registration),
     Flush,
     Final,
 }
@@ -811,7 +862,11 @@ pub fn finish_job(job: &[u8]) -> Result<(Session, Summary), Refusal> {
     let summary = loop {
         match lines.take_call()? {
             JobCall::Set(place) => lines.demand(session.set(place))?,
-            JobCall::Add(inputs, outputs) => lines.demand(session.add(&inputs, &outputs))?,
+            JobCall::Add(Registration {
+                lane,
+                inputs,
+                outputs,
+            }) => lines.demand(session.add(lane, &inputs, &outputs))?,
             JobCall::Flush => lines.demand(session.flush())?,
             JobCall::Final => break session.final_flush().map_err(|code| lines.refuse(code))?,
         }
@@ -835,7 +890,9 @@ pub fn job_needs(job: &[u8]) -> Result<Needs, Refusal> {
     loop {
         match lines.take_call()? {
             JobCall::Set(_) => {}
-            JobCall::Add(inputs, outputs) => {
+            JobCall::Add(Registration {
+                inputs, outputs, ..
+            }) => {
                 needs.registrations += 1;
                 needs.list_numbers += (inputs.len() + outputs.len()) as u64;
             }
@@ -894,12 +951,13 @@ pub fn list(session: &Session, summary: &Summary) -> Vec<u8> {
             added,
             accepted,
             parallelism,
+            lane,
             ..
         } = entry;
         let written = session.rows[*added as usize].written;
         text += &format!(
             "order={index} added={added} accepted={accepted} \
-             parallelism={parallelism} written={written}\n"
+             parallelism={parallelism} written={written} lane={lane}\n"
         );
     }
     text.into_bytes()

@@ -2,7 +2,7 @@
 //! session needs, and is full of a pattern before a replay, so that every number that must not be
 //! written can be looked at afterwards.
 
-use crate::layout::{Needed, ENTRY};
+use crate::layout::{Needed, ENTRY, LANE_RADIX, ROW, WAITING};
 use crate::sys::{self, Count, Slices};
 use crate::Call;
 
@@ -71,6 +71,10 @@ impl<T: Number> Buffer<T> {
     /// The numbers that a session needs.
     pub fn needed(&self) -> &[T] {
         &self.numbers[GUARD..GUARD + self.needed]
+    }
+
+    fn needed_mut(&mut self) -> &mut [T] {
+        &mut self.numbers[GUARD..GUARD + self.needed]
     }
 
     /// The guards, and the numbers from `used` on, have the pattern still.
@@ -274,6 +278,31 @@ impl Buffers {
             true => Ok(()),
             false => Err("the order's length changed".to_owned()),
         }
+    }
+
+    /// All storage and the answers are equal to another's, byte for byte, once the lanes are struck from both; and so is
+    /// what was returned.
+    pub fn check_same_but_lanes(&mut self, other: &mut Self) -> Result<(), String> {
+        self.strike_lanes();
+        other.strike_lanes();
+        self.check_same(other)?;
+        self.answers.check_same(&other.answers)
+    }
+
+    /// Makes every lane 0: in the last numbers of the spans' and the order's entries and of the rows, and in the cells.
+    fn strike_lanes(&mut self) {
+        let strike = |numbers: &mut [u32], size: usize| {
+            let tuples = numbers.chunks_exact_mut(size);
+            tuples.for_each(|tuple| tuple[size - 1] %= LANE_RADIX);
+        };
+        strike(self.spans.needed_mut(), ENTRY);
+        strike(self.order.needed_mut(), ENTRY);
+        strike(self.rows.needed_mut(), ROW);
+        let waiting = self.waiting.needed_mut();
+        let v = waiting.len() / WAITING;
+        waiting[2 * v..3 * v]
+            .iter_mut()
+            .for_each(|cell| *cell &= !0xFF);
     }
 
     /// All storage and the answers are equal to another's, byte for byte.

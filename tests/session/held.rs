@@ -114,7 +114,7 @@ impl Both {
     /// Each accepted add is in the order, in the window, or waits: by what `replay_calls` stores.
     fn check_sum(&self, calls: &[Call], written: usize, held: usize) -> Result<(), String> {
         let answers = calls.iter().zip(self.by_calls.answers.needed());
-        let adds = answers.filter(|(call, code)| matches!(call, Call::Add(..)) && **code == 0);
+        let adds = answers.filter(|(call, code)| call.lists().is_some() && **code == 0);
         let (adds, waiting) = (adds.count(), count_waiting(&self.by_calls)?);
         match adds == written + held + waiting {
             true => Ok(()),
@@ -167,7 +167,7 @@ struct Met {
     flushed: u64,
     finals: u64,
     /// Refused calls by number, and those while some were held.
-    refused: [u64; 18],
+    refused: [u64; 19],
     refused_held: u64,
 }
 
@@ -209,7 +209,7 @@ impl Met {
 
     /// Refuses to have compared little: each of these must have been met.
     fn look_for_missing(&self) -> Result<(), String> {
-        let numbers = [4, 5, 6, 7, 8, 9, 10, 12].map(|code| self.refused[code] > 0);
+        let numbers = [4, 5, 6, 7, 8, 9, 10, 12, 18].map(|code| self.refused[code] > 0);
         let met = [
             ("releases with P = 1, 2 and 5", !self.released.contains(&0)),
             ("one span opened, and two", !self.opened.contains(&0)),
@@ -329,6 +329,7 @@ fn with_refused(list: List, numbers: &mut Numbers) -> List {
         if numbers.chance(often) {
             calls.push(refused(&session, list.v, numbers));
         }
+        let call = labelled(call, numbers);
         call_model(&mut session, &call);
         calls.push(call);
     }
@@ -337,14 +338,25 @@ fn with_refused(list: List, numbers: &mut Numbers) -> List {
     List { calls, ..list }
 }
 
-/// A call that is refused now: for a flagged place, one past the last, one that is taken, one twice, or
-/// because some wait.
+/// Half of the adds get a lane.
+fn labelled(call: Call, numbers: &mut Numbers) -> Call {
+    match call {
+        Call::Add(inputs, outputs) if numbers.chance(50) => {
+            Call::AddInLane(numbers.lane(), inputs, outputs)
+        }
+        call => call,
+    }
+}
+
+/// A call that is refused now: for a flagged place, one past the last, one that is taken, one twice, a lane over 255,
+/// or because some wait.
 fn refused(session: &Session, v: u64, numbers: &mut Numbers) -> Call {
-    match numbers.below(5) {
+    match numbers.below(6) {
         0 => Call::Set(1 << 62),
         1 => Call::Add(vec![], vec![v]),
         2 if session.leading > 0 => Call::Set(numbers.below(session.leading)),
         3 if !session.waiting.is_empty() => Call::Final,
+        4 => Call::AddInLane(numbers.wide_lane(), vec![], vec![]),
         _ => Call::Add(vec![], vec![0, 0]),
     }
 }

@@ -5,8 +5,8 @@
 use crate::buffers::{encode, Buffers, Lent, Short};
 use crate::lists::call_model;
 use crate::model;
-use crate::Call;
 use crate::state::State;
+use crate::{list_numbers, Call};
 
 /// The bound, in seconds of processor time. Linear work takes hundredths.
 const BOUND: f64 = 3.0;
@@ -22,11 +22,14 @@ struct Case {
     calls: Vec<Call>,
     /// How many calls are refused with each number.
     refused: Vec<(u64, usize)>,
+    /// The last number of the first entry, where that was worked out by hand.
+    first: Option<u32>,
 }
 
 pub fn check() -> Result<String, String> {
-    let cases: [fn() -> Case; 13] = [
+    let cases: [fn() -> Case; 14] = [
         sum_of_lengths,
+        widest_in_last_lane,
         many_inputs,
         many_outputs,
         last_flush,
@@ -81,8 +84,8 @@ fn check_case(case: &Case, buffers: &mut Buffers) -> Result<f64, String> {
         .collect();
     State::of_model(&session).compare(buffers, *p, calls, &codes)?;
     check_refused(case, &codes)?;
-    if case.name == "K1" {
-        check_k1(buffers)?;
+    if let Some(first) = case.first {
+        check_first(buffers, first)?;
     }
     match seconds <= BOUND {
         true => Ok(seconds),
@@ -104,18 +107,10 @@ fn check_refused(case: &Case, codes: &[u64]) -> Result<(), String> {
     }
 }
 
-/// The figure of document 01's rule, not of a sum in 16 bits.
-fn check_k1(buffers: &Buffers) -> Result<(), String> {
-    match buffers.order.needed()[..4] {
-        [0, 0, 0, 32_768] => Ok(()),
-        ref entry => Err(format!("the first entry is {entry:?}")),
-    }
-}
-
-fn list_numbers(call: &Call) -> usize {
-    match call {
-        Call::Add(inputs, outputs) => inputs.len() + outputs.len(),
-        _ => 0,
+fn check_first(buffers: &Buffers, first: u32) -> Result<(), String> {
+    match &buffers.order.needed()[..4] {
+        entry if *entry == [0, 0, 0, first] => Ok(()),
+        entry => Err(format!("the first entry is {entry:?}")),
     }
 }
 
@@ -135,6 +130,10 @@ fn add(inputs: &[u64], outputs: &[u64]) -> Call {
     Call::Add(inputs.to_vec(), outputs.to_vec())
 }
 
+fn in_lane(lane: u64, inputs: &[u64], outputs: &[u64]) -> Call {
+    Call::AddInLane(lane, inputs.to_vec(), outputs.to_vec())
+}
+
 /// K1: two spans of 32,768 entries, both below P, whose lengths add up to 2^16.
 fn sum_of_lengths() -> Case {
     let mut calls = vec![add(&[], &[0])];
@@ -147,17 +146,35 @@ fn sum_of_lengths() -> Case {
         v: 65_536,
         calls,
         refused: vec![],
+        // the figure of document 01's rule, not of a sum in 16 bits
+        first: Some(32_768),
     }
 }
 
-/// K2: 65,535 inputs are accepted, 65,536 are not.
+/// The greatest parallelism, 64,999, in lane 255: 64,999 + 65,536 · 255.
+fn widest_in_last_lane() -> Case {
+    let mut calls: Vec<Call> = (0..64_999).map(|_| in_lane(255, &[], &[])).collect();
+    calls.push(Call::Final);
+    Case {
+        name: "the widest entry, in the last lane",
+        p: 64_999,
+        v: 64_999,
+        calls,
+        refused: vec![],
+        first: Some(16_776_679),
+    }
+}
+
+/// K2: 65,535 inputs are accepted, 65,536 are not; a lane over 255 is judged before.
 fn many_inputs() -> Case {
     let calls = vec![
         Call::Set(0),
         add(&vec![0; 65_535], &[1]),
         add(&vec![0; 65_536], &[2]),
-        add(&vec![1; 65_535], &[2]),
-        add(&vec![3; 65_535], &[]),
+        in_lane(256, &vec![0; 65_536], &[2]),
+        in_lane(255, &vec![0; 65_536], &[2]),
+        in_lane(255, &vec![1; 65_535], &[2]),
+        in_lane(254, &vec![3; 65_535], &[]),
         Call::Set(3),
         Call::Final,
     ];
@@ -166,7 +183,8 @@ fn many_inputs() -> Case {
         p: 2,
         v: 5,
         calls,
-        refused: vec![(3, 1)],
+        refused: vec![(3, 2), (18, 1)],
+        first: None,
     }
 }
 
@@ -182,8 +200,11 @@ fn many_outputs() -> Case {
         calls.push(add(&[], &twice));
         calls.push(add(&[], &taken));
     }
-    calls.push(add(&[], &(0..=last).collect::<Vec<u64>>()));
-    calls.push(add(&[], &all));
+    let one_more: Vec<u64> = (0..=last).collect();
+    calls.push(add(&[], &one_more));
+    calls.push(in_lane(256, &[], &one_more));
+    calls.push(in_lane(255, &[], &one_more));
+    calls.push(in_lane(255, &[], &all));
     calls.push(add(&all, &[]));
     calls.push(Call::Final);
     Case {
@@ -191,7 +212,8 @@ fn many_outputs() -> Case {
         p: 3,
         v: last + 1,
         calls,
-        refused: vec![(6, 20), (8, 20), (3, 1)],
+        refused: vec![(6, 20), (8, 20), (3, 2), (18, 1)],
+        first: None,
     }
 }
 
@@ -212,6 +234,7 @@ fn last_flush() -> Case {
         v: 3,
         calls,
         refused: vec![(11, 2), (7, 1)],
+        first: None,
     }
 }
 
@@ -224,13 +247,14 @@ fn until_filled(name: &'static str, mut calls: Vec<Call>, fill: Call) -> Case {
         v: PLACES,
         calls,
         refused: vec![],
+        first: None,
     }
 }
 
 /// Many wait under one place.
 fn under_one_place(name: &'static str, fill: Call) -> Case {
     let mut calls: Vec<Call> = (1..=10).map(Call::Set).collect();
-    calls.extend((0..MANY).map(|i| add(&[i % 10, 10], &[])));
+    calls.extend((0..MANY).map(|i| in_lane(i % 256, &[i % 10, 10], &[])));
     until_filled(name, calls, fill)
 }
 
@@ -271,6 +295,7 @@ fn chain_backwards() -> Case {
         v: PLACES,
         calls,
         refused: vec![],
+        first: None,
     }
 }
 
@@ -278,8 +303,10 @@ fn chain_backwards() -> Case {
 /// holds all readers before the first of them is placed.
 fn growing_stack() -> Case {
     let links = MANY / 2;
-    let mut calls: Vec<Call> = (0..links).map(|place| add(&[place], &[])).collect();
-    calls.extend((0..links).map(|place| add(&[place], &[place + 1])));
+    let mut calls: Vec<Call> = (0..links)
+        .map(|place| in_lane(place % 256, &[place], &[]))
+        .collect();
+    calls.extend((0..links).map(|place| in_lane(place % 255, &[place], &[place + 1])));
     calls.extend([add(&[], &[0]), Call::Final]);
     Case {
         name: "a stack that grows",
@@ -287,6 +314,7 @@ fn growing_stack() -> Case {
         v: PLACES,
         calls,
         refused: vec![],
+        first: None,
     }
 }
 
@@ -314,6 +342,7 @@ fn refused_while_many_wait() -> Case {
             (8, 2 * MANY as usize),
             (5, MANY as usize),
         ],
+        first: None,
     }
 }
 
@@ -327,6 +356,7 @@ fn places_ascending() -> Case {
         v: PLACES,
         calls,
         refused: vec![],
+        first: None,
     }
 }
 
@@ -340,5 +370,6 @@ fn places_descending() -> Case {
         v: PLACES,
         calls,
         refused: vec![],
+        first: None,
     }
 }

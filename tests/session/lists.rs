@@ -6,7 +6,7 @@ use crate::buffers::{encode, Buffers, Lent, Short};
 use crate::model;
 use crate::state::State;
 use crate::sys::Count;
-use crate::Call;
+use crate::{lane_of, list_numbers, Call};
 
 /// Lists up to this length are replayed by all their beginnings.
 const ALL_BEGINNINGS: usize = 100;
@@ -26,14 +26,24 @@ pub struct List {
 
 impl List {
     pub fn pool(&self) -> usize {
-        let numbers = |call: &Call| match call {
-            Call::Add(inputs, outputs) => inputs.len() + outputs.len(),
-            _ => 0,
-        };
         match self.w {
             Some(w) => w as usize,
-            None => self.calls.iter().map(numbers).sum(),
+            None => self.calls.iter().map(list_numbers).sum(),
         }
+    }
+
+    /// The same list with every lane 0; nothing, where a lane is over 255 or all are 0 already.
+    fn unlabelled(&self) -> Option<Self> {
+        let greatest = self.calls.iter().map(lane_of).max()?;
+        let plain = |call: &Call| match call {
+            Call::AddInLane(_, inputs, outputs) => Call::Add(inputs.clone(), outputs.clone()),
+            call => call.clone(),
+        };
+        let accepted = (1..=model::MOST_LANE).contains(&greatest);
+        accepted.then(|| Self {
+            calls: self.calls.iter().map(plain).collect(),
+            ..*self
+        })
     }
 
     pub fn open_model(&self) -> Result<model::Session, u64> {
@@ -97,8 +107,12 @@ pub struct Counts {
     /// Lists in which a span had more than P entries.
     pub overfull: u64,
     pub flushes: u64,
+    /// Entries of the orders at the end with a lane that is not 0.
+    pub in_lanes: u64,
+    /// Lists whose storage is that of the list with every lane 0, but for the lanes.
+    pub lanes_struck: u64,
     /// Refused calls by number, and how many of all were compared byte for byte.
-    pub refused: [u64; 18],
+    pub refused: [u64; 19],
     pub refused_compared: u64,
     /// Lists whose opening is refused.
     pub not_opened: u64,
@@ -108,7 +122,8 @@ pub struct Counts {
 pub fn call_model(session: &mut model::Session, call: &Call) -> u64 {
     match call {
         Call::Set(place) => session.set(*place),
-        Call::Add(inputs, outputs) => session.add(inputs, outputs),
+        Call::Add(inputs, outputs) => session.add(0, inputs, outputs),
+        Call::AddInLane(lane, inputs, outputs) => session.add(*lane, inputs, outputs),
         Call::Flush => session.flush(),
         Call::Final => session.final_flush().err().unwrap_or(0),
     }
@@ -195,6 +210,26 @@ pub fn check(
             }
         }
     }
+    // The last replay was of the whole list, and its storage is there still.
+    if whole_before == Some(list.calls.len()) {
+        check_unlabelled(list, pair, counts)?;
+    }
+    Ok(())
+}
+
+/// Lanes influence nothing: the list with every lane 0 leaves what this one has left, but for the lanes.
+fn check_unlabelled(list: &List, pair: &mut Pair, counts: &mut Counts) -> Result<(), String> {
+    let Some(plain) = list.unlabelled() else {
+        return Ok(());
+    };
+    let lent = plain.lent(plain.calls.len(), true);
+    pair.before.replay(&lent, &encode(&plain.calls).0);
+    let at =
+        |message| format!("with every lane 0 it is otherwise, and not in the lanes: {message}");
+    pair.now
+        .check_same_but_lanes(&mut pair.before)
+        .map_err(at)?;
+    counts.lanes_struck += 1;
     Ok(())
 }
 
@@ -222,6 +257,8 @@ fn count_model(list: &List, counts: &mut Counts) -> Vec<u64> {
     counts.flushes += flushes;
     counts.overfull += u64::from(overfull);
     counts.entries += session.window.order.len() as u64;
+    let order = session.window.order.iter();
+    counts.in_lanes += order.filter(|entry| entry.lane != 0).count() as u64;
     let held = session.window.spans.iter().flatten();
     let all = session.window.order.iter().chain(held);
     // One that is placed within its own add has as many ended adds before it as its number.

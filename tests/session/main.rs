@@ -6,11 +6,13 @@
 //!   session openings             refusals of a whole replay: 1, 2 and 15, with nothing written
 //!   session limits               the greatest lists, and that the work stays linear
 //!   session held SEED COUNT      what the window holds after every beginning of so many lists
+//!   session lanes                lists as numbers with their lanes, and storage worked out by hand
 //!
 //! Prints what was compared; with status 1, what differed and the smallest such list found.
 
 mod buffers;
 mod held;
+mod lanes;
 mod limits;
 mod lists;
 mod openings;
@@ -44,6 +46,20 @@ use std::process::exit;
 /// A call with lists of its own.
 type Call = calls::Call<Vec<u64>>;
 
+/// The lane of an add; without one it is 0.
+fn lane_of(call: &Call) -> u64 {
+    match call {
+        Call::AddInLane(lane, ..) => *lane,
+        _ => 0,
+    }
+}
+
+/// How many places stand in a call's lists.
+fn list_numbers(call: &Call) -> usize {
+    let lists = call.lists();
+    lists.map_or(0, |(inputs, outputs)| inputs.len() + outputs.len())
+}
+
 fn main() {
     let arguments: Vec<String> = std::env::args().skip(1).collect();
     let words: Vec<&str> = arguments.iter().map(|word| word.as_str()).collect();
@@ -53,7 +69,8 @@ fn main() {
         ["openings"] => report(openings::check(&mut Buffers::new())),
         ["limits"] => report(limits::check()),
         ["held", seed, count] => report(held::check(plain(seed), plain(count))),
-        _ => fail("use: runs | shapes SEED COUNT | openings | limits | held SEED COUNT"),
+        ["lanes"] => report(lanes::check()),
+        _ => fail("use: runs | shapes SEED COUNT | openings | limits | held SEED COUNT | lanes"),
     }
 }
 
@@ -133,6 +150,8 @@ fn print_counts(counts: &Counts) {
         most_placed,
         overfull,
         flushes,
+        in_lanes,
+        lanes_struck,
         refused,
         refused_compared,
         not_opened,
@@ -145,6 +164,9 @@ fn print_counts(counts: &Counts) {
         "  {entries} order entries, {waited} registrations waited, one call placed up to {most_placed}, \
          {flushes} flushes, {overfull} lists with an overfull span"
     );
+    if *in_lanes > 0 {
+        println!("  {in_lanes} order entries in lanes; {lanes_struck} lists leave the same storage but for lanes where all are 0");
+    }
     let numbers = refused_text(refused);
     if !numbers.is_empty() || *not_opened > 0 {
         println!(

@@ -128,9 +128,8 @@ fn check_short(buffers: &mut Buffers) -> Result<u64, String> {
     Ok(count)
 }
 
-/// Numbers that are no list of calls, by themselves and after calls that are well formed. 15 goes
-/// before 1 and 2.
-fn check_malformed(buffers: &mut Buffers) -> Result<u64, String> {
+/// What starts no call, or one that is cut short.
+fn malformed_tails() -> Vec<Vec<u64>> {
     let far = [
         2,
         3,
@@ -145,17 +144,34 @@ fn check_malformed(buffers: &mut Buffers) -> Result<u64, String> {
         u64::MAX - 1,
         u64::MAX,
     ];
-    let mut tails: Vec<Vec<u64>> = vec![vec![0], vec![1], vec![2], vec![2, 0], vec![2, 1, 0]];
-    tails.extend([5, 6, 64, 1 << 32, (1 << 32) + 1, u64::MAX].map(|tag| vec![tag]));
-    tails.extend([5, 1 << 32, u64::MAX].map(|tag| vec![tag, 0, 0, 0]));
-    for count in far {
-        tails.push(vec![2, count, 0]);
-        tails.push(vec![2, 0, count, 0]);
-        tails.push(vec![2, 1, 0, count, 0]);
-        tails.push(vec![2, count]);
-        tails.push(vec![2, count, count]);
+    let mut tails = vec![vec![0], vec![1], vec![5]];
+    let tags = [6, 7, 64, 1 << 32, (1 << 32) + 1, (1 << 32) + 5, u64::MAX];
+    tails.extend(tags.map(|tag| vec![tag]));
+    tails.extend(tags.map(|tag| vec![tag, 0, 0, 0]));
+    // an add, in lane 0 and in others, which are not judged here
+    for add in [&[2][..], &[5, 0], &[5, 7], &[5, 256], &[5, u64::MAX]] {
+        let mut rests = vec![vec![], vec![0], vec![1, 0]];
+        rests.extend(far.map(|count| vec![count, 0]));
+        rests.extend(far.map(|count| vec![0, count, 0]));
+        rests.extend(far.map(|count| vec![1, 0, count, 0]));
+        rests.extend(far.map(|count| vec![count]));
+        rests.extend(far.map(|count| vec![count, count]));
+        tails.extend(rests.iter().map(|rest| [add, rest].concat()));
     }
-    let heads: [&[u64]; 4] = [&[], &[3], &[1, 0, 2, 1, 0, 1, 1], &[4, 4]];
+    tails
+}
+
+/// Numbers that are no list of calls, by themselves and after calls that are well formed. 15 goes
+/// before 1 and 2.
+fn check_malformed(buffers: &mut Buffers) -> Result<u64, String> {
+    let tails = malformed_tails();
+    let heads: [&[u64]; 5] = [
+        &[],
+        &[3],
+        &[1, 0, 2, 1, 0, 1, 1],
+        &[4, 4],
+        &[5, 255, 1, 0, 1, 1, 5, u64::MAX, 0, 0],
+    ];
     let mut count = 0;
     for head in heads {
         expect(buffers, &lent(3, 5, 9), (3, 5), head, 0)?;
@@ -181,9 +197,13 @@ fn check_truncated(buffers: &mut Buffers) -> Result<u64, String> {
                 .collect()
         };
         let calls: Vec<Call> = (0..8)
-            .map(|_| match numbers.below(4) {
+            .map(|_| match numbers.below(6) {
                 0 => Call::Set(numbers.below(6)),
                 1 => Call::Flush,
+                2 | 3 => {
+                    let lane = numbers.choice(&[0, 1, 2, 5, 255, 256, u64::MAX]);
+                    Call::AddInLane(lane, list(&mut numbers), list(&mut numbers))
+                }
                 _ => Call::Add(list(&mut numbers), list(&mut numbers)),
             })
             .collect();

@@ -54,19 +54,24 @@ told() {
   $work/session runs
 }
 
+# in_lanes NAME: the same runs with lanes of 0 to 255 on most adds. The answers know of no lanes, and storage is compared
+# with them less the lanes; with the model, and with the same lists in lane 0, it is compared whole.
+in_lanes() { $reference label "$seed" | told "$1, in lanes"; }
+
 # A program in C makes one call, J1 of document 01.
 gcc -std=c11 -Wall -Wextra -Werror -O2 -Ihosts hosts/replay_example.c "$library" "$path" -o $work/example
 $work/example | diff - <(printf '%s\n' \
-  'order=0 added=0 accepted=0 parallelism=2 written=0' \
-  'order=1 added=2 accepted=2 parallelism=2 written=0' \
-  'order=2 added=1 accepted=1 parallelism=2 written=0' \
-  'order=3 added=3 accepted=3 parallelism=1 written=4') || fail "the program in C prints something else"
+  'order=0 added=0 accepted=0 parallelism=2 written=0 lane=0' \
+  'order=1 added=2 accepted=2 parallelism=2 written=0 lane=0' \
+  'order=2 added=1 accepted=1 parallelism=2 written=0 lane=0' \
+  'order=3 added=3 accepted=3 parallelism=1 written=4 lane=0') || fail "the program in C prints something else"
 echo "session: J1 from C: as document 01 prints it"
 
 # Two at a time: what the other program answers, and what the model answers.
 {
   cat oracle/sample/placements.txt oracle/sample/sessions.txt | told "the kept sample of the Rust's answers"
-  $reference exhaustive session | answer | told "all short lists, answered by $by"
+  cat oracle/sample/placements.txt oracle/sample/sessions.txt | in_lanes "the kept sample of the Rust's answers"
+  $reference exhaustive session | answer | in_lanes "all short lists, answered by $by"
 } >$work/first.out 2>&1 &
 first=$!
 trap 'kill $first 2>/dev/null || true' EXIT
@@ -74,12 +79,14 @@ trap 'kill $first 2>/dev/null || true' EXIT
   python3 tests/session/hand_worked.py | told "the hand-worked cases"
   echo "session: openings"
   $work/session openings
+  echo "session: lanes"
+  $work/session lanes
   echo "session: what the window holds, by replay_held"
   $work/session held "$seed" $held
   echo "session: limits"
   timeout 300 $work/session limits
-  $reference random session "$seed" $random | answer | told "random lists, answered by $by"
-  $work/session shapes "$seed" $shapes | answer | told "deep cascades, waiting, overfull spans, answered by $by"
+  $reference random session "$seed" $random | answer | in_lanes "random lists, answered by $by"
+  $work/session shapes "$seed" $shapes | answer | in_lanes "deep cascades, waiting, overfull spans, answered by $by"
   $reference random session-refused "$seed" $refused | $reference runs |
     told "random lists with refused calls, answered by the model"
 } >$work/second.out 2>&1 || { cat $work/second.out; fail "a difference, or a failure"; }

@@ -15,12 +15,14 @@ target/reference/reference random session-refused 1 200 | target/reference/refer
 faults=0
 for fault in malformed-writes malformed-accepted refused-opening-writes 10-early held-entry k1 quadratic \
   chain-reversed refused-writes-mark refused-writes-slot beyond-spans \
+  255-refused 256-accepted 8-bits-of-a-lane 18-before-7 18-after-3 tag-5-lane-ignored lanes-order \
+  lane-lost-in-waiting lane-in-accepted row-lane-by-add {held,order,row,cell}-without-lane \
   {beyond,wrong}-{order,tally,rows,pool,locations,waiting,answers,marks} \
   total-{not-raised,once-a-call,next-span,before-opening,is-written,is-accepted,with-waiting,refused,after-flush,after-final} \
-  poll-{malformed-writes,malformed-accepted,refused-opening-writes,10-early,held-entry,chain-reversed,refused-writes-slot} \
+  poll-{malformed-writes,malformed-accepted,refused-opening-writes,10-early,held-entry,held-without-lane,chain-reversed,refused-writes-slot} \
   poll-beyond-spans poll-{beyond,wrong}-{order,tally,rows,pool,locations,waiting,answers,marks}; do
   noticed=
-  commands=(openings runs limits)
+  commands=(openings runs limits lanes)
   # those of replay_held by its own test, after every beginning
   case $fault in total-* | poll-*) commands=("held 1 60") ;; esac
   for command in "${commands[@]}"; do

@@ -17,12 +17,14 @@ use std::sync::OnceLock;
 
 enum Call<'a> {
     Set(u64),
-    Add(&'a [u64], &'a [u64]),
+    Add(Registration<'a>),
     Flush,
     Final,
 }
 
-struct Lists<'a> {
+#[derive(Clone, Copy)]
+struct Registration<'a> {
+    lane: u64,
     inputs: &'a [u64],
     outputs: &'a [u64],
 }
@@ -103,8 +105,8 @@ exported!(replay_held, true);
 /// What a replay came to.
 struct Outcome<'a> {
     session: Session,
-    /// The lists of the accepted adds.
-    accepted: Vec<Lists<'a>>,
+    /// The accepted adds.
+    accepted: Vec<Registration<'a>>,
     /// Places that are set, written or promised.
     taken: Vec<bool>,
     p: usize,
@@ -224,25 +226,47 @@ impl<'a> Outcome<'a> {
         let before = Standing::of(&self.session);
         let code = match call {
             Call::Set(place) => self.session.set(*place),
-            Call::Add(inputs, outputs) => self.session.add(inputs, outputs),
+            Call::Add(registration) => self.add(registration),
             Call::Flush => self.session.flush(),
             Call::Final => self.session.final_flush().err().unwrap_or(0),
         };
         match (call, code) {
             (Call::Set(place), 0) => self.taken[*place as usize] = true,
             (Call::Set(place), 8) => self.refused_place = Some(*place as usize),
-            (Call::Add(inputs, outputs), 0) => {
-                outputs
-                    .iter()
-                    .for_each(|place| self.taken[*place as usize] = true);
-                self.accepted.push(Lists { inputs, outputs });
+            (Call::Add(registration), 0) => {
+                let outputs = registration.outputs.iter();
+                outputs.for_each(|place| self.taken[*place as usize] = true);
+                self.accepted.push(*registration);
             }
-            (Call::Add(_, outputs), _) if fault("quadratic") => look_at_pairs(outputs),
+            (Call::Add(registration), _) if fault("quadratic") => {
+                look_at_pairs(registration.outputs)
+            }
             _ => {}
         }
         self.refused_last = code != 0;
         self.keep_total(call, code, &before);
         code
+    }
+
+    /// An add, whose lane is judged wrongly if such a fault is asked for.
+    fn add(&mut self, registration: &Registration) -> u64 {
+        let Registration {
+            lane,
+            inputs,
+            outputs,
+        } = *registration;
+        let long = inputs.len() > 65_535 || outputs.len() > 65_535;
+        let read_as = match lane {
+            255 if fault("255-refused") => 256,
+            256 if fault("256-accepted") => 0,
+            256.. if fault("18-after-3") && long => 0,
+            _ if fault("8-bits-of-a-lane") => lane % 256,
+            _ => lane,
+        };
+        match self.session.add(read_as, inputs, outputs) {
+            7 if fault("18-before-7") && lane > model::MOST_LANE => 18,
+            code => code,
+        }
     }
 
     /// The list numbers of the accepted adds.
@@ -269,32 +293,31 @@ fn put(slices: &mut Slices, outcome: &Outcome) {
         // A row for each span number, so that rows rotate.
         let row = (window.first as usize + i) % SPANS;
         for (q, e) in span.iter().enumerate() {
-            let accepted = e.accepted + u64::from(fault("held-entry") && i == 2);
-            put_tuple(
-                slices.spans,
-                row * (p + 1) + q,
-                [e.value, e.added, accepted, 0],
-            );
+            let mut e = stored(e);
+            e.accepted += u64::from(fault("held-entry") && i == 2);
+            e.lane *= u64::from(!fault("held-without-lane"));
+            put_tuple(slices.spans, row * (p + 1) + q, e.numbers());
         }
     }
+    // the lanes give the order of the first two
+    let swapped = fault("lanes-order") && matches!(window.order[..], [a, b, ..] if a.lane > b.lane);
     for (i, e) in window.order.iter().enumerate() {
-        let narrow = if fault("k1") {
-            e.parallelism % 32_768
-        } else {
-            e.parallelism
-        };
-        put_tuple(slices.order, i, [e.value, e.added, e.accepted, narrow]);
+        let i = if swapped && i < 2 { 1 - i } else { i };
+        let mut e = stored(e);
+        e.lane *= u64::from(!fault("order-without-lane"));
+        put_tuple(slices.order, i, e.numbers());
     }
     for (number, count) in slices.tally.iter_mut().zip(&window.tally) {
         *number = *count as u32;
     }
     slices.rows[..ROW * v].fill(0);
     for (i, r) in session.rows.iter().enumerate() {
-        put_tuple(
-            slices.rows,
-            i,
-            [r.added, r.accepted, r.written, r.index, r.parallelism],
-        );
+        let lane = match r.lane {
+            _ if fault("row-lane-by-add") => outcome.accepted[i].lane,
+            _ if fault("row-without-lane") => 0,
+            lane => lane,
+        };
+        put_tuple(slices.rows, i, model::Row { lane, ..*r }.numbers());
     }
     for (i, place) in session.places.iter().enumerate() {
         slices.marks[i] = place.mark;
@@ -302,8 +325,14 @@ fn put(slices: &mut Slices, outcome: &Outcome) {
     }
     put_chains(slices.waiting, session, v);
     let mut start = 0;
-    for (i, Lists { inputs, outputs }) in outcome.accepted.iter().enumerate() {
-        slices.waiting[2 * v + i] = (start as u64 * 65_536) + inputs.len() as u64;
+    for (i, registration) in outcome.accepted.iter().enumerate() {
+        let Registration {
+            lane,
+            inputs,
+            outputs,
+        } = registration;
+        let lane = if fault("cell-without-lane") { 0 } else { *lane };
+        slices.waiting[2 * v + i] = ((start as u64) << 24) + ((inputs.len() as u64) << 8) + lane;
         for number in inputs.iter().chain(*outputs) {
             slices.pool[start] = *number as u32;
             start += 1;
@@ -312,6 +341,22 @@ fn put(slices: &mut Slices, outcome: &Outcome) {
     for (flag, taken) in slices.waiting[3 * v..4 * v].iter_mut().zip(&outcome.taken) {
         *flag = (*taken).into();
     }
+}
+
+/// An entry as it is put into storage, wrong if such a fault is asked for.
+fn stored(entry: &model::Entry) -> model::Entry {
+    let mut entry = *entry;
+    // one that waited is placed when more adds have ended than its number says
+    if fault("lane-lost-in-waiting") && entry.accepted != entry.added {
+        entry.lane = 0;
+    }
+    if fault("lane-in-accepted") {
+        entry.accepted += entry.lane;
+    }
+    if fault("k1") {
+        entry.parallelism %= 32_768;
+    }
+    entry
 }
 
 fn put_tuple<const N: usize>(slice: &mut [u32], i: usize, numbers: [u64; N]) {
@@ -376,19 +421,35 @@ fn decode(mut numbers: &[u64]) -> Option<Vec<Call<'_>>> {
                 numbers = rest;
                 Call::Set(*place)
             }
-            2 => {
-                let (inputs, rest) = counted(numbers)?;
-                let (outputs, rest) = counted(rest)?;
-                numbers = rest;
-                Call::Add(inputs, outputs)
-            }
+            2 => Call::Add(take_add(0, &mut numbers)?),
             3 => Call::Flush,
             4 => Call::Final,
+            5 => {
+                let (lane, rest) = numbers.split_first()?;
+                numbers = rest;
+                let lane = if fault("tag-5-lane-ignored") {
+                    0
+                } else {
+                    *lane
+                };
+                Call::Add(take_add(lane, &mut numbers)?)
+            }
             _ if fault("malformed-accepted") => Call::Flush,
             _ => return None,
         });
     }
     Some(calls)
+}
+
+fn take_add<'a>(lane: u64, numbers: &mut &'a [u64]) -> Option<Registration<'a>> {
+    let (inputs, rest) = counted(numbers)?;
+    let (outputs, rest) = counted(rest)?;
+    *numbers = rest;
+    Some(Registration {
+        lane,
+        inputs,
+        outputs,
+    })
 }
 
 fn counted(numbers: &[u64]) -> Option<(&[u64], &[u64])> {

@@ -10,11 +10,14 @@ use crate::buffers::Buffers;
 use crate::layout::{self, SPANS};
 use crate::model;
 use crate::summary::{self, Numbers, COUNTS, THOUSANDS};
-use crate::Call;
+use crate::{lane_of, Call};
 
-/// What storage must say. Vectors of tuples have the numbers in the order of oracle/FORMAT.md.
+/// What storage must say. Vectors of tuples have the numbers in the order of oracle/FORMAT.md; where lanes were told, the
+/// last number of an entry and of a row has the lane in it, as in storage.
 #[derive(Default)]
 pub struct State {
+    /// Whether lanes were told. Where they were not, as by the oracle, storage is compared less the lanes.
+    labelled: bool,
     pub order: Vec<[u64; layout::ENTRY]>,
     /// One for each registration; all other rows are zeros.
     pub rows: Vec<[u64; layout::ROW]>,
@@ -30,15 +33,13 @@ pub struct State {
     pub summary: Option<Numbers>,
     /// The lengths of the window's spans.
     pub lengths: Vec<u64>,
-    /// Value, added, accepted of the entries in the window, span by span.
-    pub held: Vec<[u64; 3]>,
+    /// Value, added, accepted and 0, the parallelism still, of the entries in the window, span by span.
+    pub held: Vec<[u64; layout::ENTRY]>,
 }
 
 impl State {
     pub fn of_model(session: &model::Session) -> Self {
         let window = &session.window;
-        let entry = |e: &model::Entry| [e.value, e.added, e.accepted, e.parallelism];
-        let row = |r: &model::Row| [r.added, r.accepted, r.written, r.index, r.parallelism];
         let tracked = session
             .places
             .iter()
@@ -50,8 +51,9 @@ impl State {
             .enumerate()
             .filter(|(_, count)| **count != 0);
         Self {
-            order: window.order.iter().map(entry).collect(),
-            rows: session.rows.iter().map(row).collect(),
+            labelled: true,
+            order: window.order.iter().map(model::Entry::numbers).collect(),
+            rows: session.rows.iter().map(model::Row::numbers).collect(),
             places: tracked
                 .map(|(i, place)| {
                     let location = place.location;
@@ -76,9 +78,36 @@ impl State {
                 .spans
                 .iter()
                 .flatten()
-                .map(|e| [e.value, e.added, e.accepted])
+                .map(model::Entry::numbers)
                 .collect(),
         }
+    }
+
+    /// Puts lanes into the last numbers of tuples, one for each.
+    pub fn label<const N: usize>(
+        &mut self,
+        tuples: impl Fn(&mut Self) -> &mut Vec<[u64; N]>,
+        lanes: &[u64],
+    ) -> Result<(), String> {
+        self.labelled = true;
+        let tuples = tuples(self);
+        if tuples.len() != lanes.len() {
+            let (told, wanted) = (lanes.len(), tuples.len());
+            return Err(format!("{told} lanes are told of {wanted}"));
+        }
+        for (tuple, lane) in tuples.iter_mut().zip(lanes) {
+            tuple[N - 1] += u64::from(layout::LANE_RADIX) * lane;
+        }
+        Ok(())
+    }
+
+    /// The numbers of an entry or a row in storage, without the lane where none was told.
+    fn found<const N: usize>(&self, numbers: &[u32]) -> [u64; N] {
+        let mut found = std::array::from_fn(|i| numbers[i].into());
+        if !self.labelled {
+            found[N - 1] %= u64::from(layout::LANE_RADIX);
+        }
+        found
     }
 
     /// Compares an accepted replay's storage, after calls with these numbers.
@@ -111,7 +140,7 @@ impl State {
     fn compare_order(&self, buffers: &Buffers) -> Result<(), String> {
         let entries = buffers.order.needed().chunks_exact(layout::ENTRY);
         for (i, (found, wanted)) in entries.zip(&self.order).enumerate() {
-            same_tuple("order entry", i, found, wanted)?;
+            same_tuple("order entry", i, self.found(found), *wanted)?;
         }
         Ok(())
     }
@@ -125,7 +154,7 @@ impl State {
             .zip(wanted)
             .enumerate()
         {
-            same_tuple("row", i, found, &wanted)?;
+            same_tuple("row", i, self.found(found), wanted)?;
         }
         Ok(())
     }
@@ -177,8 +206,7 @@ impl State {
         Ok(())
     }
 
-    /// Each span that holds entries has a row of its own that begins with them, their parallelism
-    /// still 0.
+    /// Each span that holds entries has a row of its own that begins with them.
     fn compare_spans(&self, buffers: &Buffers, p: u64) -> Result<(), String> {
         let row_numbers = layout::ENTRY * (p as usize + 1);
         let rows: Vec<&[u32]> = buffers.spans.needed().chunks_exact(row_numbers).collect();
@@ -193,10 +221,9 @@ impl State {
             let (span, rest) = entries.split_at(length as usize);
             entries = rest;
             let begins = |row: &[u32]| {
-                row.chunks_exact(layout::ENTRY).zip(span).all(|(found, entry)| {
-                    let numbers = entry.iter().copied().chain([0]);
-                    found.iter().map(|number| u64::from(*number)).eq(numbers)
-                })
+                let entries = row.chunks_exact(layout::ENTRY);
+                let mut both = entries.zip(span);
+                both.all(|(found, wanted)| self.found(found) == *wanted)
             };
             match (0..SPANS).find(|&row| !taken[row] && begins(rows[row])) {
                 Some(row) => taken[row] = true,
@@ -276,8 +303,8 @@ fn numbers_of(summary: &model::Summary) -> Numbers {
     numbers
 }
 
-/// The lists of the accepted adds, read from pool and waiting storage, and the places taken by them
-/// and by the accepted sets. Gives the count of list numbers.
+/// The lists and lanes of the accepted adds, read from pool and waiting storage, and the places taken by
+/// them and by the accepted sets. Gives the count of list numbers.
 fn compare_lists(buffers: &Buffers, calls: &[Call], codes: &[u64]) -> Result<usize, String> {
     let waiting = buffers.waiting.needed();
     let v = waiting.len() / layout::WAITING;
@@ -293,10 +320,10 @@ fn compare_lists(buffers: &Buffers, calls: &[Call], codes: &[u64]) -> Result<usi
     {
         match call {
             Call::Set(place) => taken[*place as usize] = true,
-            Call::Add(inputs, outputs) => {
-                let wanted = ((used as u64) << 16) + inputs.len() as u64;
+            Call::Add(inputs, outputs) | Call::AddInLane(_, inputs, outputs) => {
+                let wanted = ((used as u64) << 24) + ((inputs.len() as u64) << 8) + lane_of(call);
                 same(
-                    || format!("where the lists of registration {registration} lie"),
+                    || format!("the cell of registration {registration}"),
                     lists[registration],
                     wanted,
                 )?;
@@ -329,12 +356,13 @@ fn same(what: impl Fn() -> String, found: u64, wanted: u64) -> Result<(), String
     }
 }
 
-fn same_tuple(what: &str, i: usize, found: &[u32], wanted: &[u64]) -> Result<(), String> {
-    match found
-        .iter()
-        .map(|number| u64::from(*number))
-        .eq(wanted.iter().copied())
-    {
+fn same_tuple<const N: usize>(
+    what: &str,
+    i: usize,
+    found: [u64; N],
+    wanted: [u64; N],
+) -> Result<(), String> {
+    match found == wanted {
         true => Ok(()),
         false => Err(format!("{what} {i} is {found:?}, not {wanted:?}")),
     }

@@ -67,6 +67,9 @@ fn call(words: &[&str]) -> Result<Call, String> {
     Ok(match words {
         ["set", place] => Call::Set(number(place)?),
         ["add", inputs, outputs] => Call::Add(list(inputs)?, list(outputs)?),
+        ["add", inputs, outputs, lane] => {
+            Call::AddInLane(number(lane)?, list(inputs)?, list(outputs)?)
+        }
         ["flush"] => Call::Flush,
         ["final"] => Call::Final,
         _ => return Err(format!("`{}` is no call", words.join(" "))),
@@ -124,7 +127,14 @@ fn take_answer(told: &mut Told, calls: usize, answer: &[&str]) -> Result<(), Str
                 .collect()
         }
         "window" => end.lengths = numbers(rest.get(1..).unwrap_or_default())?,
-        "held" => end.held = tuples(rest)?,
+        "held" => {
+            let still = |[value, added, accepted]: [u64; 3]| [value, added, accepted, 0];
+            end.held = tuples(rest)?.into_iter().map(still).collect()
+        }
+        // They follow the lines that they belong to.
+        "order-lanes" => end.label(|end| &mut end.order, &numbers(rest)?)?,
+        "row-lanes" => end.label(|end| &mut end.rows, &numbers(rest)?)?,
+        "held-lanes" => end.label(|end| &mut end.held, &numbers(rest)?)?,
         // How many registrations and places there are stands in the session, which no host sees.
         "final" => {}
         "average" | "median" | "low" | "thousands" => {
@@ -197,6 +207,9 @@ pub fn run_text(list: &List, traced: bool) -> String {
             Call::Set(place) => format!("set {place}\n"),
             Call::Add(inputs, outputs) => {
                 format!("add {} {}\n", list_text(inputs), list_text(outputs))
+            }
+            Call::AddInLane(lane, inputs, outputs) => {
+                format!("add {} {} {lane}\n", list_text(inputs), list_text(outputs))
             }
             Call::Flush => "flush\n".to_owned(),
             Call::Final => "final\n".to_owned(),

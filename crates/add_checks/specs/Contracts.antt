@@ -28,6 +28,6 @@ pub record MayAdd (w : List ℕ) (v used room : ℕ) : Type 0 where
   pub flags : Flags v taken w
   pub fits : used ≤ room
 
-pub record ChecksAdd (w ins outs : List ℕ) (closed : Bool) (v added used room n : ℕ) (w′ : List ℕ) : Type 0 where
-  pub is : (t : ℕ → Bool) → Flags v t w → n ≡ verdict (add-checks closed v ins outs t added used room)
+pub record ChecksAdd (w : List ℕ) (lane : ℕ) (ins outs : List ℕ) (closed : Bool) (v added used room n : ℕ) (w′ : List ℕ) : Type 0 where
+  pub is : (t : ℕ → Bool) → Flags v t w → n ≡ verdict (add-checks closed v lane ins outs t added used room)
   pub same : w′ ≡ w

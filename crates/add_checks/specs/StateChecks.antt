@@ -65,17 +65,19 @@ module _ {w outs : List ℕ} {v : ℕ} (added : ℕ) {used inputs room : ℕ} (m
             fits : ltb room (used + inputs + length outs) ≡ false
             fits = le-ltb room (used + inputs + length outs) (omega (arith, m .fits))
 
-pub may-state : (w ins outs : List ℕ) (closed : Bool) (v used room n : ℕ) → n ≡ verdict (list-checks closed v ins outs) → n ≡ 0 → MayAdd w v used room → MayCheck w outs v used (length ins) room
-may-state w ins outs closed v used room n e z m = let p = lists-passed closed v ins outs (sym e ∙ z) in record { taken = m .taken; flags = m .flags; below = p .1; fits = m .fits; few = p .0 }
+pub may-state : (w : List ℕ) (lane : ℕ) (ins outs : List ℕ) (closed : Bool) (v used room n : ℕ) →
+    n ≡ verdict (list-checks closed v lane ins outs) → n ≡ 0 → MayAdd w v used room → MayCheck w outs v used (length ins) room
+may-state w lane ins outs closed v used room n e z m =
+    let p = lists-passed closed v lane ins outs (sym e ∙ z) in record { taken = m .taken; flags = m .flags; below = p .1; fits = m .fits; few = p .0 }
 
-module _ (w ins outs : List ℕ) (closed : Bool) (v added used room n : ℕ) (e : n ≡ verdict (list-checks closed v ins outs)) where
-  pub add-lists : (n ≡ 0 → ⊥) → ChecksAdd w ins outs closed v added used room n w
-  add-lists h = record { is = λ t f. e ∙ sym (verdict-first (list-checks closed v ins outs) (state-checks v t outs added used (length ins) room) (λ z. h (e ∙ z))); same = refl }
+module _ (w : List ℕ) (lane : ℕ) (ins outs : List ℕ) (closed : Bool) (v added used room n : ℕ) (e : n ≡ verdict (list-checks closed v lane ins outs)) where
+  pub add-lists : (n ≡ 0 → ⊥) → ChecksAdd w lane ins outs closed v added used room n w
+  add-lists h = record { is = λ t f. e ∙ sym (verdict-first (list-checks closed v lane ins outs) (state-checks v t outs added used (length ins) room) (λ z. h (e ∙ z))); same = refl }
 
   module _ (z : n ≡ 0) where
-    pub add-state : (r : ℕ) (w′ : List ℕ) → ChecksState w outs v added used (length ins) room r w′ → ChecksAdd w ins outs closed v added used room r w′
+    pub add-state : (r : ℕ) (w′ : List ℕ) → ChecksState w outs v added used (length ins) room r w′ → ChecksAdd w lane ins outs closed v added used room r w′
     add-state r w′ s =
         record {
-          is = λ t f. s .is t f ∙ sym (verdict-rest (list-checks closed v ins outs) (state-checks v t outs added used (length ins) room) (lists-numbered closed v ins outs) (sym e ∙ z));
+          is = λ t f. s .is t f ∙ sym (verdict-rest (list-checks closed v lane ins outs) (state-checks v t outs added used (length ins) room) (lists-numbered closed v lane ins outs) (sym e ∙ z));
           same = s .same;
         }

@@ -20,13 +20,16 @@ fn place_number(ins: &[u64], outs: &[u64]) -> u64
     rules::UNKNOWN_PLACE
 }
 
-// The first checks, which look at the lists alone: 7, 3, 4, 5. Lists of places below v, which is small, pass 4 and 5.
-fn check_lists(ins: &[u64], outs: &[u64], closed: bool, v: usize) -> u64
+// The first checks, which look at the lane and the lists alone: 7, 18, 3, 4, 5. Lists of places below v, which is small, pass 4 and 5.
+fn check_lists(ins: &[u64], outs: &[u64], lane: u64, closed: bool, v: usize) -> u64
     requires { ⌜ v ≤ least-flagged ⌝ }
-    ensures { λ r. ⌜ r ≡ verdict (list-checks closed v (now (ins .entry)) (now (outs .entry))) ⌝ }
+    ensures { λ r. ⌜ r ≡ verdict (list-checks closed v lane (now (ins .entry)) (now (outs .entry))) ⌝ }
 {
     if closed {
         return rules::CLOSED;
+    }
+    if lane > rules::MOST_LANE {
+        return rules::UNKNOWN_LANE;
     }
     if lists::too_many(ins, outs) {
         return rules::TOO_MANY_NUMBERS;
@@ -68,11 +71,12 @@ fn check_state(
     0
 }
 
-// add: 7, 3, 4, 5, 6, 8, 9, 10.
+// add: 7, 18, 3, 4, 5, 6, 8, 9, 10.
 pub fn check_add(
     waiting: &mut [u64],
     ins: &[u64],
     outs: &[u64],
+    lane: u64,
     closed: bool,
     v: usize,
     added: usize,
@@ -80,9 +84,9 @@ pub fn check_add(
     room: usize,
 ) -> u64
     requires { ⌜ MayAdd (now waiting) v used room ⌝ }
-    ensures { λ r. ⌜ ChecksAdd (now (waiting .entry)) (now (ins .entry)) (now (outs .entry)) closed v added used room r (now (waiting .exit)) ⌝ }
+    ensures { λ r. ⌜ ChecksAdd (now (waiting .entry)) lane (now (ins .entry)) (now (outs .entry)) closed v added used room r (now (waiting .exit)) ⌝ }
 {
-    let n = check_lists(ins, outs, closed, v);
+    let n = check_lists(ins, outs, lane, closed, v);
     if n != 0 {
         return n;
     }

@@ -2,7 +2,7 @@
 -- to be put on the stack or to join those that wait. Assumes nothing.
 use mathlib.Core.Path.{_≡_, refl, _∙_, subst}
 use mathlib.Core.List.{List, [], _∷_, _++_, List·Memᴰ·head, List·Memᴰ·tail}
-use Prim.Native.Nat.{ℕ, _+_}
+use Prim.Native.Nat.{ℕ, _+_, _<_}
 use native.Mathlib.Omega.{arith}
 use lib.ListN.{length, length-append}
 use Rattle.rules.specs.Record.{row-of}
@@ -13,8 +13,8 @@ use Rattle.laws.specs.Limits.{AllBelow}
 use Rattle.lists.specs.Part.{Below, below-at}
 use Rattle.taken.specs.Flags.{Flags, claimed}
 use Rattle.taken.specs.FlagLaws.{flags-add, claimed-length}
-use Rattle.pool.specs.Lists.{Lists, stored}
-use Rattle.pool.specs.ListLaws.{lists-add, used-few, stored-length, cell-length}
+use Rattle.pool.specs.Lists.{start-limit, Lists, stored}
+use Rattle.pool.specs.ListLaws.{lists-add, stored-length, cell-length}
 use Rattle.registrar.specs.Delayed.{Delayed}
 use Rattle.waiting.specs.Apart.{lists-claimed, delayed-claimed, beyond-claimed, flags-cell, delayed-cell, beyond-cell}
 use Rattle.entering.specs.Entering.{entered-waiting, entered-pool, Storing}
@@ -44,15 +44,15 @@ with-added s n =
       places = s .places;
     }
 
-module _ (P N : ℕ) (k : Model) (s : Session) (σ : Storage) (R : Rep P N k s σ) (ins outs : List ℕ) (A : AddPassed N (length (σ .pool)) ins outs k) where
+module _ (P N : ℕ) (k : Model) (s : Session) (σ : Storage) (R : Rep P N k s σ) (lane : ℕ) (ins outs : List ℕ) (A : AddPassed N (length (σ .pool)) lane ins outs k) where
   abbrev a : Reg
-  a = record { ins = ins; outs = outs }
+  a = record { lane = lane; ins = ins; outs = outs }
 
   abbrev r : ℕ
   r = length (k .adds)
 
   abbrev w : List ℕ
-  w = entered-waiting (σ .waiting) N r (pooled (k .adds)) ins outs
+  w = entered-waiting (σ .waiting) N r (pooled (k .adds)) lane ins outs
 
   abbrev pool : List ℕ
   pool = entered-pool (σ .pool) (pooled (k .adds)) ins outs
@@ -65,12 +65,13 @@ module _ (P N : ℕ) (k : Model) (s : Session) (σ : Storage) (R : Rep P N k s �
   below : Below N outs
   below = all-below outs (A .outs-inside)
 
-  pub may-enter : Storing (σ .waiting) (σ .pool) N r (pooled (k .adds)) ins outs
-  may-enter =
+  pub may-enter : pooled (k .adds) < start-limit → Storing (σ .waiting) (σ .pool) N r (pooled (k .adds)) lane ins outs
+  may-enter low =
       record {
         inside = A .more;
         long = R .delayed .long;
-        small = used-few N (k .adds) (pooled (k .adds)) (σ .waiting) (σ .pool) (R .core .stored .lists) (omega (arith, R .core .guided .stands .small, R .core .guided .v-is));
+        small = low;
+        low = omega (arith, A .lane-few);
         few = omega (arith, A .ins-few);
         room = A .room;
         ins-fit = λ j h. omega (arith, below-at N ins (all-below ins (A .ins-inside)) j h, R .core .guided .stands .small, R .core .guided .v-is);
@@ -83,18 +84,18 @@ module _ (P N : ℕ) (k : Model) (s : Session) (σ : Storage) (R : Rep P N k s �
 
   entered : Lists N (k .adds ++ (a ∷ [])) (pooled (k .adds) + length ins + length outs) w pool
   unfolding entered-waiting entered-pool
-  entered = lists-add N (k .adds) (pooled (k .adds)) flagged (σ .pool) (lists-claimed outs below (R .core .stored .lists)) a (A .more) (A .room) (A .ins-few) (A .outs-few)
+  entered = lists-add N (k .adds) (pooled (k .adds)) flagged (σ .pool) (lists-claimed outs below (R .core .stored .lists)) a (A .more) (A .room) (A .lane-few) (A .ins-few)
 
   lists′ : Lists N (k .adds ++ (a ∷ [])) (pooled (k .adds ++ (a ∷ []))) w pool
   lists′ = subst (λ (u : ℕ). Lists N (k .adds ++ (a ∷ [])) u w pool) (entered .used-is) entered
 
   flags′ : Flags N (taken (with-add a k)) w
   unfolding entered-waiting
-  flags′ = flags-cell flagged (pooled (k .adds)) (length ins) (A .more) (flags-add N a k (σ .waiting) below (R .core .stored .flags))
+  flags′ = flags-cell flagged (pooled (k .adds)) (length ins) lane (A .more) (flags-add N a k (σ .waiting) below (R .core .stored .flags))
 
   entered-delayed : Delayed w N (s .watermark) (k .pending) 0 []
   unfolding entered-waiting
-  entered-delayed = delayed-cell flagged (pooled (k .adds)) (length ins) (A .more) (delayed-claimed outs below (R .delayed))
+  entered-delayed = delayed-cell flagged (pooled (k .adds)) (length ins) lane (A .more) (delayed-claimed outs below (R .delayed))
 
   counted-add : Counted (with-add a k) (with-added s (length ins + length outs))
   unfolding with-add
@@ -139,8 +140,8 @@ module _ (P N : ℕ) (k : Model) (s : Session) (σ : Storage) (R : Rep P N k s �
         marks = f .marks;
         locations = f .locations;
         waiting = record {
-          long = cell-length flagged N r (pooled (k .adds)) (length ins) ∙ claimed-length (σ .waiting) N outs;
-          same = λ j h. beyond-cell flagged (pooled (k .adds)) (length ins) (A .more) j h ∙ beyond-claimed (σ .waiting) N outs below j h;
+          long = cell-length flagged N r (pooled (k .adds)) (length ins) lane ∙ claimed-length (σ .waiting) N outs;
+          same = λ j h. beyond-cell flagged (pooled (k .adds)) (length ins) lane (A .more) j h ∙ beyond-claimed (σ .waiting) N outs below j h;
         };
         pool = stored-length (stored (σ .pool) (pooled (k .adds)) ins) (pooled (k .adds) + length ins) outs (omega (arith, A .room)) ∙ q;
       }

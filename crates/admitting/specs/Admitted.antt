@@ -64,9 +64,9 @@ pub record AsksAdd (s : Session) (w pool : List ℕ) : Type 0 where
   pub around : Storage
   pub asks : Asks s (with-lists around w pool)
 
-abbrev pub AdmitsAdd : List ℕ → List ℕ → Session → Admitted → List ℕ → List ℕ → List ℕ → List ℕ → Type 0
-AdmitsAdd ins outs s a w pool w′ pool′ =
-    (σ : Storage) → Asks s (with-lists σ w pool) → Admits (add-call ins outs) s a (with-lists σ w pool) (with-lists σ w′ pool′)
+abbrev pub AdmitsAdd : ℕ → List ℕ → List ℕ → Session → Admitted → List ℕ → List ℕ → List ℕ → List ℕ → Type 0
+AdmitsAdd lane ins outs s a w pool w′ pool′ =
+    (σ : Storage) → Asks s (with-lists σ w pool) → Admits (add-call lane ins outs) s a (with-lists σ w pool) (with-lists σ w′ pool′)
 
 -- where a whole storage is at hand
 module _ {s : Session} {σ : Storage} (q : Asks s σ) where
@@ -79,5 +79,6 @@ module _ {s : Session} {σ : Storage} (q : Asks s σ) where
   pub add-asked : AsksAdd s (σ .waiting) (σ .pool)
   add-asked = record { around = σ; asks = q }
 
-  pub add-admitted : {ins outs : List ℕ} {a : Admitted} {w pool : List ℕ} → AdmitsAdd ins outs s a (σ .waiting) (σ .pool) w pool → Admits (add-call ins outs) s a σ (with-lists σ w pool)
+  pub add-admitted : {lane : ℕ} {ins outs : List ℕ} {a : Admitted} {w pool : List ℕ} → AdmitsAdd lane ins outs s a (σ .waiting)
+      (σ .pool) w pool → Admits (add-call lane ins outs) s a σ (with-lists σ w pool)
   add-admitted h = h σ q

@@ -87,17 +87,17 @@ queue-length x (y ∷ ps) = go (bool-cases (ltb (x .under) (y .under))) (queue-l
     go (inr e) r = rw (e, queue) (ap suc r)
 
 -- a new registration with its lists stored
-module _ (P N W : ℕ) (k : Model) (ins outs : List ℕ) (s : Session) (σ : Storage)
-    (U : Unplaced P N (with-add (record { ins = ins; outs = outs }) k) s σ) (S : Sound P N W k [])
-    (e : answer N W (add-call ins outs) k ≡ 0) where
+module _ (P N W : ℕ) (k : Model) (lane : ℕ) (ins outs : List ℕ) (s : Session) (σ : Storage)
+    (U : Unplaced P N (with-add (record { lane = lane; ins = ins; outs = outs }) k) s σ) (S : Sound P N W k [])
+    (e : answer N W (add-call lane ins outs) k ≡ 0) where
   abbrev new : Model
-  new = with-add (record { ins = ins; outs = outs }) k
+  new = with-add (record { lane = lane; ins = ins; outs = outs }) k
 
   abbrev reg : ℕ
   reg = length (k .adds)
 
-  gone : AddPassed N W ins outs k
-  gone = add-passed N W ins outs k e
+  gone : AddPassed N W lane ins outs k
+  gone = add-passed N W lane ins outs k e
 
   positive : 1 ≤ P
   positive = omega (arith, U .core .guided .stands .laid .one, U .core .guided .p-is)
@@ -142,23 +142,23 @@ module _ (P N W : ℕ) (k : Model) (ins outs : List ℕ) (s : Session) (σ : Sto
 
     ended : reg ≤ length (new .adds)
     unfolding with-add
-    ended = omega (arith, length-append (k .adds) (record { ins = ins; outs = outs } ∷ []))
+    ended = omega (arith, length-append (k .adds) (record { lane = lane; ins = ins; outs = outs } ∷ []))
 
     -- either way the cascade leads to the model's add
-    pub along-add : (t : ℕ) → Links (σ .waiting) N (s .watermark) ins reg t w → Along P N W reg (do-add P N (record { ins = ins; outs = outs }) k) s (with-waiting σ w) t
+    pub along-add : (t : ℕ) → Links (σ .waiting) N (s .watermark) ins reg t w → Along P N W reg (do-add P N (record { lane = lane; ins = ins; outs = outs }) k) s (with-waiting σ w) t
     unfolding do-add keep
     along-add t L = go (bool-cases (ready (watermark-of N k) ins))
       where
         here : (b : Bool) → ready (watermark-of N k) ins ≡ b → ready (s .watermark) ins ≡ b
         here b h = rw watermark-is h
 
-        go : (ready (watermark-of N k) ins ≡ true) ⊎ (ready (watermark-of N k) ins ≡ false) → Along P N W reg (do-add P N (record { ins = ins; outs = outs }) k) s (with-waiting σ w) t
+        go : (ready (watermark-of N k) ins ≡ true) ⊎ (ready (watermark-of N k) ins ≡ false) → Along P N W reg (do-add P N (record { lane = lane; ins = ins; outs = outs }) k) s (with-waiting σ w) t
         go (inl h) =
             record {
               j = new;
               st = reg ∷ [];
               rep = rep-stacked t (L .stacks (here true h));
-              sound = sound-adding P N W positive ins outs k e h S;
+              sound = sound-adding P N W positive lane ins outs k e h S;
               ended = ended;
               ends = rw (h, do-add);
             }
@@ -168,7 +168,7 @@ module _ (P N W : ℕ) (k : Model) (ins outs : List ℕ) (s : Session) (σ : Sto
               j = keep (queue (record { under = greatest ins; reg = reg }) (k .pending)) new;
               st = [];
               rep = rw (q .0) (rep-waits (not-ready (s .watermark) ins (here false h)) (q .1));
-              sound = sound-delaying P N W positive ins outs k e h S;
+              sound = sound-delaying P N W positive lane ins outs k e h S;
               ended = ended;
               ends = rw (h, do-add) (settle-done P N reg (keep (queue (record { under = greatest ins; reg = reg }) (k .pending)) new));
             }

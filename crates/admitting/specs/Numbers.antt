@@ -40,21 +40,21 @@ may-check ins m u s σ eu em a =
       top-is = em;
     }
 
-pub add-number : (ins outs : List ℕ) (n u added : ℕ) (s : Session) (σ : Storage) (w : List ℕ) → u ≡ s .guide .v → added ≡ s .added
-    → ClaimsAdd (σ .waiting) ins outs (s .closed) u added (s .used) (length (σ .pool)) n w → Number (add ins outs) n s σ
-add-number ins outs n u added s σ w eu ea c P N k R =
+pub add-number : (lane : ℕ) (ins outs : List ℕ) (n u added : ℕ) (s : Session) (σ : Storage) (w : List ℕ) → u ≡ s .guide .v → added ≡ s .added
+    → ClaimsAdd (σ .waiting) lane ins outs (s .closed) u added (s .used) (length (σ .pool)) n w → Number (add lane ins outs) n s σ
+add-number lane ins outs n u added s σ w eu ea c P N k R =
     let e : u ≡ N = eu ∙ R .core .guided .v-is in
     c .is (taken k) (rw e (R .core .stored .flags))
-    ∙ ap (λ (b : Bool). verdict (add-checks b u ins outs (taken k) added (s .used) (length (σ .pool)))) (R .counted .closed-is)
-    ∙ ap (λ (v : ℕ). verdict (add-checks (k .closed) v ins outs (taken k) added (s .used) (length (σ .pool)))) e
-    ∙ ap (λ (v : ℕ). verdict (add-checks (k .closed) N ins outs (taken k) v (s .used) (length (σ .pool)))) (ea ∙ R .counted .added-is)
-    ∙ ap (λ (v : ℕ). verdict (add-checks (k .closed) N ins outs (taken k) (length (k .adds)) v (length (σ .pool)))) (R .counted .used-is)
-    ∙ answer-add N (length (σ .pool)) ins outs k
+    ∙ ap (λ (b : Bool). verdict (add-checks b u lane ins outs (taken k) added (s .used) (length (σ .pool)))) (R .counted .closed-is)
+    ∙ ap (λ (v : ℕ). verdict (add-checks (k .closed) v lane ins outs (taken k) added (s .used) (length (σ .pool)))) e
+    ∙ ap (λ (v : ℕ). verdict (add-checks (k .closed) N lane ins outs (taken k) v (s .used) (length (σ .pool)))) (ea ∙ R .counted .added-is)
+    ∙ ap (λ (v : ℕ). verdict (add-checks (k .closed) N lane ins outs (taken k) (length (k .adds)) v (length (σ .pool)))) (R .counted .used-is)
+    ∙ answer-add N (length (σ .pool)) lane ins outs k
 
 -- where it is 0, the work of add may be done
-pub may-add : (ins outs : List ℕ) (n u added : ℕ) (s : Session) (σ : Storage) (w : List ℕ) → u ≡ s .guide .v → added ≡ s .added
-    → ClaimsAdd (σ .waiting) ins outs (s .closed) u added (s .used) (length (σ .pool)) n w → n ≡ 0 → Asks s σ → MayDo (add ins outs) s σ
-may-add ins outs n u added s σ w eu ea c z a = may-do (add ins outs) n s σ (add-number ins outs n u added s σ w eu ea c) z a
+pub may-add : (lane : ℕ) (ins outs : List ℕ) (n u added : ℕ) (s : Session) (σ : Storage) (w : List ℕ) → u ≡ s .guide .v → added ≡ s .added
+    → ClaimsAdd (σ .waiting) lane ins outs (s .closed) u added (s .used) (length (σ .pool)) n w → n ≡ 0 → Asks s σ → MayDo (add lane ins outs) s σ
+may-add lane ins outs n u added s σ w eu ea c z a = may-do (add lane ins outs) n s σ (add-number lane ins outs n u added s σ w eu ea c) z a
 
 pub flush-number : (n : ℕ) (s : Session) (σ : Storage) → n ≡ verdict (flush-checks (s .closed) (s .flushes)) → Number flush n s σ
 flush-number n s σ e P N k R =

@@ -70,21 +70,33 @@ fn link_new(waiting: &mut [u64], inputs: usize, m: u64, v: usize, watermark: usi
     registrar::stack(waiting, v, r, 0)
 }
 
-// The add of a registration that reads the places ins and writes the places outs.
+// The add of a registration in a lane that reads the places ins and writes the places outs.
 pub fn admit_add(
     s: Session,
     waiting: &mut [u64],
     pool: &mut [u32],
     ins: &[u64],
     outs: &[u64],
+    lane: u64,
 ) -> Admitted
     requires { ⌜ AsksAdd s (now waiting) (now pool) ⌝ }
-    ensures { λ a. ⌜ AdmitsAdd (now (ins .entry)) (now (outs .entry)) s a (now (waiting .entry)) (now (pool .entry)) (now (waiting .exit)) (now (pool .exit)) ⌝ }
+    ensures { λ a. ⌜ AdmitsAdd lane (now (ins .entry)) (now (outs .entry)) s a (now (waiting .entry)) (now (pool .entry)) (now (waiting .exit)) (now (pool .exit)) ⌝ }
 {
     let v = wide(s.guide.v);
     let r = wide(s.added);
     let m = lists::greatest(ins);
-    let n = claiming::claim_add(waiting, ins, outs, m, s.closed, v, r, s.used, pool.len());
+    let n = claiming::claim_add(
+        waiting,
+        ins,
+        outs,
+        lane,
+        m,
+        s.closed,
+        v,
+        r,
+        s.used,
+        pool.len(),
+    );
     if n != 0 {
         return Admitted {
             number: n,
@@ -95,7 +107,7 @@ pub fn admit_add(
             top: 0,
         };
     }
-    entering::store_lists(waiting, pool, ins, outs, v, r, s.used);
+    entering::store_lists(waiting, pool, ins, outs, lane, v, r, s.used);
     let top = link_new(waiting, ins.len(), m, v, s.watermark, r);
     Admitted {
         number: 0,

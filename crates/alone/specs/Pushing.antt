@@ -11,7 +11,7 @@ use borrow.Author.Tests.{leb-false, ne-eqb, le-leb, le-ltb}
 use Rattle.rules.specs.Limits.{last-span-limit}
 use Rattle.rules.specs.Guide.{Loc, held}
 use Rattle.rules.specs.Checks.{Check, verdict}
-use Rattle.rules.specs.Alone.{Alone as AloneModel, Request, push, reply, requests, check-push, worn, stray, holds, serve, serve-step, location}
+use Rattle.rules.specs.Alone.{Alone as AloneModel, Request, push, pushed, reply, requests, check-push, worn, stray, holds, serve, serve-step, location}
 use Rattle.laws.specs.History.{lt-or-le}
 use Rattle.laws.specs.Accepted.{verdict-head, or-false, accepted-is, refused-is}
 use Rattle.laws.specs.Alone.{AloneSound, serve-step-sound}
@@ -28,7 +28,7 @@ use Rattle.alone.specs.Served.{Served, given-by}
 
 -- the request that the code's arguments make
 unfoldable pub pushing : Bool → ℕ → ℕ → ℕ → ℕ → ℕ → Request
-pushing has span pos value added accepted = push (after-of has span pos) (record { value = value; added = added; accepted = accepted })
+pushing has span pos value added accepted = push (after-of has span pos) (pushed value added accepted)
 
 -- invariants by other names of what they are of
 pub carried : {P Q N M : ℕ} {a b : AloneModel} → Q ≡ P → M ≡ N → b ≡ a → AloneSound P N a → AloneSound Q M b
@@ -131,10 +131,10 @@ module _ (x : Alone) (s o t : List ℕ) (h : Held x s o t) (has : Bool) (span po
         let r = e ∙ reply-is value added accepted in
         refused q x s o t n h r z
         (sym (refused-is (reply (x .guide .v) q (model x s o)) none
-        (some (location (x .guide .p) (after-of has span pos) (record { value = value; added = added; accepted = accepted }) (model x s o))) (λ k. z (r ∙ k))))
+        (some (location (x .guide .p) (after-of has span pos) (pushed value added accepted) (model x s o))) (λ k. z (r ∙ k))))
 
     pub push-served : (x′ : Alone) (s′ o′ t′ : List ℕ) (span′ pos′ : ℕ) → verdict numbers ≡ 0 → x′ .pushes ≡ x .pushes + 1
-        → Pushes (x .guide) (x′ .guide) (after-of has span pos) (record { value = value; added = added; accepted = accepted }) s o t s′ o′ t′ span′ pos′
+        → Pushes (x .guide) (x′ .guide) (after-of has span pos) (pushed value added accepted) s o t s′ o′ t′ span′ pos′
         → Served q x x′ s o t s′ o′ t′ (At span′ pos′)
     unfolding number given given-by pushing model serve serve-step location
     push-served x′ s′ o′ t′ span′ pos′ z c k =
@@ -152,7 +152,7 @@ module _ (x : Alone) (s o t : List ℕ) (h : Held x s o t) (has : Bool) (span po
           given-is =
               some-loc (k .at-span) (k .at-pos)
               ∙ sym (accepted-is (reply (x .guide .v) q (model x s o)) none
-              (some (location (x .guide .p) (after-of has span pos) (record { value = value; added = added; accepted = accepted }) (model x s o))) r);
+              (some (location (x .guide .p) (after-of has span pos) (pushed value added accepted) (model x s o))) r);
           same-p = d .same-p;
           same-v = d .same-v;
           rejected = λ y. absurd (y refl);

@@ -1,5 +1,5 @@
-// The guide alone: opened over spans, order and tally; push with value, added and accepted from the caller; flush. Every call checks its
-// own refusals and leaves state and storage as they were where it refuses.
+// The guide alone: opened over spans, order and tally; push with value, added and accepted from the caller, and lane 0; flush. Every call
+// checks its own refusals and leaves state and storage as they were where it refuses.
 ghost use mathlib.Core.Path.{_≡_};
 ghost use lib.ListN.{length};
 ghost use Rattle.rules.specs.Alone.{Request};
@@ -119,6 +119,7 @@ pub fn push(
         added: added,
         accepted: accepted,
         parallelism: 0,
+        lane: 0,
     };
     let r = guide::push(g, spans, order, tally, has, span, pos, e);
     let h = r.guide;

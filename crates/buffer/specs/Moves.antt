@@ -77,7 +77,7 @@ module _ (g : Guide) (s : List ℕ) (k : Laid g s) where
       other n z = ap (λ t. t .parallelism) (entry-other s (slot-of g i) (held-entry e) (slot-fits i h) q n) ∙ k .unassigned x j hx z
 
       go : Dec (q ≡ slot-of g i) → Dec (x ≡ i) → (entry-at s′ q) .parallelism ≡ 0
-      go (yes z) y = rw z (ap (λ t. t .parallelism) (entry-same s (slot-of g i) (held-entry e) (slot-fits i h)))
+      go (yes z) y = rw z (ap (λ t. t .parallelism) (entry-same s (slot-of g i) (held-entry e) (slot-fits i h) (omega arith)))
       go (no n) (yes z) =
           let below : j < l + 1 = rw (z, getD-set-same (g .window .lens) i (l + 1) 0 (omega (arith, k .lens-many))) at hj in
           let differs : j ≢ l = (λ w. n (rw (z, w))) in
@@ -105,7 +105,7 @@ module _ (g : Guide) (s : List ℕ) (k : Laid g s) where
   unfolding longer put-spans view put item-of
   put-view i e o hi h =
       ap (λ t. record { first = number-of g 0; spans = t; order = order-of o (g .written) })
-      (spans-put (g .p) s (held-entry e) (g .window .rows) (g .window .lens) i (k .distinct) (k .short) (k .rows-many ∙ sym (k .lens-many))
+      (spans-put (g .p) s e (g .window .rows) (g .window .lens) i (k .distinct) (k .short) (k .rows-many ∙ sym (k .lens-many))
       (omega (arith, k .rows-many)) h (slot-fits i h))
 
   last-number : number-of g 31 ≡ number-of g 0 + 31
@@ -159,6 +159,6 @@ module _ (g : Guide) (s : List ℕ) (k : Laid g s) where
       let same : length (g .window .rows) ≡ length (g .window .lens) = k .rows-many ∙ sym (k .lens-many) in
       let f = first-rotated in
       let sp = spans-rotated (g .p) s (g .window .rows) (g .window .lens) same in
-      let od = order-released o (g .written) (g .p) a (length-of g 1) es (row-length s _ a) h
+      let od = order-released o (g .written) (g .p) a (length-of g 1) es (row-length s _ a) h (k .one) (k .few)
       ∙ ap (λ t. order-of o (g .written) ++ t) (sym (first-released (g .p) s (g .window .rows) (g .window .lens) same (omega (arith, k .lens-many)))) in
       cc

@@ -6,8 +6,9 @@ use native.Mathlib.Nat.{add-zero, zero-add}
 use native.Mathlib.Omega.{arith}
 use lib.ListN.{length, getD, length-map}
 use Rattle.entries.specs.declared.Entry.{Entry}
-use Rattle.entries.specs.Entries.{fits, with-entry, row, annotated, appended, item-of, entry-of}
-use Rattle.entries.specs.Stored.{row-other, row-suc, entry-same, stored-length}
+use Rattle.entries.specs.Entries.{Narrow, fits, with-entry, row, annotated, appended, item-of, entry-of}
+use Rattle.entries.specs.Stored.{annotated-narrow, row-other, row-suc, entry-same, stored-length}
+use Rattle.rules.specs.Limits.{most-parallelism}
 use Rattle.rules.specs.Guide.{parallelism, annotate, released}
 use Rattle.buffer.specs.View.{spans-of, order-of}
 use Rattle.buffer.specs.Rows.{row-length}
@@ -25,28 +26,29 @@ pub annotated-length : (p a b q : ℕ) (es : List Entry) → length (annotated p
 annotated-length p a b q [] = refl
 annotated-length p a b q (e ∷ es) = ap suc (annotated-length p a b (suc q) es)
 
-pub appended-row : (o : List ℕ) (n : ℕ) (es : List Entry) → fits o (n + length es) → row (appended o n es) 0 (n + length es) ≡ row o 0 n ++ es
-appended-row o n [] h = rw (add-zero, append-nil)
-appended-row o n (e ∷ es) h =
+pub appended-row : (o : List ℕ) (n : ℕ) (es : List Entry) → fits o (n + length es) → Narrow es → row (appended o n es) 0 (n + length es) ≡ row o 0 n ++ es
+appended-row o n [] h k = rw (add-zero, append-nil)
+appended-row o n (e ∷ es) h k =
     let o1 = with-entry o n e in
     let l = stored-length o n e (omega arith) in
     let g : row o1 0 (suc n) ≡ row o 0 n ++ (e ∷ []) =
-    (let x : suc n ≡ n + 1 = omega arith in ap (λ t. row o1 0 t) x ∙ rw (row-suc o1 0 n, zero-add n, entry-same o n e (omega arith), row-other o n e (omega arith) 0 n (λ j a b. omega arith))) in
+    (let x : suc n ≡ n + 1 = omega arith in ap (λ t. row o1 0 t) x
+    ∙ rw (row-suc o1 0 n, zero-add n, entry-same o n e (omega arith) (k .0), row-other o n e (omega arith) 0 n (λ j a b. omega arith))) in
     let x : n + suc (length es) ≡ suc n + length es = omega arith in
-    ap (λ t. row (appended o1 (suc n) es) 0 t) x ∙ appended-row o1 (suc n) es (omega arith) ∙ ap (λ t. t ++ es) g ∙ append-assoc (row o 0 n) (e ∷ []) es
+    ap (λ t. row (appended o1 (suc n) es) 0 t) x ∙ appended-row o1 (suc n) es (omega arith) (k .1) ∙ ap (λ t. t ++ es) g ∙ append-assoc (row o 0 n) (e ∷ []) es
 
 pub order-count : (o : List ℕ) (n : ℕ) → length (order-of o n) ≡ n
 unfolding order-of
 order-count o n = length-map (row o 0 n) entry-of ∙ row-length o 0 n
 
 -- the order after the release of a span
-pub order-released : (o : List ℕ) (n p a b : ℕ) (es : List Entry) → length es ≡ a → fits o (n + a)
+pub order-released : (o : List ℕ) (n p a b : ℕ) (es : List Entry) → length es ≡ a → fits o (n + a) → 1 ≤ p → p ≤ most-parallelism
     → order-of (appended o n (annotated p a b 0 es)) (n + a) ≡ order-of o n ++ annotate (parallelism p a b) 0 (map item-of es)
 unfolding order-of
-order-released o n p a b es e k =
+order-released o n p a b es e k one few =
     let r = annotated p a b 0 es in
     let f : length r ≡ a = annotated-length p a b 0 es ∙ e in
-    let g : row (appended o n r) 0 (n + a) ≡ row o 0 n ++ r = ap (λ t. row (appended o n r) 0 (n + t)) (sym f) ∙ appended-row o n r (omega arith) in
+    let g : row (appended o n r) 0 (n + a) ≡ row o 0 n ++ r = ap (λ t. row (appended o n r) 0 (n + t)) (sym f) ∙ appended-row o n r (omega arith) (annotated-narrow p a b 0 es one few) in
     rw (g, map-append entry-of (row o 0 n) r) (ap (λ t. map entry-of (row o 0 n) ++ t) (annotated-is p a b 0 es))
 
 -- what the release of span 0 appends

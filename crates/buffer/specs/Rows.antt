@@ -7,7 +7,7 @@ use native.Mathlib.Nat.{suc-mul, mul-le-mul-right, add-zero}
 use native.Mathlib.Omega.{arith}
 use lib.ListN.{length, getD, set, drop, length-map}
 use Rattle.entries.specs.declared.Entry.{Entry}
-use Rattle.entries.specs.Entries.{has-entry, with-entry, row, item-of}
+use Rattle.entries.specs.Entries.{has-entry, with-entry, held-entry, row, item-of}
 use Rattle.entries.specs.Stored.{row-other, row-suc, entry-same}
 use Rattle.buffer.specs.View.{spans-of, Away, Distinct, Most, upto}
 
@@ -43,13 +43,13 @@ away-at x [] i a h = absurd (omega arith)
 away-at x (y ∷ ys) zero a h = λ e. a .0 (sym e)
 away-at x (y ∷ ys) (suc i) a h = away-at x ys i (a .1) (omega arith)
 
--- an entry stored past the last of the row R that has l entries
+-- an entry held past the last of the row R that has l entries
 module _ (p : ℕ) (s : List ℕ) (R l : ℕ) (e : Entry) (hl : l ≤ p) (room : has-entry s (R * (p + 1) + l)) where
   abbrev s′ : List ℕ
-  s′ = with-entry s (R * (p + 1) + l) e
+  s′ = with-entry s (R * (p + 1) + l) (held-entry e)
 
   elsewhere : (x m : ℕ) → x ≢ R → m ≤ p + 1 → row s′ (x * (p + 1)) m ≡ row s (x * (p + 1)) m
-  elsewhere x m n hm = row-other s (R * (p + 1) + l) e room (x * (p + 1)) m (λ q a b. slots-apart p x R l m q n hm hl a b)
+  elsewhere x m n hm = row-other s (R * (p + 1) + l) (held-entry e) room (x * (p + 1)) m (λ q a b. slots-apart p x R l m q n hm hl a b)
 
   others : (rs ls : List ℕ) → Away R rs → Most (p + 1) ls → spans-of p s′ rs ls ≡ spans-of p s rs ls
   unfolding spans-of Away Most
@@ -58,14 +58,15 @@ module _ (p : ℕ) (s : List ℕ) (R l : ℕ) (e : Entry) (hl : l ≤ p) (room :
   others (x ∷ rs) (m ∷ ls) a b = rw (elsewhere x m (a .0) (b .0), others rs ls (a .1) (b .1))
 
   here : map item-of (row s′ (R * (p + 1)) (l + 1)) ≡ map item-of (row s (R * (p + 1)) l) ++ (item-of e ∷ [])
+  unfolding item-of
   here =
-      rw (row-suc s′ (R * (p + 1)) l, entry-same s (R * (p + 1) + l) e room, row-other s (R * (p + 1) + l) e room (R * (p + 1)) l (λ q a b. omega arith))
-      (map-snoc item-of (row s (R * (p + 1)) l) e)
+      rw (row-suc s′ (R * (p + 1)) l, entry-same s (R * (p + 1) + l) (held-entry e) room (omega arith), row-other s (R * (p + 1) + l) (held-entry e) room (R * (p + 1)) l (λ q a b. omega arith))
+      (map-snoc item-of (row s (R * (p + 1)) l) (held-entry e))
 
 -- one entry more in span i
 pub spans-put : (p : ℕ) (s : List ℕ) (e : Entry) (rs ls : List ℕ) (i : ℕ) → Distinct rs → Most (p + 1) ls → length rs ≡ length ls → i < length rs → getD ls i 0 ≤ p
     → has-entry s (getD rs i 0 * (p + 1) + getD ls i 0)
-    → spans-of p (with-entry s (getD rs i 0 * (p + 1) + getD ls i 0) e) rs (set ls i (getD ls i 0 + 1))
+    → spans-of p (with-entry s (getD rs i 0 * (p + 1) + getD ls i 0) (held-entry e)) rs (set ls i (getD ls i 0 + 1))
     ≡ set (spans-of p s rs ls) i (getD (spans-of p s rs ls) i [] ++ (item-of e ∷ []))
 unfolding spans-of Distinct Most
 spans-put p s e [] ls i d m h k hl f = refl

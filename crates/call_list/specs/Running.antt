@@ -12,7 +12,7 @@ use borrow.Author.Tests.{lt-ltb, le-ltb}
 use Rattle.rules.specs.Model.{initial}
 use Rattle.rules.specs.Checks.{Check, verdict, too-short, check-open, check-range}
 use Rattle.rules.specs.Calls.{Call, run, answers}
-use Rattle.rules.specs.Encoding.{add-tag, decode, decode-from, unless-empty}
+use Rattle.rules.specs.Encoding.{decode, decode-from, unless-empty}
 use Rattle.rules.specs.Limits.{most-parallelism, most-places}
 use Rattle.rules.specs.Refusals as refusal
 use Rattle.laws.specs.Accepted.{verdict-head, verdict-first}
@@ -28,14 +28,14 @@ use Rattle.session.specs.Showing.{shows}
 use Rattle.opening.specs.Opened.{sizes, first-session, Opens, enough-of}
 use Rattle.call_runs.specs.Progress.{Running, running-start}
 use Rattle.call_runs.specs.Continuing.{MayContinue, Onward, onward-may, Continues, Going, going-begins, going-past}
-use Rattle.call_runs.specs.Made.{Made}
+use Rattle.call_runs.specs.Made.{ends-run, Made}
 use Rattle.call_list.specs.Replay.{replay-number, Ran, Replays}
 
 -- a flush or a final stands at `at`, up to which all calls are made
 pub record MayPass (l : List ℕ) (s : Session) (σ : Storage) (out : List ℕ) (at n : ℕ) : Type 0 where
   pub may : MayContinue l s σ out at n
   pub inside : at < length l
-  pub tag : add-tag < getD l at 0
+  pub tag : ends-run (getD l at 0) ≡ true
 
 -- it is made, and so are the sets and adds that follow it
 pub record Passes (l : List ℕ) (s : Session) (σ : Storage) (out : List ℕ) (at n : ℕ) (s′ : Session) (σ′ : Storage) (out′ : List ℕ) (at′ n′ : ℕ) : Type 0 where

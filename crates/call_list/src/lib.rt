@@ -1,12 +1,12 @@
 // A list of calls, encoded as numbers, made on a fresh session: the claim about every list of calls, as a function that runs.
 ghost use mathlib.Core.Path.{_≡_};
+ghost use mathlib.Core.Bool.{true};
 ghost use Prim.Native.Nat.{_+_, _<_};
 ghost use lib.ListN.{getD};
-ghost use Rattle.rules.specs.Encoding.{add-tag};
 ghost use Rattle.session.specs.Storage.{given, across};
 ghost use Rattle.admitting.specs.Promise.{Asks};
 ghost use Rattle.opening.specs.Opened.{first-session};
-ghost use Rattle.call_runs.specs.Made.{Made, Readable};
+ghost use Rattle.call_runs.specs.Made.{ends-run, Made, Readable};
 ghost use Rattle.call_list.specs.Replay.{Replays};
 ghost use Rattle.call_list.specs.Running.{MayPass, Passes, MayRun, Runs};
 use call_runs::Run;
@@ -28,7 +28,7 @@ fn make_end(
     at: usize,
 ) -> Answer
     requires { ⌜ Asks s (given spans order tally rows marks locations waiting pool) ⌝ }
-    requires { ⌜ (Readable (now calls) at) × (add-tag < getD (now calls) at 0) ⌝ }
+    requires { ⌜ (Readable (now calls) at) × (ends-run (getD (now calls) at 0) ≡ true) ⌝ }
     ensures { λ r. ⌜ across spans order tally rows marks locations waiting pool (λ σ τ. Made (now (calls .entry)) at (r .number) (at + 1) s (r .session) σ τ) ⌝ }
 {
     if calls[at] == encoding::FLUSH {

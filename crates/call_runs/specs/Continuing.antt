@@ -2,17 +2,17 @@
 -- this, and what follows from it. Assumes nothing.
 use mathlib.Core.Path.{_≡_, refl, sym, _∙_}
 use mathlib.Core.List.{List}
+use mathlib.Core.Bool.{true}
 use Prim.Native.Nat.{ℕ, _+_, _≤_, _<_}
 use native.Mathlib.Omega.{arith}
 use lib.ListN.{length, getD, set}
 use Rattle.rules.specs.Calls.{Call}
-use Rattle.rules.specs.Encoding.{add-tag}
 use Rattle.session.specs.declared.Session.{Session}
 use Rattle.session.specs.Storage.{Storage, storage}
 use Rattle.admitting.specs.declared.Admitted.{Admitted}
 use Rattle.admitting.specs.Promise.{Asks}
 use Rattle.admitting.specs.Admitted.{Places}
-use Rattle.call_runs.specs.Made.{Made, AdmitsAt, Readable}
+use Rattle.call_runs.specs.Made.{ends-run, Made, AdmitsAt, Readable}
 use Rattle.call_runs.specs.Making.{made-refused, made-placed}
 use Rattle.call_runs.specs.Progress.{Running, running-asks, running-readable, running-room, running-turn}
 
@@ -33,7 +33,7 @@ pub record Onward (l : List ℕ) (s : Session) (σ : Storage) (out : List ℕ) (
 -- the same, up to a flush, a final or the end
 pub record Continues (l : List ℕ) (s : Session) (σ : Storage) (out : List ℕ) (at n : ℕ) (s′ : Session) (σ′ : Storage) (out′ : List ℕ) (at′ n′ : ℕ) : Type 0 where
   pub onward : Onward l s σ out at n s′ σ′ out′ at′ n′
-  pub stops : at′ < length l → add-tag < getD l at′ 0
+  pub stops : at′ < length l → ends-run (getD l at′ 0) ≡ true
 
 -- storage and answers have kept their lengths
 pub record Kept (σ : Storage) (out : List ℕ) (σ′ : Storage) (out′ : List ℕ) : Type 0 where

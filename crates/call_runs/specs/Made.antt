@@ -3,21 +3,33 @@
 use mathlib.Core.Path.{_≡_}
 use mathlib.Core.List.{List}
 use mathlib.Core.Option.{some}
+use mathlib.Core.Bool.{Bool, not, _&&_}
 use Prim.Native.Nat.{ℕ, _≤_, _<_}
 use lib.ListN.{length, drop}
+use lib.Dec.{ltb, eqb}
 use Rattle.rules.specs.Calls.{Call}
-use Rattle.rules.specs.Encoding.{front, Front}
+use Rattle.rules.specs.Encoding.{add-tag, lane-add-tag, counted, add-front, front, Front}
 use Rattle.session.specs.declared.Session.{Session}
 use Rattle.session.specs.Storage.{Storage, with-admitted}
 use Rattle.admitting.specs.declared.Admitted.{Admitted}
 use Rattle.admitting.specs.Promise.{Asks, Called}
 use Rattle.admitting.specs.Admitted.{Admits}
 
+-- a tag that ends a run of sets and adds, which have the lowest tags, but for an add with a lane
+unfoldable pub ends-run : ℕ → Bool
+ends-run tag = ltb add-tag tag && not (eqb tag lane-add-tag)
+
 -- a call starts at `at`
 pub record Readable (l : List ℕ) (at : ℕ) : Type 0 where
   pub inside : at < length l
   pub read : Front
   pub is : front (drop at l) ≡ some read
+
+-- the add at `at` is in this lane, and its lists start at `lists`
+pub record AddAt (l : List ℕ) (at lane lists : ℕ) : Type 0 where
+  pub is : front (drop at l) ≡ add-front lane (counted (drop lists l))
+  pub past : at < lists
+  pub within : lists ≤ length l
 
 -- one call read at `at` was made: the numbers that follow it start at `next`
 pub record Made (l : List ℕ) (at n next : ℕ) (s s′ : Session) (σ σ′ : Storage) : Type 0 where

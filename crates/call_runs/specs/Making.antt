@@ -1,29 +1,46 @@
 -- Making one call of an encoded list: what its numbers say, by its tag, and that a set or an add was admitted and then made, a flush or
 -- a final made. Assumes nothing.
-use mathlib.Core.Path.{_≡_, ap, _∙_}
+use mathlib.Core.Path.{_≡_, refl, ap, _∙_}
 use mathlib.Core.List.{List}
 use mathlib.Core.Logic.{inl, inr}
+use mathlib.Core.Bool.{Bool, true, false, _&&_, false≢true}
 use mathlib.Core.Option.{Option, some, none}
 use Prim.Native.Nat.{ℕ, _+_, _-_, _≤_, _<_}
 use native.Mathlib.Omega.{arith}
 use native.Mathlib.Decide.{ℕ-discrete}
+use lib.Dec.{ltb}
 use lib.ListN.{length, getD, take, drop}
+use borrow.Author.Tests.{ne-eqb, ltb-false}
 use Rattle.rules.specs.Calls.{set, add, flush, final}
-use Rattle.rules.specs.Encoding.{set-tag, add-tag, flush-tag, final-tag, Front, Counted, counted, add-front, add-outs, front}
-use Rattle.encoding.specs.Ends.{ListEnds, front-set, front-set-short, front-add, front-flush, front-final, front-other, add-whole}
+use Rattle.rules.specs.Encoding.{set-tag, add-tag, flush-tag, final-tag, lane-add-tag, Front, Counted, counted, add-front, add-outs, front}
+use Rattle.encoding.specs.Ends.{ListEnds, front-set, front-set-short, front-add, front-lane-add, front-lane-add-short, front-flush, front-final, front-other, add-whole}
 use Rattle.session.specs.declared.Session.{Session}
 use Rattle.session.specs.Storage.{Storage}
 use Rattle.admitting.specs.declared.Admitted.{Admitted}
 use Rattle.admitting.specs.Promise.{Called}
 use Rattle.admitting.specs.Admitted.{Admits, Places, admitted-refused, admitted-placed}
-use Rattle.call_runs.specs.Made.{Made, AdmitsAt, Readable}
+use Rattle.call_runs.specs.Made.{ends-run, Made, AddAt, AdmitsAt, Readable}
 
 never : (f : Front) (o : Option Front) → o ≡ some f → o ≡ none → ⊥
 never f o e d = let z : _≡_ {A = ℕ} 0 1 = cc in omega arith
 
--- a tag above an add's is neither a set's nor an add's
-pub end-tag : {n : ℕ} → add-tag < n → (n ≡ set-tag → ⊥) × (n ≡ add-tag → ⊥)
-end-tag h = (λ e. omega arith, λ e. omega arith)
+-- what ends a run and what does not, by the two tests
+pub run-ends : {tag : ℕ} → (tag ≡ lane-add-tag → ⊥) → ltb add-tag tag ≡ ends-run tag
+unfolding ends-run
+run-ends {tag} n = rw (ne-eqb tag lane-add-tag n) (as-it-is (ltb add-tag tag))
+  where
+    as-it-is : (b : Bool) → b ≡ (b && true)
+    as-it-is true = refl
+    as-it-is false = refl
+
+pub run-goes-on : {tag : ℕ} → tag ≡ lane-add-tag → false ≡ ends-run tag
+unfolding ends-run
+run-goes-on e = rw e refl
+
+-- a tag that ends a run is no set's and no add's
+pub end-tag : {n : ℕ} → ends-run n ≡ true → (n ≡ set-tag → ⊥) × (n ≡ add-tag → ⊥) × (n ≡ lane-add-tag → ⊥)
+unfolding ends-run
+end-tag h = (λ e. false≢true (rw e at h), λ e. false≢true (rw e at h), λ e. false≢true (rw e at h))
 
 module _ {l : List ℕ} {at : ℕ} (R : Readable l at) where
   -- a set has its place
@@ -49,8 +66,9 @@ module _ {l : List ℕ} {at : ℕ} (R : Readable l at) where
     made-flush e c = record { call = flush; is = front-flush l at (R .inside) e; past = omega arith; within = omega (arith, R .inside); called = c }
 
     -- no other tag is left
-    pub made-final : (getD l at 0 ≡ set-tag → ⊥) → (getD l at 0 ≡ add-tag → ⊥) → (getD l at 0 ≡ flush-tag → ⊥) → Called final n s s′ σ σ′ → Made l at n (at + 1) s s′ σ σ′
-    made-final x y z c =
+    pub made-final : (getD l at 0 ≡ set-tag → ⊥) → (getD l at 0 ≡ add-tag → ⊥) → (getD l at 0 ≡ lane-add-tag → ⊥) →
+        (getD l at 0 ≡ flush-tag → ⊥) → Called final n s s′ σ σ′ → Made l at n (at + 1) s s′ σ σ′
+    made-final x y a z c =
         record {
           call = final;
           is = front-final l at (R .inside) tag;
@@ -60,36 +78,54 @@ module _ {l : List ℕ} {at : ℕ} (R : Readable l at) where
         }
       where
         tag : getD l at 0 ≡ final-tag
-        tag = elim (ℕ-discrete (getD l at 0) final-tag) [ yes e ↦ e | no w ↦ absurd (never (R .read) (front (drop at l)) (R .is) (front-other l at (R .inside) x y z w)) ]
+        tag = elim (ℕ-discrete (getD l at 0) final-tag) [ yes e ↦ e | no w ↦ absurd (never (R .read) (front (drop at l)) (R .is) (front-other l at (R .inside) x y z w a)) ]
 
-  -- a call whose tag is at most an add's and not a set's is an add, and has both lists
-  module _ (h : getD l at 0 ≤ add-tag) (x : getD l at 0 ≡ set-tag → ⊥) where
-    tag : getD l at 0 ≡ add-tag
-    tag =
-        elim (ℕ-discrete (getD l at 0) add-tag) [
-          | yes e ↦ e
-          | no y ↦ absurd (never (R .read) (front (drop at l)) (R .is) (front-other l at (R .inside) x y (λ e. omega arith) (λ e. omega arith)))
-        ]
+  -- a call that ends no run and is no set is an add: one with a lane, or one in lane 0
+  module _ (h : ends-run (getD l at 0) ≡ false) (x : getD l at 0 ≡ set-tag → ⊥) where
+    pub lane-inside : getD l at 0 ≡ lane-add-tag → at + 1 < length l
+    lane-inside e = go (ℕ-discrete (length l) (at + 1))
+      where
+        go : Dec (length l ≡ at + 1) → at + 1 < length l
+        go (yes y) = absurd (never (R .read) (front (drop at l)) (R .is) (front-lane-add-short l at (R .inside) e (omega arith)))
+        go (no n) = omega (arith, R .inside, n)
 
-    pub ins-there : counted (drop (at + 1) l) ≡ none → ⊥
+    pub add-in-lane : getD l at 0 ≡ lane-add-tag → AddAt l at (getD l (at + 1) 0) (at + 2)
+    add-in-lane e = record { is = front-lane-add l at (R .inside) e (lane-inside e); past = omega arith; within = omega (arith, lane-inside e) }
+
+    pub add-in-none : (getD l at 0 ≡ lane-add-tag → ⊥) → AddAt l at 0 (at + 1)
+    add-in-none n = record { is = front-add l at (R .inside) tag; past = omega arith; within = omega (arith, R .inside) }
+      where
+        low : getD l at 0 ≤ add-tag
+        low = ltb-false add-tag (getD l at 0) (run-ends n ∙ h)
+
+        tag : getD l at 0 ≡ add-tag
+        tag =
+            elim (ℕ-discrete (getD l at 0) add-tag) [
+              | yes e ↦ e
+              | no y ↦ absurd (never (R .read) (front (drop at l)) (R .is) (front-other l at (R .inside) x y (λ e. omega (arith, low)) (λ e. omega (arith, low)) n))
+            ]
+
+  -- it has both lists
+  module _ {lane lists : ℕ} (A : AddAt l at lane lists) where
+    pub ins-there : counted (drop lists l) ≡ none → ⊥
     unfolding add-front
-    ins-there e = never (R .read) (front (drop at l)) (R .is) (front-add l at (R .inside) tag ∙ ap add-front e)
+    ins-there e = never (R .read) (front (drop at l)) (R .is) (A .is ∙ ap (add-front lane) e)
 
-    module _ (middle : ℕ) (X : ListEnds l (at + 1) middle) where
+    module _ (middle : ℕ) (X : ListEnds l lists middle) where
       pub outs-there : counted (drop middle l) ≡ none → ⊥
       unfolding add-front add-outs
       outs-there e = go X
         where
-          go : ListEnds l (at + 1) middle → ⊥
+          go : ListEnds l lists middle → ⊥
           go (inl x) = ins-there (x .1)
           go (inr x) =
               never (R .read) (front (drop at l)) (R .is)
-              (front-add l at (R .inside) tag ∙ ap add-front (x .2) ∙ ap (λ (o : Option Counted). add-outs (take (middle - (at + 1 + 1)) (drop (at + 1 + 1) l)) o) e)
+              (A .is ∙ ap (add-front lane) (x .2) ∙ ap (λ (o : Option Counted). add-outs lane (take (middle - (lists + 1)) (drop (lists + 1) l)) o) e)
 
       module _ (next : ℕ) (Y : ListEnds l middle next) where
         record Whole : Type 0 where
-          ordered : at + 1 < middle
-          first : counted (drop (at + 1) l) ≡ some (record { items = take (middle - (at + 1 + 1)) (drop (at + 1 + 1) l); rest = drop middle l })
+          ordered : lists < middle
+          first : counted (drop lists l) ≡ some (record { items = take (middle - (lists + 1)) (drop (lists + 1) l); rest = drop middle l })
           between : middle < next
           inside : next ≤ length l
           second : counted (drop middle l) ≡ some (record { items = take (next - (middle + 1)) (drop (middle + 1) l); rest = drop next l })
@@ -97,26 +133,25 @@ module _ {l : List ℕ} {at : ℕ} (R : Readable l at) where
         whole : Whole
         whole = go X Y
           where
-            go : ListEnds l (at + 1) middle → ListEnds l middle next → Whole
+            go : ListEnds l lists middle → ListEnds l middle next → Whole
             go (inl x) y = absurd (ins-there (x .1))
             go (inr x) (inl y) = absurd (outs-there (y .1))
             go (inr x) (inr y) = record { ordered = x .0; first = x .2; between = y .0; inside = y .1; second = y .2 }
 
-        pub add-inside : (at + 2 ≤ middle) × ((middle + 1 ≤ next) × (next ≤ length l))
+        pub add-inside : (lists + 1 ≤ middle) × ((middle + 1 ≤ next) × (next ≤ length l))
         add-inside = let w = whole in (omega (arith, w .ordered), (omega (arith, w .between), w .inside))
 
         pub admits-add : {a : Admitted} {s : Session} {σ τ : Storage} →
-            Admits (add (take (middle - (at + 2)) (drop (at + 2) l)) (take (next - (middle + 1)) (drop (middle + 1) l))) s a σ τ →
+            Admits (add lane (take (middle - (lists + 1)) (drop (lists + 1) l)) (take (next - (middle + 1)) (drop (middle + 1) l))) s a σ τ →
             AdmitsAt l at a next s σ τ
-        admits-add A =
+        admits-add x =
             let w = whole in
-            let e : at + 1 + 1 ≡ at + 2 = omega arith in
             record {
-              call = add (take (middle - (at + 1 + 1)) (drop (at + 1 + 1) l)) (take (next - (middle + 1)) (drop (middle + 1) l));
-              is = front-add l at (R .inside) tag ∙ add-whole l (at + 1) middle next (w .first) (w .second);
-              past = omega (arith, w .ordered, w .between);
+              call = add lane (take (middle - (lists + 1)) (drop (lists + 1) l)) (take (next - (middle + 1)) (drop (middle + 1) l));
+              is = A .is ∙ add-whole l lists middle next lane (w .first) (w .second);
+              past = omega (arith, A .past, w .ordered, w .between);
               within = w .inside;
-              admits = rw e A;
+              admits = x;
             }
 
 -- refused or placed, what was admitted is made

@@ -1,9 +1,10 @@
 // The sets and adds of an encoded list, made one after another on a session, up to the first flush or final.
-ghost use Prim.Native.Nat.{_≤_};
+ghost use mathlib.Core.Path.{_≡_};
+ghost use mathlib.Core.Bool.{false};
 ghost use lib.ListN.{getD};
-ghost use Rattle.rules.specs.Encoding.{add-tag};
+ghost use Rattle.rules.specs.Encoding.{set-tag};
 ghost use Rattle.session.specs.Storage.{given, across};
-ghost use Rattle.call_runs.specs.Made.{Readable, AsksCall, AdmitsCall};
+ghost use Rattle.call_runs.specs.Made.{ends-run, Readable, AddAt, AsksCall, AdmitsCall};
 ghost use Rattle.call_runs.specs.Continuing.{MayContinue, Continues};
 use admitting::Admitted;
 use session::Session;
@@ -21,8 +22,41 @@ pub struct Run {
     pub made: usize,
 }
 
-// Reads the set or add that starts at `at` and admits it: after a set's tag comes its place; after an add's come its inputs and its
-// outputs, each list with its count before it.
+// Whether a tag ends a run of sets and adds: their tags are the lowest, but for that of an add with a lane.
+fn ends_run(tag: u64) -> bool
+    ensures { λ r. ⌜ r ≡ ends-run tag ⌝ }
+{
+    if tag == encoding::LANE_ADD {
+        return false;
+    }
+    encoding::ADD < tag
+}
+
+// An add's lane, and where its lists start.
+pub struct AddStart {
+    pub lane: u64,
+    pub lists: usize,
+}
+
+// Those of the add that starts at `at`: after its tag come its lists, or its lane and then they.
+fn add_start(calls: &[u64], at: usize) -> AddStart
+    requires { ⌜ (Readable (now calls) at) × (ends-run (getD (now calls) at 0) ≡ false) × (getD (now calls) at 0 ≡ set-tag → ⊥) ⌝ }
+    ensures { λ r. ⌜ AddAt (now (calls .entry)) at (r .lane) (r .lists) ⌝ }
+{
+    if calls[at] == encoding::LANE_ADD {
+        return AddStart {
+            lane: calls[at + 1],
+            lists: at + 2,
+        };
+    }
+    AddStart {
+        lane: 0,
+        lists: at + 1,
+    }
+}
+
+// Reads the set or add that starts at `at` and admits it: after a set's tag comes its place; an add's inputs and outputs are lists with
+// their counts before them.
 fn admit_call(
     s: Session,
     marks: &mut [u16],
@@ -32,7 +66,7 @@ fn admit_call(
     at: usize,
 ) -> Admission
     requires { ⌜ AsksCall s (now marks) (now waiting) (now pool) ⌝ }
-    requires { ⌜ (Readable (now calls) at) × (getD (now calls) at 0 ≤ add-tag) ⌝ }
+    requires { ⌜ (Readable (now calls) at) × (ends-run (getD (now calls) at 0) ≡ false) ⌝ }
     ensures { λ r. ⌜ AdmitsCall (now (calls .entry)) at (r .admitted) (r .next) s (now (marks .entry)) (now (waiting .entry)) (now (pool .entry))
         (now (marks .exit)) (now (waiting .exit)) (now (pool .exit)) ⌝ }
 {
@@ -44,11 +78,12 @@ fn admit_call(
             next: at + 2,
         };
     }
-    let middle = encoding::past_list(calls, at + 1);
+    let d = add_start(calls, at);
+    let middle = encoding::past_list(calls, d.lists);
     let next = encoding::past_list(calls, middle);
-    let ins = &calls[at + 2..middle];
+    let ins = &calls[d.lists + 1..middle];
     let outs = &calls[middle + 1..next];
-    let a = admitting::admit_add(s, waiting, pool, ins, outs);
+    let a = admitting::admit_add(s, waiting, pool, ins, outs, d.lane);
     Admission {
         admitted: a,
         next: next,
@@ -80,7 +115,7 @@ pub fn run_open(
     let mut at = from;
     let mut n = done;
     while at < calls.len() {
-        if encoding::ADD < calls[at] {
+        if ends_run(calls[at]) {
             break;
         }
         let d = admit_call(z, marks, waiting, pool, calls, at);

@@ -72,10 +72,10 @@ pub answer-set : (N W x : ℕ) (k : Model) → verdict (set-checks (k .closed) N
 unfolding answer checks check-set check-closed set-checks
 answer-set N W x k = refl
 
-pub answer-add : (N W : ℕ) (ins outs : List ℕ) (k : Model)
-    → verdict (list-checks (k .closed) N ins outs ++ state-checks N (taken k) outs (length (k .adds)) (pooled (k .adds)) (length ins) W) ≡ answer N W (add ins outs) k
+pub answer-add : (N W lane : ℕ) (ins outs : List ℕ) (k : Model)
+    → verdict (list-checks (k .closed) N lane ins outs ++ state-checks N (taken k) outs (length (k .adds)) (pooled (k .adds)) (length ins) W) ≡ answer N W (add lane ins outs) k
 unfolding answer checks check-add check-closed list-checks state-checks check-places
-answer-add N W ins outs k = refl
+answer-add N W lane ins outs k = refl
 
 pub answer-flush : (N W : ℕ) (k : Model) → verdict (flush-checks (k .closed) (k .flushes)) ≡ answer N W flush k
 unfolding answer checks check-flush check-closed flush-checks

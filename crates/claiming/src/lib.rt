@@ -7,6 +7,7 @@ fn admits_add(
     waiting: &mut [u64],
     ins: &[u64],
     outs: &[u64],
+    lane: u64,
     top: u64,
     closed: bool,
     v: usize,
@@ -15,9 +16,12 @@ fn admits_add(
     room: usize,
 ) -> bool
     requires { ⌜ MayAdmit (now waiting) (now ins) top v used room ⌝ }
-    ensures { λ r. ⌜ FlagsAdd (now (waiting .entry)) (now (ins .entry)) (now (outs .entry)) closed v added used room r (now (waiting .exit)) ⌝ }
+    ensures { λ r. ⌜ FlagsAdd (now (waiting .entry)) lane (now (ins .entry)) (now (outs .entry)) closed v added used room r (now (waiting .exit)) ⌝ }
 {
     if closed {
+        return false;
+    }
+    if lane > rules::MOST_LANE {
         return false;
     }
     if ins.len() > rules::MOST_IN_A_LIST {
@@ -41,11 +45,12 @@ fn admits_add(
     taken::claim_new(outs, waiting, v)
 }
 
-// add: 7, 3, 4, 5, 6, 8, 9, 10.
+// add: 7, 18, 3, 4, 5, 6, 8, 9, 10.
 pub fn claim_add(
     waiting: &mut [u64],
     ins: &[u64],
     outs: &[u64],
+    lane: u64,
     top: u64,
     closed: bool,
     v: usize,
@@ -54,10 +59,10 @@ pub fn claim_add(
     room: usize,
 ) -> u64
     requires { ⌜ MayAdmit (now waiting) (now ins) top v used room ⌝ }
-    ensures { λ r. ⌜ ClaimsAdd (now (waiting .entry)) (now (ins .entry)) (now (outs .entry)) closed v added used room r (now (waiting .exit)) ⌝ }
+    ensures { λ r. ⌜ ClaimsAdd (now (waiting .entry)) lane (now (ins .entry)) (now (outs .entry)) closed v added used room r (now (waiting .exit)) ⌝ }
 {
-    if admits_add(waiting, ins, outs, top, closed, v, added, used, room) {
+    if admits_add(waiting, ins, outs, lane, top, closed, v, added, used, room) {
         return 0;
     }
-    add_checks::check_add(waiting, ins, outs, closed, v, added, used, room)
+    add_checks::check_add(waiting, ins, outs, lane, closed, v, added, used, room)
 }

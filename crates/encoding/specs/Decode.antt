@@ -9,7 +9,7 @@ use native.Mathlib.Omega.{arith}
 use lib.Dec.{leb, eqb}
 use lib.ListN.{length, take, drop, length-drop}
 use Rattle.rules.specs.Calls.{Call, flush, final}
-use Rattle.rules.specs.Encoding.{Front, Counted, counted, set-front, add-outs, add-front, front, before-all, and-then, unless-empty, decode-from, decode}
+use Rattle.rules.specs.Encoding.{Front, Counted, counted, set-front, add-outs, add-front, lane-front, front, before-all, and-then, unless-empty, decode-from, decode}
 use Rattle.laws.specs.ModelBase.{bool-cases}
 
 pub counted-shorter : (l : List ℕ) (c : Counted) → counted l ≡ some c → length (c .rest) < length l
@@ -32,42 +32,48 @@ unfolding set-front
 set-shorter [] f e = let z : _≡_ {A = ℕ} 0 1 = cc in absurd (omega arith)
 set-shorter (x ∷ l) f e = let d : l ≡ f .rest = cc in omega (arith, ap length d)
 
-outs-shorter : (ins : List ℕ) (o : Option Counted) (f : Front) → add-outs ins o ≡ some f → (c : Counted) × (o ≡ some c) × (f .rest ≡ c .rest)
+outs-shorter : (lane : ℕ) (ins : List ℕ) (o : Option Counted) (f : Front) → add-outs lane ins o ≡ some f → (c : Counted) × (o ≡ some c) × (f .rest ≡ c .rest)
 unfolding add-outs
-outs-shorter ins none f e = let z : _≡_ {A = ℕ} 0 1 = cc in absurd (omega arith)
-outs-shorter ins (some c) f e = (c, refl, cc)
+outs-shorter lane ins none f e = let z : _≡_ {A = ℕ} 0 1 = cc in absurd (omega arith)
+outs-shorter lane ins (some c) f e = (c, refl, cc)
 
-add-shorter : (l : List ℕ) (f : Front) → add-front (counted l) ≡ some f → length (f .rest) < length l
+add-shorter : (lane : ℕ) (l : List ℕ) (f : Front) → add-front lane (counted l) ≡ some f → length (f .rest) < length l
 unfolding add-front
-add-shorter l f e = go (counted l) refl
+add-shorter lane l f e = go (counted l) refl
   where
     go : (o : Option Counted) → counted l ≡ o → length (f .rest) < length l
     go none h = let e′ : none ≡ some f = rw (h, add-front) at e in let z : _≡_ {A = ℕ} 0 1 = cc in absurd (omega arith)
     go (some c) h =
-        let e′ : add-outs (c .items) (counted (c .rest)) ≡ some f = rw (h, add-front) at e in
-        let s = outs-shorter (c .items) (counted (c .rest)) f e′ in
+        let e′ : add-outs lane (c .items) (counted (c .rest)) ≡ some f = rw (h, add-front) at e in
+        let s = outs-shorter lane (c .items) (counted (c .rest)) f e′ in
         omega (arith, counted-shorter l c h, counted-shorter (c .rest) (s .0) (s .1), ap length (s .2))
+
+lane-shorter : (l : List ℕ) (f : Front) → lane-front l ≡ some f → length (f .rest) < length l
+unfolding lane-front
+lane-shorter [] f e = let z : _≡_ {A = ℕ} 0 1 = cc in absurd (omega arith)
+lane-shorter (lane ∷ l) f e = omega (arith, add-shorter lane l f e)
 
 -- the numbers that follow a call are fewer
 pub front-shorter : (l : List ℕ) (f : Front) → front l ≡ some f → length (f .rest) < length l
 unfolding front
 front-shorter [] f e = let z : _≡_ {A = ℕ} 0 1 = cc in absurd (omega arith)
-front-shorter (tag ∷ l) f e = go (bool-cases (eqb tag 1)) (bool-cases (eqb tag 2)) (bool-cases (eqb tag 3)) (bool-cases (eqb tag 4))
+front-shorter (tag ∷ l) f e = go (bool-cases (eqb tag 1)) (bool-cases (eqb tag 2)) (bool-cases (eqb tag 3)) (bool-cases (eqb tag 4)) (bool-cases (eqb tag 5))
   where
     go : (eqb tag 1 ≡ true) ⊎ (eqb tag 1 ≡ false) → (eqb tag 2 ≡ true) ⊎ (eqb tag 2 ≡ false) → (eqb tag 3 ≡ true) ⊎ (eqb tag 3 ≡ false) → (eqb tag 4 ≡ true) ⊎ (eqb tag 4 ≡ false)
-        → length (f .rest) < length (tag ∷ l)
-    go (inl a) b c d = let x = set-shorter l f (rw (a, front) at e) in omega arith
-    go (inr a) (inl b) c d = let x = add-shorter l f (rw (a, b, front) at e) in omega arith
-    go (inr a) (inr b) (inl c) d =
+        → (eqb tag 5 ≡ true) ⊎ (eqb tag 5 ≡ false) → length (f .rest) < length (tag ∷ l)
+    go (inl a) b c d i = let x = set-shorter l f (rw (a, front) at e) in omega arith
+    go (inr a) (inl b) c d i = let x = add-shorter 0 l f (rw (a, b, front) at e) in omega arith
+    go (inr a) (inr b) (inl c) d i =
         let e′ : some (record { call = flush; rest = l }) ≡ some f = rw (a, b, c, front) at e in
         let y : l ≡ f .rest = cc in
         omega (arith, ap length y)
-    go (inr a) (inr b) (inr c) (inl d) =
+    go (inr a) (inr b) (inr c) (inl d) i =
         let e′ : some (record { call = final; rest = l }) ≡ some f = rw (a, b, c, d, front) at e in
         let y : l ≡ f .rest = cc in
         omega (arith, ap length y)
-    go (inr a) (inr b) (inr c) (inr d) =
-        let e′ : none ≡ some f = rw (a, b, c, d, front) at e in
+    go (inr a) (inr b) (inr c) (inr d) (inl i) = let x = lane-shorter l f (rw (a, b, c, d, i, front) at e) in omega arith
+    go (inr a) (inr b) (inr c) (inr d) (inr i) =
+        let e′ : none ≡ some f = rw (a, b, c, d, i, front) at e in
         let z : _≡_ {A = ℕ} 0 1 = cc in
         absurd (omega arith)
 

@@ -13,7 +13,7 @@ use lib.Seq.{drop-cons, drop-drop}
 use borrow.Author.Tests.{le-leb, lt-leb, ne-eqb}
 use Rattle.rules.specs.Calls.{Call, set, add, flush, final}
 use Rattle.laws.specs.History.{lt-or-le}
-use Rattle.rules.specs.Encoding.{set-tag, add-tag, flush-tag, final-tag, Front, counted, set-front, add-outs, add-front, front, unless-empty, decode-from, decode}
+use Rattle.rules.specs.Encoding.{set-tag, add-tag, flush-tag, final-tag, lane-add-tag, Front, counted, set-front, add-outs, add-front, lane-front, front, unless-empty, decode-from, decode}
 use Rattle.encoding.specs.Decode.{decode-none, decode-some, prefix, prefix-more, prefix-none, prefix-some}
 
 -- r is the index past the counted list at `at`, or 0 where there is none
@@ -25,6 +25,10 @@ ListEnds l at r =
 -- r is the index past the call that was read at `at`, or 0 where none was
 abbrev pub Ends : Option Front → List ℕ → ℕ → ℕ → Type 0
 Ends o l at r = ((r ≡ 0) × (o ≡ none)) ⊎ ((call : Call) × (at < r) × (r ≤ length l) × (o ≡ some (record { call = call; rest = drop r l })))
+
+-- r is the index past the two counted lists at `at`, or 0 where they are not there: the lists of an add, whatever its lane is
+abbrev pub AddEnds : List ℕ → ℕ → ℕ → Type 0
+AddEnds l at r = (lane : ℕ) → Ends (add-front lane (counted (drop at l))) l at r
 
 -- whether the numbers are a list of calls, and how many these are
 pub record Counts (l : List ℕ) (well : Bool) (n : ℕ) : Type 0 where
@@ -63,24 +67,24 @@ module _ (l : List ℕ) (at : ℕ) where
       go (inr x) = absurd (h (none-of (list-past x)))
       go (inl x) = elim (lt-or-le (getD l at 0) (length l - at)) [ inl y ↦ (x, y) | inr y ↦ absurd (h (none-of (list-short (getD l at 0) refl x y))) ]
 
-  pub add-none : (middle : ℕ) → ListEnds l at middle → middle ≡ 0 → Ends (add-front (counted (drop at l))) l at 0
+  pub add-none : (middle : ℕ) → ListEnds l at middle → middle ≡ 0 → AddEnds l at 0
   unfolding add-front
-  add-none middle (inl x) e = inl (refl, rw (x .1, add-front))
-  add-none middle (inr x) e = absurd (omega (arith, x .0))
+  add-none middle (inl x) e lane = inl (refl, rw (x .1, add-front))
+  add-none middle (inr x) e lane = absurd (omega (arith, x .0))
 
   -- two counted lists, one after the other
-  pub add-whole : (middle r : ℕ) → counted (drop at l) ≡ some (record { items = take (middle - (at + 1)) (drop (at + 1) l); rest = drop middle l })
+  pub add-whole : (middle r lane : ℕ) → counted (drop at l) ≡ some (record { items = take (middle - (at + 1)) (drop (at + 1) l); rest = drop middle l })
       → counted (drop middle l) ≡ some (record { items = take (r - (middle + 1)) (drop (middle + 1) l); rest = drop r l })
-      → add-front (counted (drop at l)) ≡ some (record { call = add (take (middle - (at + 1)) (drop (at + 1) l)) (take (r - (middle + 1)) (drop (middle + 1) l)); rest = drop r l })
+      → add-front lane (counted (drop at l)) ≡ some (record { call = add lane (take (middle - (at + 1)) (drop (at + 1) l)) (take (r - (middle + 1)) (drop (middle + 1) l)); rest = drop r l })
   unfolding add-front add-outs
-  add-whole middle r x y = rw (x, add-front) (rw (y, add-outs))
+  add-whole middle r lane x y = rw (x, add-front) (rw (y, add-outs))
 
-  pub add-some : (middle r : ℕ) → ListEnds l at middle → (middle ≡ 0 → ⊥) → ListEnds l middle r → Ends (add-front (counted (drop at l))) l at r
+  pub add-some : (middle r : ℕ) → ListEnds l at middle → (middle ≡ 0 → ⊥) → ListEnds l middle r → AddEnds l at r
   unfolding add-front add-outs
-  add-some middle r (inl x) e y = absurd (e (x .0))
-  add-some middle r (inr x) e (inl y) = inl (y .0, rw (x .2, add-front) (rw (y .1, add-outs)))
-  add-some middle r (inr x) e (inr y) =
-      inr (add (take (middle - (at + 1)) (drop (at + 1) l)) (take (r - (middle + 1)) (drop (middle + 1) l)), omega (arith, x .0, y .0), y .1, add-whole middle r (x .2) (y .2))
+  add-some middle r (inl x) e y lane = absurd (e (x .0))
+  add-some middle r (inr x) e (inl y) lane = inl (y .0, rw (x .2, add-front) (rw (y .1, add-outs)))
+  add-some middle r (inr x) e (inr y) lane =
+      inr (add lane (take (middle - (at + 1)) (drop (at + 1) l)) (take (r - (middle + 1)) (drop (middle + 1) l)), omega (arith, x .0, y .0), y .1, add-whole middle r lane (x .2) (y .2))
 
   module _ (h : at < length l) where
     front-at : front (drop at l) ≡ front (getD l at 0 ∷ drop (at + 1) l)
@@ -95,9 +99,17 @@ module _ (l : List ℕ) (at : ℕ) where
     unfolding front set-front
     front-set-short e k = front-at ∙ rw e (rw (drop-of-length-le l k))
 
-    pub front-add : getD l at 0 ≡ add-tag → front (drop at l) ≡ add-front (counted (drop (at + 1) l))
+    pub front-add : getD l at 0 ≡ add-tag → front (drop at l) ≡ add-front 0 (counted (drop (at + 1) l))
     unfolding front
     front-add e = front-at ∙ rw e refl
+
+    pub front-lane-add : getD l at 0 ≡ lane-add-tag → at + 1 < length l → front (drop at l) ≡ add-front (getD l (at + 1) 0) (counted (drop (at + 2) l))
+    unfolding front lane-front
+    front-lane-add e k = let s : suc (at + 1) ≡ at + 2 = omega arith in front-at ∙ rw e (rw (drop-cons l (at + 1) 0 k, s))
+
+    pub front-lane-add-short : getD l at 0 ≡ lane-add-tag → length l ≤ at + 1 → front (drop at l) ≡ none
+    unfolding front lane-front
+    front-lane-add-short e k = front-at ∙ rw e (rw (drop-of-length-le l k))
 
     pub front-flush : getD l at 0 ≡ flush-tag → front (drop at l) ≡ some (record { call = flush; rest = drop (at + 1) l })
     unfolding front
@@ -107,13 +119,29 @@ module _ (l : List ℕ) (at : ℕ) where
     unfolding front
     front-final e = front-at ∙ rw e refl
 
-    pub front-other : (getD l at 0 ≡ set-tag → ⊥) → (getD l at 0 ≡ add-tag → ⊥) → (getD l at 0 ≡ flush-tag → ⊥) → (getD l at 0 ≡ final-tag → ⊥) → front (drop at l) ≡ none
+    pub front-other : (getD l at 0 ≡ set-tag → ⊥) → (getD l at 0 ≡ add-tag → ⊥) → (getD l at 0 ≡ flush-tag → ⊥) → (getD l at 0 ≡ final-tag → ⊥) → (getD l at 0 ≡ lane-add-tag → ⊥)
+        → front (drop at l) ≡ none
     unfolding front
-    front-other a b c d = front-at ∙ rw (ne-eqb (getD l at 0) set-tag a, ne-eqb (getD l at 0) add-tag b, ne-eqb (getD l at 0) flush-tag c, ne-eqb (getD l at 0) final-tag d, front)
+    front-other a b c d e =
+        front-at
+        ∙ rw (ne-eqb (getD l at 0) set-tag a, ne-eqb (getD l at 0) add-tag b, ne-eqb (getD l at 0) flush-tag c, ne-eqb (getD l at 0) final-tag d, ne-eqb (getD l at 0) lane-add-tag e, front)
 
-    pub call-add : (r : ℕ) → getD l at 0 ≡ add-tag → Ends (add-front (counted (drop (at + 1) l))) l (at + 1) r → Ends (front (drop at l)) l at r
-    call-add r e (inl x) = inl (x .0, front-add e ∙ x .1)
-    call-add r e (inr x) = inr (x .0, omega (arith, x .1), x .2, front-add e ∙ x .3)
+    -- the lists of an add start at i, which is past its tag
+    add-ends : (lane : ℕ) {i r : ℕ} → at < i → front (drop at l) ≡ add-front lane (counted (drop i l)) → AddEnds l i r → Ends (front (drop at l)) l at r
+    add-ends lane past f a = elim (a lane) [ inl x ↦ inl (x .0, f ∙ x .1) | inr x ↦ inr (x .0, omega (arith, past, x .1), x .2, f ∙ x .3) ]
+
+    pub call-add : (r : ℕ) → getD l at 0 ≡ add-tag → AddEnds l (at + 1) r → Ends (front (drop at l)) l at r
+    call-add r e a = add-ends 0 (omega arith) (front-add e) a
+
+    pub call-lane-add : (r : ℕ) → getD l at 0 ≡ lane-add-tag → AddEnds l (at + 2) r → Ends (front (drop at l)) l at r
+    call-lane-add r e a = go (lt-or-le (at + 1) (length l))
+      where
+        none-there : length l ≤ at + 1 → r ≡ 0
+        none-there k = elim (a 0) [ inl x ↦ x .0 | inr x ↦ absurd (omega (arith, x .1, x .2)) ]
+
+        go : (at + 1 < length l) ⊎ (length l ≤ at + 1) → Ends (front (drop at l)) l at r
+        go (inl k) = add-ends (getD l (at + 1) 0) (omega arith) (front-lane-add e k) a
+        go (inr k) = inl (none-there k, front-lane-add-short e k)
 
     pub call-flush : getD l at 0 ≡ flush-tag → Ends (front (drop at l)) l at (at + 1)
     call-flush e = inr (flush, omega arith, omega arith, front-flush e)
@@ -127,8 +155,9 @@ module _ (l : List ℕ) (at : ℕ) where
     pub call-set-short : getD l at 0 ≡ set-tag → length l ≤ at + 1 → Ends (front (drop at l)) l at 0
     call-set-short e k = inl (refl, front-set-short e k)
 
-    pub call-other : (getD l at 0 ≡ set-tag → ⊥) → (getD l at 0 ≡ add-tag → ⊥) → (getD l at 0 ≡ flush-tag → ⊥) → (getD l at 0 ≡ final-tag → ⊥) → Ends (front (drop at l)) l at 0
-    call-other a b c d = inl (refl, front-other a b c d)
+    pub call-other : (getD l at 0 ≡ set-tag → ⊥) → (getD l at 0 ≡ add-tag → ⊥) → (getD l at 0 ≡ flush-tag → ⊥) → (getD l at 0 ≡ final-tag → ⊥) → (getD l at 0 ≡ lane-add-tag → ⊥)
+        → Ends (front (drop at l)) l at 0
+    call-other a b c d e = inl (refl, front-other a b c d e)
 
 -- the count at `at`: n calls were read, and the rest is still to be read
 pub record Counting (l : List ℕ) (at n : ℕ) : Type 0 where

@@ -3,8 +3,8 @@ ghost use mathlib.Core.Path.{_≡_};
 ghost use mathlib.Core.Option.{none};
 ghost use Prim.Native.Nat.{_+_, _<_};
 ghost use lib.ListN.{length, drop};
-ghost use Rattle.rules.specs.Encoding.{front, add-front, counted};
-ghost use Rattle.encoding.specs.Ends.{ListEnds, Ends, Counts};
+ghost use Rattle.rules.specs.Encoding.{front, counted};
+ghost use Rattle.encoding.specs.Ends.{ListEnds, AddEnds, Ends, Counts};
 
 // The tags that calls begin with.
 pub const SET: u64 = 1;
@@ -14,6 +14,9 @@ pub const ADD: u64 = 2;
 pub const FLUSH: u64 = 3;
 
 pub const FINAL: u64 = 4;
+
+// An add whose lane stands between the tag and its lists; `ADD` is one with lane 0.
+pub const LANE_ADD: u64 = 5;
 
 fn short(x: u64) -> usize
     ensures { λ r. ⌜ r ≡ x ⌝ }
@@ -46,7 +49,7 @@ pub fn past_list(calls: &[u64], at: usize) -> usize
 
 // The index past the two counted lists that start at `at`, or 0 where they are not there.
 fn add_end(calls: &[u64], at: usize) -> usize
-    ensures { λ r. ⌜ Ends (add-front (counted (drop at (now (calls .entry))))) (now (calls .entry)) at r ⌝ }
+    ensures { λ r. ⌜ AddEnds (now (calls .entry)) at r ⌝ }
 {
     let middle = list_end(calls, at);
     if middle == 0 {
@@ -75,6 +78,9 @@ pub fn call_end(calls: &[u64], at: usize) -> usize
             return at + 2;
         }
         return 0;
+    }
+    if tag == LANE_ADD {
+        return add_end(calls, at + 2);
     }
     0
 }

@@ -85,12 +85,17 @@ fn show_answers(answers: &[u32], n: usize)
     }
 }
 
-// A line for each of n entries: value, added, accepted, parallelism.
+// A line for each of n entries: value, added, accepted, and parallelism with the lane, which is 0.
 fn show_order(order: &[u32], n: usize) {
     for k in 0..n {
         if k < entries::capacity(order) {
             let e = entries::load(order, k);
-            show_line(e.value, e.added, e.accepted, e.parallelism);
+            show_line(
+                e.value,
+                e.added,
+                e.accepted,
+                entries::packed(e.parallelism, e.lane),
+            );
         }
     }
 }

@@ -15,7 +15,7 @@ use Rattle.rules.specs.Calls as calls
 use Rattle.rules.specs.Calls.{step}
 use Rattle.rules.specs.Limits.{most-job-bytes, job-pool}
 use Rattle.rules.specs.Refusals as refusal
-use Rattle.rules.specs.Job.{Outcome, rejected, outcome, lines, ragged, run-lines, on-line, job-sizes, Reached, reached, reached-lines}
+use Rattle.rules.specs.Job.{nothing, Outcome, rejected, outcome, lines, ragged, run-lines, on-line, job-sizes, Reached, reached, reached-lines}
 use Rattle.laws.specs.Accepted.{open-code}
 use Rattle.laws.specs.Sound.{between-initial}
 use Rattle.guide.specs.Fresh.{first-guide}
@@ -238,9 +238,9 @@ module _ (job : List ℕ) (short : length job ≤ most-job-bytes) where
     -- what opening leaves of the run
     opened : ℕ → Outcome × Option Reached
     opened x = (
-      on-line 2 x (run-lines P N job-pool 3 none (lines (drop start job)) (ragged job) initial),
+      on-line 2 x (run-lines P N job-pool 3 nothing (lines (drop start job)) (ragged job) initial),
       elim (eqb x 0) [
-        | true ↦ some (record { parallelism = P; places = N; model = reached-lines P N job-pool none (lines (drop start job)) initial })
+        | true ↦ some (record { parallelism = P; places = N; model = reached-lines P N job-pool nothing (lines (drop start job)) initial })
         | false ↦ none
       ],
     )
@@ -260,7 +260,7 @@ module _ (job : List ℕ) (short : length job ≤ most-job-bytes) where
           let q : opened number ≡ (rejected 2 number, none) = rw (on-line, ne-eqb number 0 z) in
           record {
             tells = subst (λ (x : Storage). Refused job σ x 2 number) (sym (o .refused z)) (unopened σ 2 number (opening-next ∙ ap opened (sym number-is) ∙ q));
-            low = (omega arith, rw number-is (omega (arith, open-code P N job-sizes)));
+            low = (omega arith, rw number-is (open-code P N job-sizes .0));
             into = subst (λ (x : List ℕ). Beyond (length job / 2) a x) (sym (sized .into)) (beyond-refl _ a);
           }
 
@@ -285,9 +285,9 @@ module _ (job : List ℕ) (short : length job ≤ most-job-bytes) where
         unfolding remains on-line opened
         runs-whole =
             let q : eqb number 0 ≡ true = eq-eqb number 0 z in
-            let there : Option Reached = some (record { parallelism = P; places = N; model = reached-lines P N job-pool none (lines (drop start job)) initial }) in
+            let there : Option Reached = some (record { parallelism = P; places = N; model = reached-lines P N job-pool nothing (lines (drop start job)) initial }) in
             opening-next ∙ ap opened (sym number-is) ∙ rw (on-line, q)
-            (ap (λ (x : Bool). (run-lines P N job-pool 3 none (lines (drop start job)) x initial, there)) (sym (sized .starts .1 .1)))
+            (ap (λ (x : Bool). (run-lines P N job-pool 3 nothing (lines (drop start job)) x initial, there)) (sym (sized .starts .1 .1)))
 
         standing : (x : End) (υ : Storage) (u : Stopped P N job-pool s τ υ x (remains P N job-pool job start 3 initial))
             → StandsReached (record { parallelism = P; places = N; model = u .model }) (u .session) σ υ

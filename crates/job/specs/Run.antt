@@ -49,9 +49,9 @@ abbrev pub Tells : List ℕ → Storage → Storage → End → Type 0
 Tells job σ σ′ (end.Rejected n code) = Refused job σ σ′ n code
 Tells job σ σ′ (end.Finished f) = Closed job σ σ′ f
 
--- a refusal's line is at most five past the bytes of a job, and its number small
+-- a refusal's line is at most six past the bytes of a job, and its number small
 abbrev pub most-lines : ℕ
-most-lines = most-job-bytes + 5
+most-lines = most-job-bytes + 6
 
 abbrev pub Low : End → Type 0
 Low (end.Rejected n code) = (n ≤ most-lines) × Code code

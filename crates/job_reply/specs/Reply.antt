@@ -4,8 +4,8 @@ use mathlib.Core.Path.{_≡_}
 use Prim.Native.Nat.{ℕ, _≤_}
 use lib.ListN.{length, take, drop}
 use Rattle.rules.specs.Limits.{program-listing-bytes}
-use Rattle.rules.specs.Refusals as refusal
 use Rattle.rules.specs.Listing as rule
+use Rattle.jobturn.specs.Turned.{Code}
 use Rattle.job.specs.Run.{most-lines}
 use Rattle.job_reply.specs.declared.Reply.{Reply}
 use Rattle.job_reply.specs.declared.Reply.the-variants as reply
@@ -18,7 +18,7 @@ reply-as (reply.Refused line code) bytes = rule.refused line code
 -- the numbers are small, and the listing lies within the bytes
 abbrev pub Small : Reply → List ℕ → Type 0
 Small (reply.Listed n) bytes = (n ≤ length bytes) × (n ≤ program-listing-bytes)
-Small (reply.Refused line code) bytes = (line ≤ most-lines) × (code ≤ refusal.long-listing)
+Small (reply.Refused line code) bytes = (line ≤ most-lines) × Code code
 
 pub record Replied (job entry exit : List ℕ) (r : Reply) : Type 0 where
   pub is : reply-as r exit ≡ rule.reply (length entry) job

@@ -1,4 +1,4 @@
--- Laws of reading a job call by call: a line found or missing, a call of one line or of two, and the head. Assumes nothing.
+-- Laws of reading a job call by call: a line found or missing, a call of one line, an add's lines, and the head. Assumes nothing.
 use mathlib.Core.Bool.{Bool, true, false}
 use mathlib.Core.List.{List, [], _∷_}
 use mathlib.Core.Logic.{_⊎_, inl, inr}
@@ -19,7 +19,7 @@ use Rattle.jobtext.specs.Pieces.{before-le, lines-more, lines-last, ragged-more
 use Rattle.jobline.specs.declared.Line.{Line}
 use Rattle.jobline.specs.declared.Line.the-variants as line
 use Rattle.jobline.specs.Lines.{line-as, listed, LineRead}
-use Rattle.jobcalls.specs.Told.{first-line, other-lines, LineAt, FirstCall, found, malformed, added, started, first-call, Follows, NextCall}
+use Rattle.jobcalls.specs.Told.{first-line, other-lines, LineAt, FirstCall, found, malformed, added, after-lane, started, first-call, Follows, NextCall, Begins, AddRead}
 use Rattle.jobcalls.specs.Told.{heading-2, heading-1, heading, HeadRead}
 use Rattle.jobcalls.specs.declared.Call.the-variants as call
 use Rattle.jobcalls.specs.declared.Next.{Next}
@@ -118,41 +118,83 @@ module _ {s entry read : List ℕ} {at after : ℕ} where
   unfolding started
   no-start n e a = record { is = starts-with n a ∙ rw (started, e read); next = tt; into = tt; into-beyond = beyond a }
 
--- a call of two lines: i inputs, then outputs behind them
+-- an add begins with its i inputs
 module _ {s entry mid : List ℕ} {at after : ℕ} (i : ℕ) (a : LineAt s at entry mid 0 (line.Inputs i) after) where
-  well : line.Inputs i ≡ line.Malformed → ⊥
-  well e = let z : _≡_ {A = ℕ} 0 1 = cc in omega arith
+  well-in : line.Inputs i ≡ line.Malformed → ⊥
+  well-in e = let z : _≡_ {A = ℕ} 0 1 = cc in omega arith
 
-  pub second-room : length s ≤ 2 * length entry → length mid ≡ length entry → 2 * i + length s ≤ 2 * length mid + after
-  second-room h q = omega (arith, reaches a well)
+  -- what reading its last line asks
+  pub inputs-half : 2 * i ≤ after
+  inputs-half = omega (arith, reaches a well-in)
 
-  module _ (n : ℕ) {read : List ℕ} {end : ℕ} {m : Line} (b : LineAt s after mid read i m end) where
-    ends-with : first-call n (lines (drop at s)) ≡ added (n + 1) (take i mid) (line-as m (drop i read)) (lines (drop end s))
+  pub with-inputs : (n : ℕ) → Begins s at n entry mid 0 i (n + 1) after
+  unfolding started
+  with-inputs n =
+      record {
+        is = starts-with n a ∙ ap (λ (j : ℕ). added j 0 (take i mid) (first-line (lines (drop after s))) (other-lines (lines (drop after s)))) (sym (add-one n));
+        end = a .end;
+        past = omega (arith, reaches a well-in);
+        into-past = keeps-past a well-in i (omega arith);
+      }
+
+-- an add begins with its lane: then its inputs must come
+module _ {s entry mid : List ℕ} {at after : ℕ} (lane : ℕ) (a : LineAt s at entry mid 0 (line.Lane lane) after) where
+  well-lane : line.Lane lane ≡ line.Malformed → ⊥
+  well-lane e = let z : _≡_ {A = ℕ} 0 1 = cc in omega arith
+
+  lane-keeps : mid ≡ entry
+  lane-keeps = keeps-past a well-lane 0 (omega arith)
+
+  module _ (n : ℕ) {read : List ℕ} {end : ℕ} {m : Line} (b : LineAt s after mid read 0 m end) where
+    goes-with : first-call n (lines (drop at s)) ≡ after-lane (n + 1) lane (line-as m read) (lines (drop end s))
     unfolding started
+    goes-with =
+        starts-with n a ∙ ap (λ (j : ℕ). after-lane j lane (first-line (lines (drop after s))) (other-lines (lines (drop after s)))) (sym (add-one n))
+        ∙ ap (λ (x : rule.Line). after-lane (n + 1) lane x (other-lines (lines (drop after s)))) (sym (b .reads))
+        ∙ ap (after-lane (n + 1) lane (line-as m read)) (sym (b .others))
+
+    pub no-inputs : ((r : List ℕ) → rule.inputs-of (line-as m r) ≡ none) → NextCall s at n entry read (next.Malformed (n + 1))
+    unfolding after-lane
+    no-inputs e = record { is = goes-with ∙ rw (after-lane, e read); next = tt; into = tt; into-beyond = beyond b ∙ ap (drop (length s / 2)) lane-keeps }
+
+  pub with-lane : (n : ℕ) {read : List ℕ} {end : ℕ} (i : ℕ) → LineAt s after mid read 0 (line.Inputs i) end → Begins s at n entry read lane i (n + 2) end
+  unfolding after-lane
+  with-lane n {read} {end} i b =
+      let k : suc (n + 1) ≡ n + 2 = omega arith in
+      record {
+        is = goes-with n b ∙ ap (λ (j : ℕ). added j lane (take i read) (first-line (lines (drop end s))) (other-lines (lines (drop end s)))) k;
+        end = b .end ∙ a .end;
+        past = omega (arith, reaches a well-lane, reaches b (well-in i b));
+        into-past = keeps-past b (well-in i b) i (omega arith) ∙ ap (drop i) lane-keeps;
+      }
+
+-- the last line of an add: its outputs go behind its i inputs
+module _ {s mid read : List ℕ} {after end : ℕ} (m lane i : ℕ) (low : 2 * i ≤ after) (inside : after ≤ length s) where
+  module _ {l : Line} (b : LineAt s after mid read i l end) {at n : ℕ} {entry : List ℕ} (a : Begins s at n entry mid lane i m after) where
+    ends-with : first-call n (lines (drop at s)) ≡ added m lane (take i mid) (line-as l (drop i read)) (lines (drop end s))
     ends-with =
-        starts-with n a ∙ ap (λ (j : ℕ). added j (take i mid) (first-line (lines (drop after s))) (other-lines (lines (drop after s)))) (sym (add-one n))
-        ∙ ap (λ (x : rule.Line). added (n + 1) (take i mid) x (other-lines (lines (drop after s)))) (sym (b .reads))
-        ∙ ap (added (n + 1) (take i mid) (line-as m (drop i read))) (sym (b .others))
+        a .is ∙ ap (λ (x : rule.Line). added m lane (take i mid) x (other-lines (lines (drop after s)))) (sym (b .reads))
+        ∙ ap (added m lane (take i mid) (line-as l (drop i read))) (sym (b .others))
+
+    begun-past : (j : ℕ) → i ≤ j → drop j mid ≡ drop j entry
+    begun-past j h = drop-past i j mid entry h (a .into-past)
 
     both-beyond : drop (length s / 2) read ≡ drop (length s / 2) entry
-    both-beyond =
-        drop-past (i + (length s - after) / 2) (length s / 2) read mid (omega (arith, reaches a well, a .within)) (b .into-beyond)
-        ∙ keeps-past a well (length s / 2) (omega (arith, reaches a well, a .within))
+    both-beyond = drop-past (i + (length s - after) / 2) (length s / 2) read mid (omega arith) (b .into-beyond) ∙ begun-past (length s / 2) (omega arith)
 
-    pub no-outputs : ((r : List ℕ) → rule.outputs-of (line-as m r) ≡ none) → NextCall s at n entry read (next.Malformed (n + 1))
-    unfolding added
-    no-outputs e = record { is = ends-with ∙ rw (added, e (drop i read)); next = tt; into = tt; into-beyond = both-beyond }
-
-  pub an-add : (n : ℕ) {read : List ℕ} {end : ℕ} (o : ℕ) → LineAt s after mid read i (line.Outputs o) end
-      → NextCall s at n entry read (next.Call (call.Add i o) (n + 1) end)
+  pub no-outputs : {l : Line} → LineAt s after mid read i l end → ((r : List ℕ) → rule.outputs-of (line-as l r) ≡ none) → AddRead s after m lane i mid read (next.Malformed m)
   unfolding added
-  an-add n {read} {end} o b =
-      let well′ : line.Outputs o ≡ line.Malformed → ⊥ = λ e. let z : _≡_ {A = ℕ} 0 1 = cc in omega arith in
+  no-outputs b e at n entry a = record { is = ends-with b a ∙ rw (added, e (drop i read)); next = tt; into = tt; into-beyond = both-beyond b a }
+
+  pub an-add : (o : ℕ) → LineAt s after mid read i (line.Outputs o) end → AddRead s after m lane i mid read (next.Call (call.Add lane i o) m end)
+  unfolding added
+  an-add o b at n entry a =
+      let well : line.Outputs o ≡ line.Malformed → ⊥ = λ e. let z : _≡_ {A = ℕ} 0 1 = cc in omega arith in
       record {
-        is = ends-with n b ∙ ap (λ (y : List ℕ). found (calls.add y (take o (drop i read))) (n + 1) (lines (drop end s))) (sym (b .kept));
-        next = record { end = b .end ∙ a .end; within = b .within; past = omega (arith, reaches a well, reaches b well′) };
-        into = (b .room, keeps-past b well′ (i + o) (omega arith) ∙ keeps-past a well (i + o) (omega arith));
-        into-beyond = both-beyond n b;
+        is = ends-with b a ∙ ap (λ (y : List ℕ). found (calls.add lane y (take o (drop i read))) m (lines (drop end s))) (sym (b .kept));
+        next = record { end = b .end ∙ a .end; within = b .within; past = omega (arith, a .past, reaches b well) };
+        into = (b .room, keeps-past b well (i + o) (omega arith) ∙ begun-past b a (i + o) (omega arith));
+        into-beyond = both-beyond b a;
       }
 
 -- a call by what is told of it
@@ -177,34 +219,42 @@ some-left (b ∷ l) h =
       | no ge ↦ inl (lines-last [] (b ∷ l) (omega arith), ragged-last b l (omega arith))
     ]
 
--- the line of a call is its first, or the one after it
+-- the line of a call is its first, or one of the two after it
 abbrev pub line-of : FirstCall → ℕ
 line-of (found c m rest) = m
 line-of (malformed m) = m
 
-abbrev Near : ℕ → FirstCall → Type 0
-Near n f = (n ≤ line-of f) × (line-of f ≤ n + 1)
+abbrev pub Near : ℕ → FirstCall → Type 0
+Near n f = (n ≤ line-of f) × (line-of f ≤ n + 2)
 
-pub line-near : (n : ℕ) (ls : List (List ℕ)) → (n ≤ line-of (first-call n ls)) × (line-of (first-call n ls) ≤ n + 1)
-unfolding first-call started added
+pub line-near : (n : ℕ) (ls : List (List ℕ)) → Near n (first-call n ls)
+unfolding first-call started after-lane added
 line-near n ls = near (rule.start-of (first-line ls)) (other-lines ls)
   where
-    ends : (x : Option (List ℕ)) (ins : List ℕ) (rest : List (List ℕ)) → Near n (elim x [ some outs ↦ found (calls.add ins outs) (suc n) rest | none ↦ malformed (suc n) ])
-    ends none ins rest = (omega arith, omega arith)
-    ends (some outs) ins rest = (omega arith, omega arith)
+    ends : (x : Option (List ℕ)) (m lane : ℕ) (ins : List ℕ) (rest : List (List ℕ)) → n ≤ m → m ≤ n + 2
+        → Near n (elim x [ some outs ↦ found (calls.add lane ins outs) m rest | none ↦ malformed m ])
+    ends none m lane ins rest a b = (a, b)
+    ends (some outs) m lane ins rest a b = (a, b)
+
+    goes-on : (x : Option (List ℕ)) (lane : ℕ) (rest : List (List ℕ))
+        → Near n (elim x [ some ins ↦ added (suc (suc n)) lane ins (first-line rest) (other-lines rest) | none ↦ malformed (suc n) ])
+    goes-on none lane rest = (omega arith, omega arith)
+    goes-on (some ins) lane rest = ends (rule.outputs-of (first-line rest)) (suc (suc n)) lane ins (other-lines rest) (omega arith) (omega arith)
 
     near : (x : Option rule.Start) (rest : List (List ℕ))
         → Near n (
         elim x [
           | some (rule.single c) ↦ found c n rest
-          | some (rule.inputs ins) ↦ added (suc n) ins (first-line rest) (other-lines rest)
+          | some (rule.label lane) ↦ after-lane (suc n) lane (first-line rest) (other-lines rest)
+          | some (rule.inputs ins) ↦ added (suc n) 0 ins (first-line rest) (other-lines rest)
           | some rule.last ↦ found calls.final n rest
           | none ↦ malformed n
         ]
         )
     near none rest = (omega arith, omega arith)
     near (some (rule.single c)) rest = (omega arith, omega arith)
-    near (some (rule.inputs ins)) rest = ends (rule.outputs-of (first-line rest)) ins (other-lines rest)
+    near (some (rule.label lane)) rest = goes-on (rule.inputs-of (first-line rest)) lane (other-lines rest)
+    near (some (rule.inputs ins)) rest = ends (rule.outputs-of (first-line rest)) (suc n) 0 ins (other-lines rest) (omega arith) (omega arith)
     near (some rule.last) rest = (omega arith, omega arith)
 
 -- the head: line 1, then line 2

@@ -13,10 +13,10 @@ use Rattle.rules.specs.Checks.{verdict, check-open}
 use Rattle.rules.specs.Calls as calls
 use Rattle.rules.specs.Calls.{Call, answer, step}
 use Rattle.rules.specs.Job as rule
-use Rattle.rules.specs.Job.{Outcome, lines, ragged, run-lines, run-places, run-job, on-line, closing, job-sizes, Reached, reached-lines, reached-places, reached-job}
+use Rattle.rules.specs.Job.{Outcome, Begun, nothing, labelled, reading, lines, ragged, run-lines, run-places, run-job, on-line, closing, job-sizes, Reached, reached-lines, reached-places, reached-job}
 use Rattle.rules.specs.Limits.{most-job-bytes, job-pool}
 use Rattle.rules.specs.Refusals as refusal
-use Rattle.jobcalls.specs.Told.{first-line, other-lines, FirstCall, found, malformed, added, started, first-call, first-as, NextCall}
+use Rattle.jobcalls.specs.Told.{first-line, other-lines, FirstCall, found, malformed, added, after-lane, started, first-call, first-as, NextCall}
 use Rattle.jobcalls.specs.Told.{Heading, sized, unsized, heading-2, heading-1, heading, heading-as, HeadRead}
 use Rattle.jobcalls.specs.declared.Next.{Next}
 use Rattle.jobcalls.specs.declared.Head.{Head}
@@ -25,14 +25,14 @@ use Rattle.jobcalls.specs.declared.Head.{Head}
 abbrev pub Run : Type 0
 Run = Outcome × Model
 
-abbrev pub reads : ℕ → ℕ → ℕ → ℕ → Option (List ℕ) → List (List ℕ) → Bool → Model → Run
+abbrev pub reads : ℕ → ℕ → ℕ → ℕ → Begun → List (List ℕ) → Bool → Model → Run
 reads P N W n begun ls rag k = (run-lines P N W n begun ls rag k, reached-lines P N W begun ls k)
 
 -- the run from a call on line n on, where `rest` follows it: one that others may follow, and final
 abbrev pub makes : ℕ → ℕ → ℕ → ℕ → Call → List (List ℕ) → Bool → Model → Run
 makes P N W n c rest rag k = (
-  on-line n (answer N W c k) (run-lines P N W (suc n) none rest rag (step P N W c k)),
-  elim (eqb (answer N W c k) 0) [ true ↦ reached-lines P N W none rest (step P N W c k) | false ↦ k ],
+  on-line n (answer N W c k) (run-lines P N W (suc n) nothing rest rag (step P N W c k)),
+  elim (eqb (answer N W c k) 0) [ true ↦ reached-lines P N W nothing rest (step P N W c k) | false ↦ k ],
 )
 
 abbrev pub closes : ℕ → ℕ → ℕ → ℕ → List (List ℕ) → Bool → Model → Run
@@ -43,63 +43,93 @@ closes P N W n rest rag k =
 unfoldable pub goes : ℕ → ℕ → ℕ → FirstCall → Bool → Model → Run
 goes P N W (malformed n) rag k = (rule.rejected n refusal.malformed, k)
 goes P N W (found (calls.set x) n rest) rag k = makes P N W n (calls.set x) rest rag k
-goes P N W (found (calls.add ins outs) n rest) rag k = makes P N W n (calls.add ins outs) rest rag k
+goes P N W (found (calls.add lane ins outs) n rest) rag k = makes P N W n (calls.add lane ins outs) rest rag k
 goes P N W (found calls.flush n rest) rag k = makes P N W n calls.flush rest rag k
 goes P N W (found calls.final n rest) rag k = closes P N W n rest rag k
 
--- what the run does with the first line, where no `in=` line stands before it, and where one does
+-- what the run does with the first line, where nothing of an add is read before it, and where its inputs or its lane are
 module _ (P N W : ℕ) (rag : Bool) (k : Model) (n : ℕ) where
   acts : Option rule.Start → List (List ℕ) → Run
   acts x rest = (
     elim x [
-      | some (rule.single c) ↦ on-line n (answer N W c k) (run-lines P N W (suc n) none rest rag (step P N W c k))
-      | some (rule.inputs ins) ↦ run-lines P N W (suc n) (some ins) rest rag k
+      | some (rule.single c) ↦ on-line n (answer N W c k) (run-lines P N W (suc n) nothing rest rag (step P N W c k))
+      | some (rule.label lane) ↦ run-lines P N W (suc n) (labelled lane) rest rag k
+      | some (rule.inputs ins) ↦ run-lines P N W (suc n) (reading 0 ins) rest rag k
       | some rule.last ↦ on-line n (answer N W calls.final k) (closing P (suc n) rest rag (step P N W calls.final k))
       | none ↦ rule.rejected n refusal.malformed
     ],
     elim x [
-      | some (rule.single c) ↦ elim (eqb (answer N W c k) 0) [ true ↦ reached-lines P N W none rest (step P N W c k) | false ↦ k ]
-      | some (rule.inputs ins) ↦ reached-lines P N W (some ins) rest k
+      | some (rule.single c) ↦ elim (eqb (answer N W c k) 0) [ true ↦ reached-lines P N W nothing rest (step P N W c k) | false ↦ k ]
+      | some (rule.label lane) ↦ reached-lines P N W (labelled lane) rest k
+      | some (rule.inputs ins) ↦ reached-lines P N W (reading 0 ins) rest k
       | some rule.last ↦ step P N W calls.final k
       | none ↦ k
     ],
   )
 
-  run-none : (ls : List (List ℕ)) → reads P N W n none ls rag k ≡ acts (rule.start-of (first-line ls)) (other-lines ls)
+  run-nothing : (ls : List (List ℕ)) → reads P N W n nothing ls rag k ≡ acts (rule.start-of (first-line ls)) (other-lines ls)
   unfolding run-lines reached-lines first-line other-lines acts
-  run-none [] = refl
-  run-none (l ∷ ls) = refl
+  run-nothing [] = refl
+  run-nothing (l ∷ ls) = refl
 
-  acts-after : List ℕ → Option (List ℕ) → List (List ℕ) → Run
-  acts-after ins x rest = elim x [ some outs ↦ makes P N W n (calls.add ins outs) rest rag k | none ↦ (rule.rejected n refusal.malformed, k) ]
+  module _ (lane : ℕ) where
+    acts-after : List ℕ → Option (List ℕ) → List (List ℕ) → Run
+    acts-after ins x rest = elim x [ some outs ↦ makes P N W n (calls.add lane ins outs) rest rag k | none ↦ (rule.rejected n refusal.malformed, k) ]
 
-  run-some : (ins : List ℕ) (ls : List (List ℕ)) → reads P N W n (some ins) ls rag k ≡ acts-after ins (rule.outputs-of (first-line ls)) (other-lines ls)
-  unfolding run-lines reached-lines first-line other-lines acts-after
-  run-some ins [] = refl
-  run-some ins (l ∷ ls) = go (rule.outputs-of (rule.line-of l)) refl
-    where
-      go : (x : Option (List ℕ)) → rule.outputs-of (rule.line-of l) ≡ x → reads P N W n (some ins) (l ∷ ls) rag k ≡ acts-after ins x ls
-      go none e = rw (run-lines, reached-lines, e)
-      go (some outs) e = rw (run-lines, reached-lines, e)
+    run-reading : (ins : List ℕ) (ls : List (List ℕ)) → reads P N W n (reading lane ins) ls rag k ≡ acts-after ins (rule.outputs-of (first-line ls)) (other-lines ls)
+    unfolding run-lines reached-lines first-line other-lines acts-after
+    run-reading ins [] = refl
+    run-reading ins (l ∷ ls) = go (rule.outputs-of (rule.line-of l)) refl
+      where
+        go : (x : Option (List ℕ)) → rule.outputs-of (rule.line-of l) ≡ x → reads P N W n (reading lane ins) (l ∷ ls) rag k ≡ acts-after ins x ls
+        go none e = rw (run-lines, reached-lines, e)
+        go (some outs) e = rw (run-lines, reached-lines, e)
 
-  run-added : (ins : List ℕ) (ls : List (List ℕ)) → reads P N W n (some ins) ls rag k ≡ goes P N W (added n ins (first-line ls) (other-lines ls)) rag k
-  unfolding added goes acts-after
-  run-added ins ls = run-some ins ls ∙ go (rule.outputs-of (first-line ls))
-    where
-      go : (x : Option (List ℕ))
-          → acts-after ins x (other-lines ls)
-          ≡ goes P N W (elim x [ some outs ↦ found (calls.add ins outs) n (other-lines ls) | none ↦ malformed n ]) rag k
-      go none = refl
-      go (some outs) = refl
+    run-added : (ins : List ℕ) (ls : List (List ℕ)) → reads P N W n (reading lane ins) ls rag k ≡ goes P N W (added n lane ins (first-line ls) (other-lines ls)) rag k
+    unfolding added goes acts-after
+    run-added ins ls = run-reading ins ls ∙ go (rule.outputs-of (first-line ls))
+      where
+        go : (x : Option (List ℕ))
+            → acts-after ins x (other-lines ls)
+            ≡ goes P N W (elim x [ some outs ↦ found (calls.add lane ins outs) n (other-lines ls) | none ↦ malformed n ]) rag k
+        go none = refl
+        go (some outs) = refl
+
+    acts-labelled : Option (List ℕ) → List (List ℕ) → Run
+    acts-labelled x rest = elim x [ some ins ↦ reads P N W (suc n) (reading lane ins) rest rag k | none ↦ (rule.rejected n refusal.malformed, k) ]
+
+    run-labelled : (ls : List (List ℕ)) → reads P N W n (labelled lane) ls rag k ≡ acts-labelled (rule.inputs-of (first-line ls)) (other-lines ls)
+    unfolding run-lines reached-lines first-line other-lines acts-labelled
+    run-labelled [] = refl
+    run-labelled (l ∷ ls) = go (rule.inputs-of (rule.line-of l)) refl
+      where
+        go : (x : Option (List ℕ)) → rule.inputs-of (rule.line-of l) ≡ x → reads P N W n (labelled lane) (l ∷ ls) rag k ≡ acts-labelled x ls
+        go none e = rw (run-lines, reached-lines, e)
+        go (some ins) e = rw (run-lines, reached-lines, e)
+
+-- the run from an add's `in=` line on, after its lane line
+run-after-lane : (P N W : ℕ) (rag : Bool) (k : Model) (n lane : ℕ) (ls : List (List ℕ))
+    → reads P N W n (labelled lane) ls rag k ≡ goes P N W (after-lane n lane (first-line ls) (other-lines ls)) rag k
+unfolding after-lane goes acts-labelled
+run-after-lane P N W rag k n lane ls = run-labelled P N W rag k n lane ls ∙ go (rule.inputs-of (first-line ls))
+  where
+    go : (x : Option (List ℕ))
+        → acts-labelled P N W rag k n lane x (other-lines ls)
+        ≡ goes P N W (
+        elim x [ some ins ↦ added (suc n) lane ins (first-line (other-lines ls)) (other-lines (other-lines ls)) | none ↦ malformed n ]
+        ) rag k
+    go none = refl
+    go (some ins) = run-added P N W rag k (suc n) lane ins (other-lines ls)
 
 -- the run of some lines is told by their first call
-pub run-first : (P N W : ℕ) (rag : Bool) (k : Model) (n : ℕ) (ls : List (List ℕ)) → reads P N W n none ls rag k ≡ goes P N W (first-call n ls) rag k
+pub run-first : (P N W : ℕ) (rag : Bool) (k : Model) (n : ℕ) (ls : List (List ℕ)) → reads P N W n nothing ls rag k ≡ goes P N W (first-call n ls) rag k
 unfolding first-call acts started goes
-run-first P N W rag k n ls = run-none P N W rag k n ls ∙ go (first-line ls)
+run-first P N W rag k n ls = run-nothing P N W rag k n ls ∙ go (first-line ls)
   where
     go : (l : rule.Line) → acts P N W rag k n (rule.start-of l) (other-lines ls) ≡ goes P N W (started n l (other-lines ls)) rag k
     go (rule.set-line x) = refl
-    go (rule.in-line ins) = run-added P N W rag k (suc n) ins (other-lines ls)
+    go (rule.lane-line lane) = run-after-lane P N W rag k (suc n) lane (other-lines ls)
+    go (rule.in-line ins) = run-added P N W rag k (suc n) 0 ins (other-lines ls)
     go rule.flush-line = refl
     go rule.final-line = refl
     go (rule.parallelism-line x) = refl
@@ -108,7 +138,7 @@ run-first P N W rag k n ls = run-none P N W rag k n ls ∙ go (first-line ls)
     go rule.malformed = refl
 
 pub call-runs : {s : List ℕ} {at n : ℕ} {entry read : List ℕ} {r : Next} → NextCall s at n entry read r → (P N W : ℕ) (rag : Bool) (k : Model)
-    → reads P N W n none (lines (drop at s)) rag k ≡ goes P N W (first-as s read r) rag k
+    → reads P N W n nothing (lines (drop at s)) rag k ≡ goes P N W (first-as s read r) rag k
 call-runs {s} {at} {n} c P N W rag k = run-first P N W rag k n (lines (drop at s)) ∙ ap (λ (f : FirstCall). goes P N W f rag k) (c .is)
 
 -- what the rules make of the lines of a job: its outcome, and where its session ends; and the same with its head read
@@ -118,9 +148,9 @@ whole-run ls rag = (run-job ls rag, reached-job ls)
 unfoldable pub opens : Heading → Bool → Outcome × Option Reached
 opens (unsized n) rag = (rule.rejected n refusal.malformed, none)
 opens (sized P N rest) rag = (
-  on-line 2 (verdict (check-open P N job-sizes)) (run-lines P N job-pool 3 none rest rag initial),
+  on-line 2 (verdict (check-open P N job-sizes)) (run-lines P N job-pool 3 nothing rest rag initial),
   elim (eqb (verdict (check-open P N job-sizes)) 0) [
-    | true ↦ some (record { parallelism = P; places = N; model = reached-lines P N job-pool none rest initial })
+    | true ↦ some (record { parallelism = P; places = N; model = reached-lines P N job-pool nothing rest initial })
     | false ↦ none
   ],
 )
@@ -180,30 +210,39 @@ last-agrees P n code o h = go (eqb code 0)
 
 module _ (P N W : ℕ) (rag : Bool) where
   acts-agree : (n : ℕ) (k : Model) (x : Option rule.Start) (ls : List (List ℕ))
-      → ((i : ℕ) (begun : Option (List ℕ)) (q : Model) → Agrees P (reads P N W i begun ls rag q)) → Agrees P (acts P N W rag k n x ls)
+      → ((i : ℕ) (begun : Begun) (q : Model) → Agrees P (reads P N W i begun ls rag q)) → Agrees P (acts P N W rag k n x ls)
   unfolding acts
   acts-agree n k none ls h = refused-agrees P n refusal.malformed k
-  acts-agree n k (some (rule.single c)) ls h = met-agrees P n (answer N W c k) (reads P N W (suc n) none ls rag (step P N W c k)) k (h (suc n) none (step P N W c k))
-  acts-agree n k (some (rule.inputs ins)) ls h = h (suc n) (some ins) k
+  acts-agree n k (some (rule.single c)) ls h = met-agrees P n (answer N W c k) (reads P N W (suc n) nothing ls rag (step P N W c k)) k (h (suc n) nothing (step P N W c k))
+  acts-agree n k (some (rule.label lane)) ls h = h (suc n) (labelled lane) k
+  acts-agree n k (some (rule.inputs ins)) ls h = h (suc n) (reading 0 ins) k
   acts-agree n k (some rule.last) ls h =
       let q = step P N W calls.final k in
       last-agrees P n (answer N W calls.final k) (closing P (suc n) ls rag q, q) (closing-agrees P (suc n) ls rag q)
 
-  after-agrees : (n : ℕ) (k : Model) (ins : List ℕ) (x : Option (List ℕ)) (ls : List (List ℕ))
-      → ((i : ℕ) (begun : Option (List ℕ)) (q : Model) → Agrees P (reads P N W i begun ls rag q)) → Agrees P (acts-after P N W rag k n ins x ls)
+  after-agrees : (n : ℕ) (k : Model) (lane : ℕ) (ins : List ℕ) (x : Option (List ℕ)) (ls : List (List ℕ))
+      → ((i : ℕ) (begun : Begun) (q : Model) → Agrees P (reads P N W i begun ls rag q)) → Agrees P (acts-after P N W rag k n lane ins x ls)
   unfolding acts-after
-  after-agrees n k ins none ls h = refused-agrees P n refusal.malformed k
-  after-agrees n k ins (some outs) ls h =
-      let q = step P N W (calls.add ins outs) k in
-      met-agrees P n (answer N W (calls.add ins outs) k) (reads P N W (suc n) none ls rag q) k (h (suc n) none q)
+  after-agrees n k lane ins none ls h = refused-agrees P n refusal.malformed k
+  after-agrees n k lane ins (some outs) ls h =
+      let q = step P N W (calls.add lane ins outs) k in
+      met-agrees P n (answer N W (calls.add lane ins outs) k) (reads P N W (suc n) nothing ls rag q) k (h (suc n) nothing q)
 
-  lines-agree : (ls : List (List ℕ)) (n : ℕ) (begun : Option (List ℕ)) (k : Model) → Agrees P (reads P N W n begun ls rag k)
+  labelled-agrees : (n : ℕ) (k : Model) (lane : ℕ) (x : Option (List ℕ)) (ls : List (List ℕ))
+      → ((i : ℕ) (begun : Begun) (q : Model) → Agrees P (reads P N W i begun ls rag q)) → Agrees P (acts-labelled P N W rag k n lane x ls)
+  unfolding acts-labelled
+  labelled-agrees n k lane none ls h = refused-agrees P n refusal.malformed k
+  labelled-agrees n k lane (some ins) ls h = h (suc n) (reading lane ins) k
+
+  lines-agree : (ls : List (List ℕ)) (n : ℕ) (begun : Begun) (k : Model) → Agrees P (reads P N W n begun ls rag k)
   unfolding run-lines reached-lines first-line other-lines
   lines-agree [] n begun k = refused-agrees P n refusal.malformed k
-  lines-agree (l ∷ ls) n none k =
-      subst (λ (o : Run). Agrees P o) (sym (run-none P N W rag k n (l ∷ ls))) (acts-agree n k (rule.start-of (rule.line-of l)) ls (lines-agree ls))
-  lines-agree (l ∷ ls) n (some ins) k =
-      subst (λ (o : Run). Agrees P o) (sym (run-some P N W rag k n ins (l ∷ ls))) (after-agrees n k ins (rule.outputs-of (rule.line-of l)) ls (lines-agree ls))
+  lines-agree (l ∷ ls) n nothing k =
+      subst (λ (o : Run). Agrees P o) (sym (run-nothing P N W rag k n (l ∷ ls))) (acts-agree n k (rule.start-of (rule.line-of l)) ls (lines-agree ls))
+  lines-agree (l ∷ ls) n (labelled lane) k =
+      subst (λ (o : Run). Agrees P o) (sym (run-labelled P N W rag k n lane (l ∷ ls))) (labelled-agrees n k lane (rule.inputs-of (rule.line-of l)) ls (lines-agree ls))
+  lines-agree (l ∷ ls) n (reading lane ins) k =
+      subst (λ (o : Run). Agrees P o) (sym (run-reading P N W rag k n lane ins (l ∷ ls))) (after-agrees n k lane ins (rule.outputs-of (rule.line-of l)) ls (lines-agree ls))
 
 abbrev Reaches : Outcome × Option Reached → Type 0
 Reaches o = (P : ℕ) (m : Model) → o .0 ≡ rule.finished P m → (N : ℕ) × (o .1 ≡ some (record { parallelism = P; places = N; model = m }))
@@ -218,13 +257,13 @@ opens-reach (sized P N rest) rag = go (eqb (verdict (check-open P N job-sizes)) 
   where
     go : (b : Bool)
         → Reaches (
-          elim b [ true ↦ run-lines P N job-pool 3 none rest rag initial | false ↦ rule.rejected 2 (verdict (check-open P N job-sizes)) ],
-          elim b [ true ↦ some (record { parallelism = P; places = N; model = reached-lines P N job-pool none rest initial }) | false ↦ none ],
+          elim b [ true ↦ run-lines P N job-pool 3 nothing rest rag initial | false ↦ rule.rejected 2 (verdict (check-open P N job-sizes)) ],
+          elim b [ true ↦ some (record { parallelism = P; places = N; model = reached-lines P N job-pool nothing rest initial }) | false ↦ none ],
         )
     go true Q m e =
-        let a = lines-agree P N job-pool rag rest 3 none initial Q m e in (
+        let a = lines-agree P N job-pool rag rest 3 nothing initial Q m e in (
           N,
-          ap (λ (i : ℕ). some (record { parallelism = i; places = N; model = reached-lines P N job-pool none rest initial })) (sym (a .0))
+          ap (λ (i : ℕ). some (record { parallelism = i; places = N; model = reached-lines P N job-pool nothing rest initial })) (sym (a .0))
               ∙ ap (λ (y : Model). some (record { parallelism = Q; places = N; model = y })) (a .1),
         )
     go false Q m e = refused-reaches 2 (verdict (check-open P N job-sizes)) Q m e

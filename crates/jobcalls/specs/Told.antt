@@ -48,15 +48,20 @@ pub data FirstCall : Type 0 where
   malformed : ℕ → FirstCall
 
 -- line n, which is l, must be the `out=` line of an add
-unfoldable pub added : ℕ → List ℕ → rule.Line → List (List ℕ) → FirstCall
-added n ins l rest = elim (rule.outputs-of l) [ some outs ↦ found (calls.add ins outs) n rest | none ↦ malformed n ]
+unfoldable pub added : ℕ → ℕ → List ℕ → rule.Line → List (List ℕ) → FirstCall
+added n lane ins l rest = elim (rule.outputs-of l) [ some outs ↦ found (calls.add lane ins outs) n rest | none ↦ malformed n ]
+
+-- line n, which is l, must be the `in=` line of an add that has a lane line
+unfoldable pub after-lane : ℕ → ℕ → rule.Line → List (List ℕ) → FirstCall
+after-lane n lane l rest = elim (rule.inputs-of l) [ some ins ↦ added (suc n) lane ins (first-line rest) (other-lines rest) | none ↦ malformed n ]
 
 -- a call must start with line n, which is l
 unfoldable pub started : ℕ → rule.Line → List (List ℕ) → FirstCall
 started n l rest =
     elim (rule.start-of l) [
       | some (rule.single c) ↦ found c n rest
-      | some (rule.inputs ins) ↦ added (suc n) ins (first-line rest) (other-lines rest)
+      | some (rule.label lane) ↦ after-lane (suc n) lane (first-line rest) (other-lines rest)
+      | some (rule.inputs ins) ↦ added (suc n) 0 ins (first-line rest) (other-lines rest)
       | some rule.last ↦ found calls.final n rest
       | none ↦ malformed n
     ]
@@ -67,12 +72,12 @@ first-call n ls = started n (first-line ls) (other-lines ls)
 -- the call that the code's tells, the numbers of its lists standing at the start of `read`, and how many they are
 abbrev pub call-of : Call → List ℕ → calls.Call
 call-of (call.Set x) read = calls.set x
-call-of (call.Add i o) read = calls.add (take i read) (take o (drop i read))
+call-of (call.Add lane i o) read = calls.add lane (take i read) (take o (drop i read))
 call-of call.Flush read = calls.flush
 
 abbrev pub taken-by : Call → ℕ
 taken-by (call.Set x) = 0
-taken-by (call.Add i o) = i + o
+taken-by (call.Add lane i o) = i + o
 taken-by call.Flush = 0
 
 -- the first call that an answer tells
@@ -106,6 +111,18 @@ pub record NextCall (s : List ℕ) (at n : ℕ) (entry read : List ℕ) (r : Nex
   pub next : follows s at n r
   pub into : keeps r entry read
   pub into-beyond : drop (length s / 2) read ≡ drop (length s / 2) entry
+
+-- the lines at `at`, from line n on, begin an add: its lane is read, and its i inputs, which stand at the start of storage; its `out=` line
+-- must be line m, at `after`; each line has a byte, and each number of a list two
+pub record Begins (s : List ℕ) (at n : ℕ) (entry read : List ℕ) (lane i m after : ℕ) : Type 0 where
+  pub is : first-call n (lines (drop at s)) ≡ added m lane (take i read) (first-line (lines (drop after s))) (other-lines (lines (drop after s)))
+  pub end : ragged (drop after s) ≡ ragged (drop at s)
+  pub past : at + 2 * i + m ≤ after + n
+  pub into-past : drop i read ≡ drop i entry
+
+-- the last line of an add was read, line m at `after`: so was the call, wherever its lines begin
+abbrev pub AddRead : List ℕ → ℕ → ℕ → ℕ → ℕ → List ℕ → List ℕ → Next → Type 0
+AddRead s after m lane i mid read r = (at n : ℕ) (entry : List ℕ) → Begins s at n entry mid lane i m after → NextCall s at n entry read r
 
 -- the head of some lines: P, V and the lines after it, or the line of it that is missing or malformed
 pub data Heading : Type 0 where

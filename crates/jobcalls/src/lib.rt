@@ -1,7 +1,7 @@
 // The calls of a job, read line by line: the two lines of its head, then one call after another, each from the place after the one before.
 ghost use Prim.Native.Nat.{_+_, _*_, _≤_};
 ghost use lib.ListN.{length};
-ghost use Rattle.jobcalls.specs.Told.{LineAt, NextCall, HeadRead};
+ghost use Rattle.jobcalls.specs.Told.{LineAt, AddRead, NextCall, HeadRead};
 use jobline::Line;
 
 // A line, and the place after it. A missing line is malformed, and the place is where it was looked for.
@@ -31,8 +31,14 @@ pub fn line_at(job: &[u8], at: usize, into: &mut [u64], off: usize) -> Got
 
 // A call that others may follow. The numbers of an add's lists stand in storage, the inputs first, the outputs behind them.
 pub enum Call {
-    Set { place: u64 },
-    Add { inputs: usize, outputs: usize },
+    Set {
+        place: u64,
+    },
+    Add {
+        lane: u64,
+        inputs: usize,
+        outputs: usize,
+    },
     Flush,
 }
 
@@ -42,6 +48,32 @@ pub enum Next {
     Call { call: Call, line: u64, next: usize },
     Final { line: u64, next: usize },
     Malformed { line: u64 },
+}
+
+// Reads the last line of an add, which is `line`, at `at`. Its lane is known, and its inputs stand at the start of `into`.
+fn read_outputs(
+    job: &[u8],
+    at: usize,
+    line: u64,
+    lane: u64,
+    inputs: usize,
+    into: &mut [u64],
+) -> Next
+    requires { ⌜ (at ≤ length (now job)) × ((2 * inputs ≤ at) × (length (now job) ≤ 2 * length (now into))) ⌝ }
+    ensures { λ r. ⌜ AddRead (now (job .entry)) at line lane inputs (now (into .entry)) (now (into .exit)) r ⌝ }
+{
+    let a = line_at(job, at, into, inputs);
+    let l = a.line;
+    let next = a.next;
+    let Line::Outputs(outputs) = l else {
+        return Next::Malformed { line };
+    };
+    let call = Call::Add {
+        lane,
+        inputs,
+        outputs,
+    };
+    Next::Call { call, line, next }
 }
 
 // Reads the call whose first line is `line`, at `at`.
@@ -57,21 +89,17 @@ pub fn next_call(job: &[u8], at: usize, line: u64, into: &mut [u64]) -> Next
             let call = Call::Set { place };
             Next::Call { call, line, next }
         }
-        Line::Inputs(inputs) => {
-            let b = line_at(job, next, into, inputs);
+        Line::Lane(lane) => {
+            let b = line_at(job, next, into, 0);
             let m = b.line;
+            let after = b.next;
             let second = line + 1;
-            let Line::Outputs(outputs) = m else {
+            let Line::Inputs(inputs) = m else {
                 return Next::Malformed { line: second };
             };
-            let call = Call::Add { inputs, outputs };
-            let next = b.next;
-            Next::Call {
-                call,
-                line: second,
-                next,
-            }
+            read_outputs(job, after, line + 2, lane, inputs, into)
         }
+        Line::Inputs(inputs) => read_outputs(job, next, line + 1, 0, inputs, into),
         Line::Flush => {
             let call = Call::Flush;
             Next::Call { call, line, next }

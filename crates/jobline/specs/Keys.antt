@@ -11,10 +11,10 @@ use lib.ListN.{length, getD, drop, length-drop, drop-of-length-le}
 use lib.Seq.{drop-cons}
 use lib.Dec.{eqb}
 use borrow.Author.Tests.{eq-eqb, ne-eqb, eqb-true}
-use Rattle.rules.specs.Job.{Line, parallelism-line, places-line, set-line, in-line, out-line, flush-line, final-line, malformed, number, list, with-number, with-list, whole}
-use Rattle.rules.specs.Job.{after-key, key-or, line-of, key-parallelism, key-places, key-set, key-in, key-out, flush-text, final-text}
+use Rattle.rules.specs.Job.{Line, parallelism-line, places-line, set-line, lane-line, in-line, out-line, flush-line, final-line, malformed, number, list, with-number, with-list, whole}
+use Rattle.rules.specs.Job.{after-key, key-or, line-of, key-parallelism, key-places, key-set, key-lane, key-in, key-out, flush-text, final-text}
 use Rattle.jobtext.specs.Pieces.{bool}
-use Rattle.jobline.specs.Lines.{is-some, begins}
+use Rattle.jobline.specs.Lines.{is-some, begins, NoAdd}
 
 -- the bytes from i on of both
 module _ (ks s : List ℕ) (i : ℕ) (a : i < length ks) where
@@ -82,18 +82,35 @@ pub record Itemized (k : ℕ) (f : List ℕ → Line) (s : List ℕ) : Type 0 wh
   pub within : k ≤ length s
 
 module _ (s : List ℕ) where
+  pub lane-key : begins key-lane s ≡ true → Numbered (length key-lane) lane-line s
+  unfolding line-of key-or differ
+  lane-key y =
+      let j = key-some key-lane s y in
+      record { says = sym (rw (line-of, apart key-lane key-parallelism s refl y, apart key-lane key-places s refl y, apart key-lane key-set s refl y, j .0)); within = j .1 }
+
   pub inputs-line : begins key-in s ≡ true → Itemized (length key-in) in-line s
   unfolding line-of key-or differ
   inputs-line y =
       let j = key-some key-in s y in
-      record { says = sym (rw (line-of, apart key-in key-parallelism s refl y, apart key-in key-places s refl y, apart key-in key-set s refl y, j .0)); within = j .1 }
+      record {
+        says = sym (rw (line-of, apart key-in key-parallelism s refl y, apart key-in key-places s refl y, apart key-in key-set s refl y, apart key-in key-lane s refl y, j .0));
+        within = j .1;
+      }
 
   pub outputs-line : begins key-out s ≡ true → Itemized (length key-out) out-line s
   unfolding line-of key-or differ
   outputs-line y =
       let j = key-some key-out s y in
       record {
-        says = sym (rw (line-of, apart key-out key-parallelism s refl y, apart key-out key-places s refl y, apart key-out key-set s refl y, apart key-out key-in s refl y, j .0));
+        says = sym (rw (
+          line-of,
+          apart key-out key-parallelism s refl y,
+          apart key-out key-places s refl y,
+          apart key-out key-set s refl y,
+          apart key-out key-lane s refl y,
+          apart key-out key-in s refl y,
+          j .0,
+        ));
         within = j .1;
       }
 
@@ -114,10 +131,19 @@ module _ (s : List ℕ) where
           record { says = sym (rw (line-of, key-none key-parallelism s n₁, key-none key-places s n₂, j .0)); within = j .1 }
 
       -- a line without a number and without a list
-      module _ (n₃ : begins key-set s ≡ false) (n₄ : begins key-in s ≡ false) (n₅ : begins key-out s ≡ false) where
+      module _ (n₃ : begins key-set s ≡ false) (no : NoAdd s) where
         alone : line-of s ≡ key-or (after-key flush-text s) (whole flush-line) (key-or (after-key final-text s) (whole final-line) malformed)
         unfolding line-of key-or
-        alone = rw (line-of, key-none key-parallelism s n₁, key-none key-places s n₂, key-none key-set s n₃, key-none key-in s n₄, key-none key-out s n₅)
+        alone =
+            rw (
+              line-of,
+              key-none key-parallelism s n₁,
+              key-none key-places s n₂,
+              key-none key-set s n₃,
+              key-none key-lane s (no .no-lane),
+              key-none key-in s (no .no-in),
+              key-none key-out s (no .no-out),
+            )
 
         -- a key as long as these two is the line, or something follows it
         ends : (ks : List ℕ) → length ks ≡ length flush-text → length s ≡ length flush-text → begins ks s ≡ true → after-key ks s ≡ some []
@@ -145,11 +171,11 @@ module _ (s : List ℕ) where
           unfolding key-or whole
           flush-key y = sym (alone ∙ rw (ends flush-text refl q y))
 
-          module _ (n₆ : begins flush-text s ≡ false) where
+          module _ (n₄ : begins flush-text s ≡ false) where
             pub final-key : begins final-text s ≡ true → final-line ≡ line-of s
             unfolding key-or whole
-            final-key y = sym (alone ∙ rw (key-none flush-text s n₆, ends final-text refl q y))
+            final-key y = sym (alone ∙ rw (key-none flush-text s n₄, ends final-text refl q y))
 
             pub no-key : begins final-text s ≡ false → malformed ≡ line-of s
             unfolding key-or
-            no-key n₇ = sym (alone ∙ rw (key-none flush-text s n₆, key-none final-text s n₇))
+            no-key n₅ = sym (alone ∙ rw (key-none flush-text s n₄, key-none final-text s n₅))

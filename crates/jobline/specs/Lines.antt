@@ -17,11 +17,18 @@ is-some (some l) = true
 unfoldable pub begins : List ℕ → List ℕ → Bool
 begins ks s = is-some (rule.after-key ks s)
 
+-- the line s starts with no key of an add's lines
+pub record NoAdd (s : List ℕ) : Type 0 where
+  pub no-lane : begins rule.key-lane s ≡ false
+  pub no-in : begins rule.key-in s ≡ false
+  pub no-out : begins rule.key-out s ≡ false
+
 -- the line that an answer tells, the numbers of its list standing at the start of `read`
 abbrev pub line-as : Line → List ℕ → rule.Line
 line-as (line.Parallelism n) read = rule.parallelism-line n
 line-as (line.Places n) read = rule.places-line n
 line-as (line.Set n) read = rule.set-line n
+line-as (line.Lane n) read = rule.lane-line n
 line-as (line.Inputs n) read = rule.in-line (take n read)
 line-as (line.Outputs n) read = rule.out-line (take n read)
 line-as line.Flush read = rule.flush-line
@@ -33,6 +40,7 @@ abbrev pub listed : Line → ℕ
 listed (line.Parallelism n) = 0
 listed (line.Places n) = 0
 listed (line.Set n) = 0
+listed (line.Lane n) = 0
 listed (line.Inputs n) = n
 listed (line.Outputs n) = n
 listed line.Flush = 0

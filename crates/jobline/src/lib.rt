@@ -1,10 +1,8 @@
 // The lines of a job: what a line says.
-ghost use mathlib.Core.Bool.{false};
 ghost use mathlib.Core.Path.{_≡_};
 ghost use Prim.Native.Nat.{_+_, _*_, _<_};
 ghost use lib.ListN.{length};
-ghost use Rattle.rules.specs.Job.{key-in, key-out};
-ghost use Rattle.jobline.specs.Lines.{begins, PlainRead, LineRead};
+ghost use Rattle.jobline.specs.Lines.{begins, NoAdd, PlainRead, LineRead};
 use jobtext::Items;
 use jobtext::Number;
 
@@ -14,6 +12,8 @@ const PARALLELISM_KEY: usize = 12;
 const PLACES_KEY: usize = 7;
 
 const SET_KEY: usize = 4;
+
+const LANE_KEY: usize = 5;
 
 const IN_KEY: usize = 3;
 
@@ -43,6 +43,7 @@ pub enum Line {
     Parallelism(u64),
     Places(u64),
     Set(u64),
+    Lane(u64),
     Inputs(usize),
     Outputs(usize),
     Flush,
@@ -50,9 +51,9 @@ pub enum Line {
     Malformed,
 }
 
-// Reads a line that has no list.
+// Reads a line that is none of an add's.
 fn read_plain(s: &[u8]) -> Line
-    requires { ⌜ (begins key-in (now s) ≡ false) × (begins key-out (now s) ≡ false) ⌝ }
+    requires { ⌜ NoAdd (now s) ⌝ }
     ensures { λ r. ⌜ PlainRead (now (s .entry)) r ⌝ }
 {
     if starts(s, b"parallelism=") {
@@ -105,6 +106,13 @@ pub fn read_line(s: &[u8], into: &mut [u64], off: usize) -> Line
             return Line::Malformed;
         };
         return Line::Outputs(n);
+    }
+    if starts(s, b"lane=") {
+        let x = jobtext::read_number(&s[LANE_KEY..]);
+        let Number::Value(n) = x else {
+            return Line::Malformed;
+        };
+        return Line::Lane(n);
     }
     read_plain(s)
 }

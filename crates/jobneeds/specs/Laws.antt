@@ -13,7 +13,7 @@ use Rattle.rules.specs.Limits.{most-job-bytes, reply-radix}
 use Rattle.rules.specs.Refusals as refusal
 use Rattle.rules.specs.Calls as calls
 use Rattle.rules.specs.Job as job-rule
-use Rattle.rules.specs.Job.{lines, ragged}
+use Rattle.rules.specs.Job.{nothing, labelled, reading, lines, ragged}
 use Rattle.rules.specs.Needs as rule
 use Rattle.rules.specs.Needs.{no-needs, with-call, ending, need-lines, need-places, need-job, needs}
 use Rattle.laws.specs.NeedsProof.{needed}
@@ -23,7 +23,7 @@ use Rattle.jobcalls.specs.declared.Next.{Next}
 use Rattle.jobcalls.specs.declared.Next.the-variants as next
 use Rattle.jobcalls.specs.declared.Head.{Head}
 use Rattle.jobcalls.specs.declared.Head.the-variants as head
-use Rattle.jobcalls.specs.Told.{first-line, other-lines, FirstCall, found, malformed, added, started, first-call, call-of, taken-by, first-as, NextCall}
+use Rattle.jobcalls.specs.Told.{first-line, other-lines, FirstCall, found, malformed, added, after-lane, started, first-call, call-of, taken-by, first-as, NextCall}
 use Rattle.jobcalls.specs.Told.{Heading, sized, unsized, heading-2, heading-1, heading, heading-as, HeadRead}
 use Rattle.jobcalls.specs.Laws.{SomeLeft, none-left, some-left, line-of, line-near}
 use Rattle.jobneeds.specs.declared.Needs.{Needs}
@@ -35,29 +35,41 @@ use Rattle.jobneeds.specs.Layout.{needs-numbers, needs-result, needs-aft
 -- what the first call tells of the needs
 unfoldable goes : FirstCall → Bool → rule.Needs → rule.Reading
 goes (malformed n) rag c = rule.unread n refusal.malformed
-goes (found (calls.set x) n rest) rag c = need-lines (suc n) none rest rag (with-call (calls.set x) c)
-goes (found (calls.add ins outs) n rest) rag c = need-lines (suc n) none rest rag (with-call (calls.add ins outs) c)
-goes (found calls.flush n rest) rag c = need-lines (suc n) none rest rag (with-call calls.flush c)
+goes (found (calls.set x) n rest) rag c = need-lines (suc n) nothing rest rag (with-call (calls.set x) c)
+goes (found (calls.add lane ins outs) n rest) rag c = need-lines (suc n) nothing rest rag (with-call (calls.add lane ins outs) c)
+goes (found calls.flush n rest) rag c = need-lines (suc n) nothing rest rag (with-call calls.flush c)
 goes (found calls.final n rest) rag c = ending (suc n) rest rag (with-call calls.final c)
 
 module _ (rag : Bool) (c : rule.Needs) where
-  need-added : (n : ℕ) (ins : List ℕ) (ls : List (List ℕ)) → need-lines n (some ins) ls rag c ≡ goes (added n ins (first-line ls) (other-lines ls)) rag c
+  need-added : (n lane : ℕ) (ins : List ℕ) (ls : List (List ℕ)) → need-lines n (reading lane ins) ls rag c ≡ goes (added n lane ins (first-line ls) (other-lines ls)) rag c
   unfolding need-lines added first-line other-lines goes
-  need-added n ins [] = refl
-  need-added n ins (l ∷ ls) = go (job-rule.outputs-of (job-rule.line-of l)) refl
+  need-added n lane ins [] = refl
+  need-added n lane ins (l ∷ ls) = go (job-rule.outputs-of (job-rule.line-of l)) refl
     where
-      go : (x : Option (List ℕ)) → job-rule.outputs-of (job-rule.line-of l) ≡ x → need-lines n (some ins) (l ∷ ls) rag c ≡ goes (added n ins (job-rule.line-of l) ls) rag c
+      go : (x : Option (List ℕ)) → job-rule.outputs-of (job-rule.line-of l) ≡ x
+          → need-lines n (reading lane ins) (l ∷ ls) rag c ≡ goes (added n lane ins (job-rule.line-of l) ls) rag c
       go none e = rw (need-lines, added, e)
       go (some outs) e = rw (need-lines, added, e)
 
-  need-first : (n : ℕ) (ls : List (List ℕ)) → need-lines n none ls rag c ≡ goes (first-call n ls) rag c
+  need-after-lane : (n lane : ℕ) (ls : List (List ℕ)) → need-lines n (labelled lane) ls rag c ≡ goes (after-lane n lane (first-line ls) (other-lines ls)) rag c
+  unfolding need-lines after-lane first-line other-lines goes
+  need-after-lane n lane [] = refl
+  need-after-lane n lane (l ∷ ls) = go (job-rule.inputs-of (job-rule.line-of l)) refl
+    where
+      go : (x : Option (List ℕ)) → job-rule.inputs-of (job-rule.line-of l) ≡ x
+          → need-lines n (labelled lane) (l ∷ ls) rag c ≡ goes (after-lane n lane (job-rule.line-of l) ls) rag c
+      go none e = rw (need-lines, after-lane, e)
+      go (some ins) e = rw (need-lines, after-lane, e) (need-added (suc n) lane ins ls)
+
+  need-first : (n : ℕ) (ls : List (List ℕ)) → need-lines n nothing ls rag c ≡ goes (first-call n ls) rag c
   unfolding need-lines first-call started first-line other-lines goes
   need-first n [] = refl
   need-first n (l ∷ ls) = go (job-rule.line-of l) refl
     where
-      go : (x : job-rule.Line) → job-rule.line-of l ≡ x → need-lines n none (l ∷ ls) rag c ≡ goes (started n (job-rule.line-of l) ls) rag c
+      go : (x : job-rule.Line) → job-rule.line-of l ≡ x → need-lines n nothing (l ∷ ls) rag c ≡ goes (started n (job-rule.line-of l) ls) rag c
       go (job-rule.set-line x) e = rw (need-lines, started, e)
-      go (job-rule.in-line ins) e = rw (need-lines, started, e) (need-added (suc n) ins ls)
+      go (job-rule.lane-line lane) e = rw (need-lines, started, e) (need-after-lane (suc n) lane ls)
+      go (job-rule.in-line ins) e = rw (need-lines, started, e) (need-added (suc n) 0 ins ls)
       go job-rule.flush-line e = rw (need-lines, started, e)
       go job-rule.final-line e = rw (need-lines, started, e)
       go (job-rule.parallelism-line x) e = rw (need-lines, started, e)
@@ -92,10 +104,10 @@ counting-begins m = record { inside = m .inside; low = omega arith; few = omega 
 
 -- one call more
 need-on : (x : Call) (read : List ℕ) (m : ℕ) (rest : List (List ℕ)) (rag : Bool) (c : rule.Needs)
-    → goes (found (call-of x read) m rest) rag c ≡ need-lines (suc m) none rest rag (with-call (call-of x read) c)
+    → goes (found (call-of x read) m rest) rag c ≡ need-lines (suc m) nothing rest rag (with-call (call-of x read) c)
 unfolding goes
 need-on (call.Set x) read m rest rag c = refl
-need-on (call.Add i o) read m rest rag c = refl
+need-on (call.Add lane i o) read m rest rag c = refl
 need-on call.Flush read m rest rag c = refl
 
 -- a call counted, by what it is
@@ -104,14 +116,14 @@ module _ (c : Needs) {x : Call} where
   unfolding with-call
   counts-set place e = subst (λ (y : Call). Counts c y c) (sym e) (λ read h. refl)
 
-  pub lists-fit : (i o : ℕ) → x ≡ call.Add i o → Countable c x → c .pool + (i + o) < 2 ^ 64
-  lists-fit i o e m = omega (arith, m .pool, ap taken-by e)
+  pub lists-fit : (lane i o : ℕ) → x ≡ call.Add lane i o → Countable c x → c .pool + (i + o) < 2 ^ 64
+  lists-fit lane i o e m = omega (arith, m .pool, ap taken-by e)
 
-  pub counts-add : (i o : ℕ) → x ≡ call.Add i o → Counts c x (record { registrations = c .registrations + 1; pool = c .pool + (i + o); flushes = c .flushes })
+  pub counts-add : (lane i o : ℕ) → x ≡ call.Add lane i o → Counts c x (record { registrations = c .registrations + 1; pool = c .pool + (i + o); flushes = c .flushes })
   unfolding with-call
-  counts-add i o e = subst (λ (y : Call). Counts c y (record { registrations = c .registrations + 1; pool = c .pool + (i + o); flushes = c .flushes })) (sym e) added-is
+  counts-add lane i o e = subst (λ (y : Call). Counts c y (record { registrations = c .registrations + 1; pool = c .pool + (i + o); flushes = c .flushes })) (sym e) added-is
     where
-      added-is : Counts c (call.Add i o) (record { registrations = c .registrations + 1; pool = c .pool + (i + o); flushes = c .flushes })
+      added-is : Counts c (call.Add lane i o) (record { registrations = c .registrations + 1; pool = c .pool + (i + o); flushes = c .flushes })
       added-is read h =
           let p : length (take i read) ≡ i = rw (length-take i read) (omega arith) in
           let q : length (take o (drop i read)) ≡ o = rw (length-take o (drop i read), length-drop i read) (omega arith) in
@@ -127,14 +139,14 @@ module _ (c : Needs) {x : Call} where
 raised-few : (x : calls.Call) (c : rule.Needs) → with-call x c .registrations + with-call x c .flushes ≤ c .registrations + c .flushes + 1
 unfolding with-call
 raised-few (calls.set x) c = omega arith
-raised-few (calls.add ins outs) c = omega arith
+raised-few (calls.add lane ins outs) c = omega arith
 raised-few calls.flush c = omega arith
 raised-few calls.final c = omega arith
 
 raised-small : (x : Call) (read : List ℕ) (c : rule.Needs) → with-call (call-of x read) c .pool ≤ c .pool + taken-by x
 unfolding with-call
 raised-small (call.Set x) read c = omega arith
-raised-small (call.Add i o) read c = omega (arith, length-take i read, length-take o (drop i read))
+raised-small (call.Add lane i o) read c = omega (arith, length-take i read, length-take o (drop i read))
 raised-small call.Flush read c = omega arith
 
 module _ {job entry read : List ℕ} {start room at n : ℕ} {c : Needs} (M : MayRead job room start) (C : Counting job start at n c) where
@@ -190,15 +202,15 @@ module _ {job entry read : List ℕ} {start room at n : ℕ} {c : Needs} (M : Ma
           few = omega (arith, falls, C .few, ap (λ (y : rule.Needs). y .registrations + y .flushes) p, raised-few (call-of x read) (needs-of c));
           small = omega (arith, falls, C .small, ap (λ (y : rule.Needs). y .pool) p, raised-small x read (needs-of c), d .into .0, M .room-is, same);
           is = begins d ∙ need-on x read m (lines (drop after job)) (ragged (drop at job)) (needs-of c)
-              ∙ ap (λ (b : Bool). need-lines (suc m) none (lines (drop after job)) b (with-call (call-of x read) (needs-of c))) (sym (d .next .end))
-              ∙ ap (λ (y : rule.Needs). need-lines (suc m) none (lines (drop after job)) (ragged (drop after job)) y) (sym p)
-              ∙ ap (λ (i : ℕ). need-lines i none (lines (drop after job)) (ragged (drop after job)) (needs-of c′)) (sym (add-one m));
+              ∙ ap (λ (b : Bool). need-lines (suc m) nothing (lines (drop after job)) b (with-call (call-of x read) (needs-of c))) (sym (d .next .end))
+              ∙ ap (λ (y : rule.Needs). need-lines (suc m) nothing (lines (drop after job)) (ragged (drop after job)) y) (sym p)
+              ∙ ap (λ (i : ℕ). need-lines i nothing (lines (drop after job)) (ragged (drop after job)) (needs-of c′)) (sym (add-one m));
         }
 
 -- the needs of a job are told by its head
 unfoldable from-head : Heading → Bool → rule.Reading
 from-head (unsized n) rag = rule.unread n refusal.malformed
-from-head (sized P N rest) rag = need-lines 3 none rest rag no-needs
+from-head (sized P N rest) rag = need-lines 3 nothing rest rag no-needs
 
 need-line-2 : (P : ℕ) (ls : List (List ℕ)) (rag : Bool) → need-places ls rag ≡ from-head (heading-2 P (first-line ls) (other-lines ls)) rag
 unfolding need-places heading-2 first-line other-lines from-head
@@ -241,7 +253,7 @@ module _ {job entry exit : List ℕ} (short : length job ≤ most-job-bytes) {h 
     pub told-read : (x : Reading) → reading-as x ≡ remains job start 3 no-needs → reading-as x ≡ needs job
     unfolding from-head remains
     told-read x u =
-        u ∙ ap (λ (b : Bool). need-lines 3 none (lines (drop start job)) b no-needs) (sized-head .starts .1 .1)
+        u ∙ ap (λ (b : Bool). need-lines 3 nothing (lines (drop start job)) b no-needs) (sized-head .starts .1 .1)
         ∙ sym (by-heading ∙ ap (λ (y : Heading). from-head y (ragged job)) (sized-head .is))
 
 -- what was read, in the host's numbers

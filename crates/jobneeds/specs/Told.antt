@@ -1,11 +1,10 @@
 -- What reading a job's needs promises, by the rules' reading of its bytes (rules, Needs). Definitions only. Assumes nothing.
 use mathlib.Core.List.{List}
-use mathlib.Core.Option.{none}
 use mathlib.Core.Path.{_≡_}
 use Prim.Native.Nat.{ℕ, _+_, _/_, _^_, _≤_, _<_}
 use lib.ListN.{length, drop}
 use Rattle.rules.specs.Limits.{most-job-bytes}
-use Rattle.rules.specs.Job.{lines, ragged}
+use Rattle.rules.specs.Job.{nothing, lines, ragged}
 use Rattle.rules.specs.Needs as rule
 use Rattle.jobcalls.specs.declared.Call.{Call}
 use Rattle.jobcalls.specs.Told.{call-of, taken-by}
@@ -37,7 +36,7 @@ Few c = c .registrations + c .flushes ≤ most-job-bytes
 
 -- what is left of the job from `at` on, which is line n, c being the needs before it
 unfoldable pub remains : List ℕ → ℕ → ℕ → rule.Needs → rule.Reading
-remains job at n c = rule.need-lines n none (lines (drop at job)) (ragged (drop at job)) c
+remains job at n c = rule.need-lines n nothing (lines (drop at job)) (ragged (drop at job)) c
 
 -- the calls can be read from `start` on, with room for the numbers of a list
 pub record MayRead (job : List ℕ) (room start : ℕ) : Type 0 where

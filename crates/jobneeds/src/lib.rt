@@ -33,7 +33,11 @@ fn count(c: Needs, call: Call) -> Needs
 {
     match call {
         Call::Set { .. } => c,
-        Call::Add { inputs, outputs } => {
+        Call::Add {
+            inputs,
+            outputs,
+            ..
+        } => {
             let numbers = inputs + outputs;
             Needs {
                 registrations: c.registrations + 1,

@@ -3,7 +3,6 @@ use mathlib.Core.Bool.{Bool}
 use mathlib.Core.List.{List}
 use mathlib.Core.Logic.{_⊎_, inl, inr}
 use mathlib.Core.Path.{_≡_, refl, sym, ap, _∙_, subst}
-use mathlib.Core.Option.{none}
 use Prim.Native.Nat.{ℕ, zero, suc, _+_, _-_, _/_, _≤_}
 use native.Mathlib.Decide.{decLt}
 use native.Mathlib.Nat.{suc-ne-zero}
@@ -14,7 +13,7 @@ use borrow.Author.Tests.{eq-eqb, ne-eqb}
 use Rattle.rules.specs.Model.{Model}
 use Rattle.rules.specs.Calls as calls
 use Rattle.rules.specs.Calls.{answer, step}
-use Rattle.rules.specs.Job.{Outcome, finished, rejected, lines, ragged, on-line, closing}
+use Rattle.rules.specs.Job.{nothing, Outcome, finished, rejected, lines, ragged, on-line, closing}
 use Rattle.rules.specs.Record.{summary}
 use Rattle.rules.specs.Refusals as refusal
 use Rattle.rules.specs.Summary as rule
@@ -30,7 +29,7 @@ use Rattle.jobcalls.specs.declared.Call.the-variants as call
 use Rattle.jobcalls.specs.declared.Next.{Next}
 use Rattle.jobcalls.specs.declared.Next.the-variants as next
 use Rattle.jobcalls.specs.Told.{call-of, taken-by, FirstCall, found, first-as, NextCall}
-use Rattle.jobcalls.specs.Laws.{SomeLeft, none-left, some-left, line-of, line-near}
+use Rattle.jobcalls.specs.Laws.{SomeLeft, none-left, some-left, line-of, Near, line-near}
 use Rattle.jobcalls.specs.Runs.{reads, makes, goes, call-runs}
 use Rattle.jobturn.specs.declared.End.the-variants as end
 use Rattle.jobturn.specs.declared.Step.{Step}
@@ -56,22 +55,22 @@ module _ (P N W m : ℕ) (rest : List (List ℕ)) (rag : Bool) (k : Model) where
   unfolding on-line
   makes-refused c h = rw (on-line, ne-eqb (answer N W c k) 0 h)
 
-  makes-on : (c : calls.Call) → answer N W c k ≡ 0 → makes P N W m c rest rag k ≡ reads P N W (suc m) none rest rag (step P N W c k)
+  makes-on : (c : calls.Call) → answer N W c k ≡ 0 → makes P N W m c rest rag k ≡ reads P N W (suc m) nothing rest rag (step P N W c k)
   unfolding on-line
   makes-on c h = rw (on-line, eq-eqb (answer N W c k) 0 h)
 
   goes-refused : (c : calls.Call) → (answer N W c k ≡ 0 → ⊥) → goes P N W (found c m rest) rag k ≡ (rejected m (answer N W c k), k)
   unfolding goes on-line
   goes-refused (calls.set x) h = makes-refused (calls.set x) h
-  goes-refused (calls.add i o) h = makes-refused (calls.add i o) h
+  goes-refused (calls.add l i o) h = makes-refused (calls.add l i o) h
   goes-refused calls.flush h = makes-refused calls.flush h
   goes-refused calls.final h = rw (on-line, ne-eqb (answer N W calls.final k) 0 h, step-refused P N W calls.final k h)
 
   goes-on : (c : Call) (read : List ℕ) → answer N W (call-of c read) k ≡ 0
-      → goes P N W (found (call-of c read) m rest) rag k ≡ reads P N W (suc m) none rest rag (step P N W (call-of c read) k)
+      → goes P N W (found (call-of c read) m rest) rag k ≡ reads P N W (suc m) nothing rest rag (step P N W (call-of c read) k)
   unfolding goes
   goes-on (call.Set x) read h = makes-on (calls.set x) h
-  goes-on (call.Add i o) read h = makes-on (calls.add (take i read) (take o (drop i read))) h
+  goes-on (call.Add l i o) read h = makes-on (calls.add l (take i read) (take o (drop i read))) h
   goes-on call.Flush read h = makes-on calls.flush h
 
   goes-final : answer N W calls.final k ≡ 0
@@ -92,9 +91,9 @@ module _ {job entry read : List ℕ} {at n : ℕ} {r : Next} (c : NextCall job a
   numbers : length read ≡ length entry → Beyond (length job / 2) entry read
   numbers same = beyond-drop (length job / 2) (length job / 2) entry read (omega arith) same (c .into-beyond)
 
-  -- its line is the first, or the one after it
-  pub near : (n ≤ line-of (first-as job read r)) × (line-of (first-as job read r) ≤ n + 1)
-  near = subst (λ (f : FirstCall). (n ≤ line-of f) × (line-of f ≤ n + 1)) (c .is) (line-near n (lines (drop at job)))
+  -- its line is the first, or one of the two after it
+  pub near : Near n (first-as job read r)
+  near = subst (λ (f : FirstCall). Near n f) (c .is) (line-near n (lines (drop at job)))
 
 -- a call that was made leads from the model before it to the one after it
 stepped : {d : calls.Call} {num : ℕ} {s s′ : Session} {σ σ′ : Storage} → Called d num s s′ σ σ′ → (P N W : ℕ) (k : Model) → 1 ≤ P → StandsFor P N W s σ k
@@ -132,7 +131,7 @@ module _ {job entry read : List ℕ} {at n : ℕ} (s : Session) (σ : Storage) (
                     ∙ goes-refused P N W m (lines (drop after job)) (ragged (drop at job)) k d (λ y. z (f .0 ∙ y))
                     ∙ ap (λ (i : ℕ). (rejected m i, k)) (sym (f .0));
               });
-          further = (omega (arith, near c, at-m), rw (x .0) (omega (arith, call-code (q .places) (length (σ .pool)) d (q .model))));
+          further = (omega (arith, near c, at-m), rw (x .0) (call-code (q .places) (length (σ .pool)) d (q .model) .0));
           frame = made .frame;
           into = numbers c same;
         }
@@ -153,8 +152,8 @@ module _ {job entry read : List ℕ} {at n : ℕ} (s : Session) (σ : Storage) (
                   (
                     record { accepted = ok; stands = f .1 },
                     begins c P N W k ∙ goes-on P N W m (lines (drop after job)) (ragged (drop at job)) k x read ok
-                        ∙ ap (λ (i : ℕ). reads P N W i none (lines (drop after job)) (ragged (drop at job)) (step P N W (call-of x read) k)) (sym (add-one m))
-                        ∙ ap (λ (b : Bool). reads P N W (m + 1) none (lines (drop after job)) b (step P N W (call-of x read) k)) (sym (c .next .end)),
+                        ∙ ap (λ (i : ℕ). reads P N W i nothing (lines (drop after job)) (ragged (drop at job)) (step P N W (call-of x read) k)) (sym (add-one m))
+                        ∙ ap (λ (b : Bool). reads P N W (m + 1) nothing (lines (drop after job)) b (step P N W (call-of x read) k)) (sym (c .next .end)),
                   ),
                 );
             further = (omega (arith, near c, c .next .past), (c .next .within, omega (arith, c .next .past)));
@@ -245,15 +244,15 @@ pub called-as : (numbers : List ℕ) {x y : Call} {n : ℕ} {s s′ : Session} {
 called-as numbers {n = n} {s} {s′} {σ} {σ′} e h = subst (λ (c : Call). Called (call-of c numbers) n s s′ σ σ′) (sym e) h
 
 -- the lists of an add lie within the numbers
-pub lists-in : {x : Call} {i o n : ℕ} → x ≡ call.Add i o → taken-by x ≤ n → i + o ≤ n
+pub lists-in : {x : Call} {l i o n : ℕ} → x ≡ call.Add l i o → taken-by x ≤ n → i + o ≤ n
 lists-in e h = omega (arith, ap taken-by e)
 
 -- the lists of an add are its call's
-pub made-add : (i o : ℕ) (numbers : List ℕ) {n : ℕ} {s s′ : Session} {σ σ′ : Storage}
-    → Called (calls.add (take i numbers) (take (i + o - i) (drop i numbers))) n s s′ σ σ′ → Called (call-of (call.Add i o) numbers) n s s′ σ σ′
-made-add i o numbers {n} {s} {s′} {σ} {σ′} h =
+pub made-add : (l i o : ℕ) (numbers : List ℕ) {n : ℕ} {s s′ : Session} {σ σ′ : Storage}
+    → Called (calls.add l (take i numbers) (take (i + o - i) (drop i numbers))) n s s′ σ σ′ → Called (call-of (call.Add l i o) numbers) n s s′ σ σ′
+made-add l i o numbers {n} {s} {s′} {σ} {σ′} h =
     let q : i + o - i ≡ o = omega arith in
-    subst (λ (j : ℕ). Called (calls.add (take i numbers) (take j (drop i numbers))) n s s′ σ σ′) q h
+    subst (λ (j : ℕ). Called (calls.add l (take i numbers) (take j (drop i numbers))) n s s′ σ σ′) q h
 
 -- a wrong program shut out: a call refused by its own number, not for text after final, that changes session or storage
 pub refused-changes-none : {P N W m code at n : ℕ} {k : Model} {job a b : List ℕ} {s s′ : Session} {σ σ′ : Storage} → (code ≡ refusal.malformed → ⊥) → 1 ≤ P

@@ -2,7 +2,6 @@
 -- tells. An accepted call leaves them standing for the model after it, a refused one leaves them as they were. Assumes nothing.
 use mathlib.Core.List.{List}
 use mathlib.Core.Logic.{_⊎_}
-use mathlib.Core.Option.{none}
 use mathlib.Core.Path.{_≡_}
 use Prim.Native.Nat.{ℕ, _+_, _*_, _/_, _^_, _≤_, _<_}
 use lib.ListN.{length, drop}
@@ -10,7 +9,8 @@ use Rattle.rules.specs.Guide.{tally}
 use Rattle.rules.specs.Model.{Model}
 use Rattle.rules.specs.Calls as calls
 use Rattle.rules.specs.Calls.{Call, answer, step}
-use Rattle.rules.specs.Job.{finished, rejected, lines, ragged}
+use Rattle.rules.specs.Job.{nothing, finished, rejected, lines, ragged}
+use Rattle.rules.specs.Limits.{reply-radix}
 use Rattle.rules.specs.Refusals as refusal
 use Rattle.rules.specs.Summary as rule
 use Rattle.rules.specs.Summary.{median}
@@ -26,9 +26,9 @@ use Rattle.jobturn.specs.declared.End.the-variants as end
 use Rattle.jobturn.specs.declared.Step.{Step}
 use Rattle.jobturn.specs.declared.Step.the-variants as step′
 
--- a number of a refusal that a job can get before its listing is written: at most 16
+-- a number of a refusal: it has room beside a line in the number that a host gets
 abbrev pub Code : ℕ → Type 0
-Code code = code ≤ refusal.long-job
+Code code = code < reply-radix
 
 -- what follows a call with this number on line m, the next starting at `next`
 pub record AfterCall (number m next : ℕ) (r : Step) : Type 0 where
@@ -54,7 +54,7 @@ pub record FinalMade (m next long : ℕ) (s : Session) (r : Step) (s′ : Sessio
 
 -- what the rules make of the job from `at` on, which is line n, for the model k: how it ends, and the model that it reaches
 unfoldable pub remains : ℕ → ℕ → ℕ → List ℕ → ℕ → ℕ → Model → Run
-remains P N W job at n k = reads P N W n none (lines (drop at job)) (ragged (drop at job)) k
+remains P N W job at n k = reads P N W n nothing (lines (drop at job)) (ragged (drop at job)) k
 
 -- a session and storage stand for a model k, reached by calls
 pub record StandsFor (P N W : ℕ) (s : Session) (σ : Storage) (k : Model) : Type 0 where
@@ -101,7 +101,7 @@ Tells P N W job k s s′ σ σ′ (step′.On at n) o =
 
 -- the next call lies further on, within the job, and a line has a byte at least; a refusal's line and number are small
 abbrev pub Further : List ℕ → ℕ → ℕ → Step → Type 0
-Further job at n (step′.Ended (end.Rejected m code)) = (m ≤ n + 2) × Code code
+Further job at n (step′.Ended (end.Rejected m code)) = (m ≤ n + 3) × Code code
 Further job at n (step′.Ended (end.Finished f)) = Unit {0}
 Further job at n (step′.On next m) = (at < next) × ((next ≤ length job) × (at + m ≤ next + n))
 

@@ -40,7 +40,11 @@ fn make(
             pool,
             place,
         ),
-        Call::Add { inputs, outputs } => {
+        Call::Add {
+            lane,
+            inputs,
+            outputs,
+        } => {
             let end = inputs + outputs;
             sorter::add(
                 s,
@@ -54,6 +58,7 @@ fn make(
                 pool,
                 &into[..inputs],
                 &into[inputs..end],
+                lane,
             )
         }
         Call::Flush => sorter::flush(

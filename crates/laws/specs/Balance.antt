@@ -171,7 +171,12 @@ module _ (φ : ℕ → ℕ) where
           placing = λ c r st k l v b. balance-placing c r st k v b;
           setting = λ x k v a b. omega (arith, off-sum N (with-set x k), b);
           adding = λ lane ins outs k v a e b. omega (arith, below-add (k .adds) (record { lane = lane; ins = ins; outs = outs }), b);
-          delaying = λ lane ins outs k v a e b. omega (arith, below-add (k .adds) (record { lane = lane; ins = ins; outs = outs }), queue-sum (record { under = greatest ins; reg = length (k .adds) }) (k .pending), b);
+          delaying = λ lane ins outs k v a e b. omega (
+            arith,
+            below-add (k .adds) (record { lane = lane; ins = ins; outs = outs }),
+            queue-sum (record { under = greatest ins; reg = length (k .adds) }) (k .pending),
+            b,
+          );
           flushing = λ k v a b. omega (arith, flush-sum P (k .guide) (v .past) (v .core) (flush-core P (k .guide) (v .past) hP (v .core) (v .later 31 (omega arith))), b);
           closing = λ k v a b. omega (arith, flush-sum P (k .guide) (v .past) (v .core) (flush-core P (k .guide) (v .past) hP (v .core) (v .later 31 (omega arith))), b);
           recording = λ d k v n b. b;

@@ -9,8 +9,10 @@ use Prim.Native.Nat.{ℕ, suc, _+_, _≤_, _<_}
 use lib.ListN.{length, getD}
 use lib.Dec.{eqb}
 use Rattle.rules.specs.Guide.{Item, Entry, held, tally}
+use Rattle.rules.specs.Limits.{most-lane}
 use Rattle.rules.specs.Summary.{sum}
 use Rattle.rules.specs.Model.{Model, Pending, watermark, greatest, ready, reg-of, initial}
+use Rattle.rules.specs.Record.{unfilled, fill, row-of}
 use Rattle.rules.specs.Calls.{Call, final, answer, step, run}
 use Rattle.laws.specs.ModelBase.{In}
 use Rattle.laws.specs.Delaying.{IsPending, Sorted}
@@ -63,6 +65,10 @@ pub record Demand (P N W : ℕ) (calls : List Call) (k : Model) : Type 0 where
   -- an entry is of an accepted add, and in a session its value equals its added
   pub known : (j : ℕ) → j < written k → (nth k j) .item .added < length (k .adds)
   pub value-is-added : (j : ℕ) → j < written k → (nth k j) .item .value ≡ (nth k j) .item .added
+  -- its lane is that add's, and at most 255 (document 02, M-104)
+  pub lanes : (j : ℕ) → j < written k → ((nth k j) .item .lane ≡ (reg-of k ((nth k j) .item .added)) .lane) × ((nth k j) .item .lane ≤ most-lane)
+  -- its registration's row is filled by it, but for written, which is the record's: the row's lane is the entry's
+  pub rows : (j : ℕ) → j < written k → row-of k ((nth k j) .item .added) ≡ fill j (nth k j) (unfilled (getD (k .recorded .written) ((nth k j) .item .added) 0))
   -- each accepted registration is in the order, or held in the window, or waits, and that once
   pub somewhere : (r : ℕ) → r < length (k .adds) → times r (k .guide .order) + held-times r (k .guide .spans) + pending-times r (k .pending) ≡ 1
   -- accepted = written + held + waiting

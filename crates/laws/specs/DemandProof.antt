@@ -1,17 +1,20 @@
 -- Demand 3 holds of the model after every list of calls. The idea: an index of the order is a position of a released span; a reader
 -- was placed behind its writer's location, so that the parallelism rules keep it a writer's parallelism away; the balance of weights
 -- says that each registration has one location.
-use mathlib.Core.Path.{_≡_, refl, sym, _∙_}
+use mathlib.Core.Path.{_≡_, refl, sym, ap, _∙_}
 use mathlib.Core.List.{List, [], _∷_, map}
 use mathlib.Core.Logic.{_⊎_, inl, inr, _≢_, _↔_}
 use mathlib.Core.Bool.{true, false, false≢true}
 use Prim.Native.Nat.{ℕ, suc, _+_, _≤_, _<_}
+use native.Mathlib.Nat.{zero-add}
 use native.Mathlib.Omega.{arith}
-use lib.ListN.{length}
+use lib.ListN.{length, getD}
 use lib.Dec.{eqb}
 use borrow.Author.Tests.{eqb-true}
+use Rattle.rules.specs.Limits.{most-lane}
 use Rattle.rules.specs.Guide.{Loc, Item, Entry, held}
 use Rattle.rules.specs.Model.{Pending, Model, watermark, ready, reg-of, initial}
+use Rattle.rules.specs.Record.{unfilled, fill, row-of}
 use Rattle.rules.specs.Calls.{Call, answer, step, unless-refused, run}
 use Rattle.laws.specs.History.{len, start, start-suc, start-mono}
 use Rattle.laws.specs.Together.{Behind, frontier, distance}
@@ -22,20 +25,13 @@ use Rattle.laws.specs.Once.{one-place, wsum-one, qsum-one, hsum-one, bel
 use Rattle.laws.specs.Delaying.{IsPending}
 use Rattle.laws.specs.Closed.{stays, final-closes, closed-by}
 use Rattle.laws.specs.Order.{nth, written, wd, At, order-here, order-at, bounds}
-use Rattle.laws.specs.Entries.{OfSession, order-entry}
+use Rattle.laws.specs.Entries.{OfSession, LaneKept, order-entry}
 use Rattle.laws.specs.Tally.{tally-sum, tally-each}
 use Rattle.laws.specs.Sound.{Sound, sound}
+use Rattle.laws.specs.Rows.{count-cons, row-once}
 use Rattle.laws.specs.Demand.{reads, writes, Covered, count, times, held-times, pending-times, FinalAccepted, Demand}
 
 -- counting a registration is summing its weight
-count-cons : (r x : ℕ) (l : List ℕ) → count r (x ∷ l) ≡ one-of r x + count r l
-unfolding count one-of
-count-cons r x l = go (bool-cases (eqb r x))
-  where
-    go : (eqb r x ≡ true) ⊎ (eqb r x ≡ false) → count r (x ∷ l) ≡ one-of r x + count r l
-    go (inl e) = rw (e, count, one-of) (omega arith)
-    go (inr e) = rw (e, count, one-of) (omega arith)
-
 times-sum : (r : ℕ) (l : List Entry) → times r l ≡ wsum (one-of r) l
 unfolding count wsum
 times-sum r [] = refl
@@ -143,10 +139,22 @@ module _ (P N W : ℕ) (hP : 1 ≤ P) (k : Model) (o : Sound P N W k []) where
   one-number : (j : ℕ) → j < written k → (nth k j) .item .value ≡ (nth k j) .item .added
   one-number j h = order-entry (OfSession (length (k .adds))) (k .guide .order) j (o .entries .all .in-order) h .0
 
+  own-lane : (j : ℕ) → j < written k → ((nth k j) .item .lane ≡ (reg-of k ((nth k j) .item .added)) .lane) × ((nth k j) .item .lane ≤ most-lane)
+  own-lane j h =
+      let e = order-entry (LaneKept k) (k .guide .order) j (o .entries .lanes .in-order) h .1 in
+      (e, omega (arith, e, o .inside .lists ((nth k j) .item .added) .lane-few))
+
   -- the balance of one registration's weight
   in-one-place : (r : ℕ) → r < length (k .adds) → times r (k .guide .order) + held-times r (k .guide .spans) + pending-times r (k .pending) ≡ 1
   unfolding Balance lsum
   in-one-place r h = omega (arith, times-sum r (k .guide .order), held-sum r (k .guide .spans), pending-sum r (k .pending), o .balance (one-of r), below-one r (length (k .adds)) h)
+
+  row-filled : (j : ℕ) → j < written k → row-of k ((nth k j) .item .added) ≡ fill j (nth k j) (unfilled (getD (k .recorded .written) ((nth k j) .item .added) 0))
+  unfolding row-of
+  row-filled j h =
+      let row = unfilled (getD (k .recorded .written) ((nth k j) .item .added) 0) in
+      row-once (k .guide .order) 0 j row h (omega (arith, in-one-place ((nth k j) .item .added) (of-add j h)))
+      ∙ ap (λ (i : ℕ). fill i (nth k j) row) (zero-add j)
 
   sum-up : length (k .adds) ≡ written k + held (k .guide .spans) + length (k .pending)
   unfolding Balance lsum
@@ -189,6 +197,8 @@ demand-3 P N W hP calls =
       distance = far P N W hP k o;
       known = of-add P N W hP k o;
       value-is-added = one-number P N W hP k o;
+      lanes = own-lane P N W hP k o;
+      rows = row-filled P N W hP k o;
       somewhere = in-one-place P N W hP k o;
       counted = sum-up P N W hP k o;
       pending = exactly P N W hP k o;

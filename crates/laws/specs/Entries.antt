@@ -1,7 +1,8 @@
--- What holds of every entry, held or written: in a session value equals added, and accepted counts no more than the accepted adds.
+-- What holds of every entry, held or written: in a session value equals added, accepted counts no more than the accepted adds, and the lane
+-- is the registration's.
 -- And of the record: each row's written is at most the order's length, and final's counts are at most those of the session.
-use mathlib.Core.Path.{_≡_, refl, ap}
-use mathlib.Core.List.{List, [], _∷_, _++_, List·Memᴰ·not-nil}
+use mathlib.Core.Path.{_≡_, refl, sym, ap, _∙_}
+use mathlib.Core.List.{List, [], _∷_, _++_, List·Memᴰ·head, List·Memᴰ·not-nil}
 use mathlib.Core.Logic.{_⊎_, inl, inr}
 use mathlib.Core.Bool.{Bool, true, false}
 use mathlib.Core.Option.{Option}
@@ -11,10 +12,11 @@ use lib.ListN.{length, drop, getD, set, replicate, length-append}
 use lib.Dec.{leb}
 use Rattle.rules.specs.Guide.{Loc, Item, Entry, Guide, parallelism, last-parallelism, annotate, released, fresh, release, flush as flush-guide, Choice, existing, opened, choose}
 use Rattle.rules.specs.Guide.{put, settle, apply, place}
-use Rattle.rules.specs.Model.{Recorded, with-record, Model, watermark, reg-of, after, place-one, keep, rest, with-set, with-add, with-flush, initial}
+use Rattle.rules.specs.Model.{Recorded, with-record, Reg, Model, watermark, reg-of, after, place-one, keep, rest, with-set, with-add, with-flush, initial}
 use Rattle.laws.specs.History.{len}
 use Rattle.laws.specs.ModelBase.{In, bool-cases, entry-at, no-entry, watermark-le}
 use Rattle.laws.specs.Place.{place-step}
+use Rattle.laws.specs.CallInv.{reg-of-old}
 use Rattle.laws.specs.Kept.{Kept}
 use Rattle.laws.specs.Order.{no-written}
 
@@ -151,9 +153,14 @@ module _ (Φ Ψ : Item → Type 0) (f : (e : Item) → Φ e → Ψ e) where
 abbrev pub OfSession : ℕ → Item → Type 0
 OfSession n e = (e .value ≡ e .added) × (e .accepted ≤ n)
 
+-- an entry of an accepted registration, with its lane
+abbrev pub LaneKept : Model → Item → Type 0
+LaneKept k e = (e .added < length (k .adds)) × (e .lane ≡ (reg-of k (e .added)) .lane)
+
 -- the sentence
 pub record Entries (N : ℕ) (k : Model) (st : List ℕ) : Type 0 where
   pub all : Throughout (OfSession (length (k .adds))) (k .guide)
+  pub lanes : Throughout (LaneKept k) (k .guide)
   pub rows-written : (x : ℕ) → In x (k .recorded .written) → x ≤ length (k .guide .order)
   pub places-few : k .recorded .places ≤ N
 
@@ -161,9 +168,20 @@ module _ (P N W : ℕ) (hP : 1 ≤ P) where
   more-adds : (k : Model) (n : ℕ) → length (k .adds) ≤ n → Throughout (OfSession (length (k .adds))) (k .guide) → Throughout (OfSession n) (k .guide)
   more-adds k n h t = throughout-map (OfSession (length (k .adds))) (OfSession n) (λ e x. (x .0, omega (arith, x .1))) (k .guide) t
 
+  lanes-more : (a : Reg) (k : Model) → Throughout (LaneKept k) (k .guide) → Throughout (LaneKept (with-add a k)) (k .guide)
+  unfolding with-add
+  lanes-more a k t =
+      throughout-map (LaneKept k) (LaneKept (with-add a k))
+      (λ e x. (simp length-append (omega (arith, x .0)), x .1 ∙ ap (λ (g : Reg). g .lane) (sym (reg-of-old a k (e .added) (x .0))))) (k .guide) t
+
+  added : (a : Reg) (k : Model) (st : List ℕ) → Entries N k [] → Entries N (with-add a k) st
+  unfolding with-add reg-of
+  added a k st h =
+      record { all = more-adds k _ (simp length-append (omega arith)) (h .all); lanes = lanes-more a k (h .lanes); rows-written = h .rows-written; places-few = h .places-few }
+
   -- every part of every call keeps it
   pub entries-kept : Kept P N W (Entries N)
-  unfolding rest keep with-set with-add place-one with-flush with-record flush-guide release
+  unfolding rest keep with-set place-one with-flush with-record flush-guide release reg-of
   entries-kept =
       record {
         placing = λ c r st k l v h.
@@ -171,21 +189,23 @@ module _ (P N W : ℕ) (hP : 1 ≤ P) where
             let s = place-step P (k .guide) (v .past) e hP (v .core) (v .later) (after (k .located) ((reg-of k r) .ins)) in
             record {
               all = place-each (OfSession (length (k .adds))) P (after (k .located) ((reg-of k r) .ins)) e (k .guide) (refl, l) (h .all);
+              lanes = place-each (LaneKept k) P (after (k .located) ((reg-of k r) .ins)) e (k .guide) (v .stack-ok r (List·Memᴰ·head refl) .0, refl) (h .lanes);
               rows-written = λ x y. omega (arith, h .rows-written x y, ap length (s .order-grows), length-append (k .guide .order) (s .more));
               places-few = h .places-few;
             };
-        setting = λ x k v a h. record { all = h .all; rows-written = h .rows-written; places-few = h .places-few };
-        adding = λ lane ins outs k v a e h. record { all = more-adds k _ (simp length-append (omega arith)) (h .all); rows-written = h .rows-written; places-few = h .places-few };
-        delaying = λ lane ins outs k v a e h. record { all = more-adds k _ (simp length-append (omega arith)) (h .all); rows-written = h .rows-written; places-few = h .places-few };
+        setting = λ x k v a h. record { all = h .all; lanes = h .lanes; rows-written = h .rows-written; places-few = h .places-few };
+        adding = λ lane ins outs k v a e h. added _ k _ h;
+        delaying = λ lane ins outs k v a e h. let n = added _ k [] h in record { all = n .all; lanes = n .lanes; rows-written = n .rows-written; places-few = n .places-few };
         flushing = λ k v a h. flushed k h;
         closing = λ k v a h. flushed k h;
-        recording = λ d k v n h. record { all = h .all; rows-written = λ x y. noted k h x (n .each x y); places-few = fixed k d h (n .places-is) };
+        recording = λ d k v n h. record { all = h .all; lanes = h .lanes; rows-written = λ x y. noted k h x (n .each x y); places-few = fixed k d h (n .places-is) };
       }
     where
       flushed : {f : ℕ} {c : Bool} (k : Model) → Entries N k [] → Entries N (with-flush P f c k) []
       flushed k h =
           record {
             all = release-each (OfSession (length (k .adds))) P 32 (k .guide) (h .all);
+            lanes = release-each (LaneKept k) P 32 (k .guide) (h .lanes);
             rows-written = λ x y. simp length-append (omega (arith, h .rows-written x y));
             places-few = h .places-few;
           }
@@ -199,5 +219,5 @@ module _ (P N W : ℕ) (hP : 1 ≤ P) where
       fixed k d h (inr e) = omega (arith, watermark-le N k)
 
 pub entries-initial : (N : ℕ) → Entries N initial []
-unfolding initial
-entries-initial N = record { all = fresh-each (OfSession 0); rows-written = λ x y. absurd (List·Memᴰ·not-nil y); places-few = omega arith }
+unfolding initial reg-of
+entries-initial N = record { all = fresh-each (OfSession 0); lanes = fresh-each (LaneKept initial); rows-written = λ x y. absurd (List·Memᴰ·not-nil y); places-few = omega arith }

@@ -25,7 +25,9 @@ pub mod Sound
 pub mod Placeable
 pub mod Tally
 pub mod Demand
+pub mod Rows
 pub mod DemandProof
+pub mod ListStarts
 pub mod Widths
 pub mod Alone
 pub mod AloneWidths

@@ -84,11 +84,13 @@ module _ (P N W : ℕ) where
         recording = λ d k v n l. record { many = l .many; pool = l .pool; few = l .few; rows = omega (arith, n .many) };
       }
 
-  inside-adding : (lane : ℕ) (ins outs : List ℕ) (k : Model) (st : List ℕ) → Bounded N (record { lane = lane; ins = ins; outs = outs }) → Inside N k [] → Inside N (with-add (record { lane = lane; ins = ins; outs = outs }) k) st
+  inside-adding : (lane : ℕ) (ins outs : List ℕ) (k : Model) (st : List ℕ) → Bounded N (record { lane = lane; ins = ins; outs = outs }) →
+      Inside N k [] → Inside N (with-add (record { lane = lane; ins = ins; outs = outs }) k) st
   unfolding with-add
   inside-adding lane ins outs k st g l = record { lists = λ r. go r (reg-cases _ k r); sets-below = l .sets-below }
     where
-      go : (r : ℕ) → (reg-of (with-add (record { lane = lane; ins = ins; outs = outs }) k) r ≡ reg-of k r) ⊎ (reg-of (with-add (record { lane = lane; ins = ins; outs = outs }) k) r ≡ record { lane = lane; ins = ins; outs = outs })
+      go : (r : ℕ) → (reg-of (with-add (record { lane = lane; ins = ins; outs = outs }) k) r ≡ reg-of k r)
+          ⊎ (reg-of (with-add (record { lane = lane; ins = ins; outs = outs }) k) r ≡ record { lane = lane; ins = ins; outs = outs })
           → Bounded N (reg-of (with-add (record { lane = lane; ins = ins; outs = outs }) k) r)
       go r (inl e) = rw e (l .lists r)
       go r (inr e) = rw e g
@@ -112,7 +114,9 @@ module _ (P N W : ℕ) where
         placing = λ c r st k h v l. record { lists = l .lists; sets-below = l .sets-below };
         setting = λ x k v a l. record { lists = l .lists; sets-below = set-below x k (set-passed N W x k a .inside) (l .sets-below) };
         adding = λ lane ins outs k v a e l. inside-adding lane ins outs k _ (passed-bounded lane ins outs k (add-passed N W lane ins outs k a)) l;
-        delaying = λ lane ins outs k v a e l. let m = inside-adding lane ins outs k [] (passed-bounded lane ins outs k (add-passed N W lane ins outs k a)) l in record { lists = m .lists; sets-below = m .sets-below };
+        delaying = λ lane ins outs k v a e l. let m = inside-adding lane ins outs k
+            [] (passed-bounded lane ins outs k (add-passed N W lane ins outs k a)) l in record
+            { lists = m .lists; sets-below = m .sets-below };
         flushing = λ k v a l. record { lists = l .lists; sets-below = l .sets-below };
         closing = λ k v a l. record { lists = l .lists; sets-below = l .sets-below };
         recording = λ d k v n l. record { lists = l .lists; sets-below = l .sets-below };
@@ -126,6 +130,13 @@ pub inside-initial : (N : ℕ) → Inside N initial []
 unfolding initial reg-of repeats
 inside-initial N =
     record {
-      lists = λ r. record { lane-few = omega arith; ins-few = omega arith; outs-few = omega arith; ins-below = λ i h. absurd (List·Memᴰ·not-nil h); outs-below = λ i h. absurd (List·Memᴰ·not-nil h); outs-once = refl };
+      lists = λ r. record {
+        lane-few = omega arith;
+        ins-few = omega arith;
+        outs-few = omega arith;
+        ins-below = λ i h. absurd (List·Memᴰ·not-nil h);
+        outs-below = λ i h. absurd (List·Memᴰ·not-nil h);
+        outs-once = refl;
+      };
       sets-below = λ i h. absurd (List·Memᴰ·not-nil h);
     }

@@ -1,6 +1,6 @@
 -- Every number of a session fits the width that document 01 gives it: 32 bits for span numbers, positions, value, added, accepted,
--- written and order index, and for the counts; 16 bits for parallelism, plain flushes and the lengths of lists. For every list of
--- calls, P up to 64,999 and V up to 16,777,216.
+-- written and order index, and for the counts; 16 bits for parallelism, plain flushes and the lengths of lists; 8 for a lane
+-- (document 02, M-104), and 40 for where lists start in the pool. For every list of calls, P up to 64,999 and V up to 16,777,216.
 use mathlib.Core.Path.{_≡_}
 use mathlib.Core.List.{List, [], _∷_}
 use mathlib.Core.Bool.{Bool, true, false}
@@ -13,6 +13,7 @@ use lib.Dec.{eqb}
 use Rattle.rules.specs.Limits.{most-parallelism, most-places}
 use Rattle.rules.specs.Guide.{Loc, Item, Entry, place, tally}
 use Rattle.rules.specs.Model.{Model, marked, loc-of, reg-of, watermark, initial, registrations as registered}
+use Rattle.rules.specs.Checks.{pooled}
 use Rattle.rules.specs.Calls.{Call, run}
 use Rattle.laws.specs.History.{len}
 use Rattle.laws.specs.ModelBase.{In, bool-cases, entry-at, loc-of-none}
@@ -20,16 +21,20 @@ use Rattle.laws.specs.Place.{place-step}
 use Rattle.laws.specs.Once.{one-of}
 use Rattle.laws.specs.Order.{nth, written}
 use Rattle.laws.specs.Tally.{having, tally-each}
-use Rattle.laws.specs.Entries.{OfSession, order-entry, span-at}
+use Rattle.laws.specs.Entries.{OfSession, LaneKept, order-entry, span-at}
 use Rattle.laws.specs.Sound.{Sound, sound}
+use Rattle.laws.specs.ListStarts.{start-few}
 use Rattle.laws.specs.Placeable.{Fits, fits-of, located-span}
 
--- fits 32 bits, fits 16 bits
+-- fits 32 bits, 16 bits, 8 bits
 abbrev pub In32 : ℕ → Type 0
 In32 n = n < 2 ^ 32
 
 abbrev pub In16 : ℕ → Type 0
 In16 n = n < 2 ^ 16
+
+abbrev pub In8 : ℕ → Type 0
+In8 n = n < 2 ^ 8
 
 -- an entry's value, added and accepted
 abbrev pub Item32 : Item → Type 0
@@ -54,6 +59,12 @@ pub record Widths (P N : ℕ) (k : Model) : Type 0 where
   pub fixed : In32 (registered k) × In32 (k .recorded .places)
   pub flushes : In16 (k .flushes)
   pub lists : (r : ℕ) → In16 (length ((reg-of k r) .ins)) × In16 (length ((reg-of k r) .outs))
+  -- the lanes of registrations, of the order's entries and of held ones
+  pub lanes : (r : ℕ) → In8 ((reg-of k r) .lane)
+  pub order-lanes : (j : ℕ) → j < written k → In8 ((nth k j) .item .lane)
+  pub held-lanes : (s q : ℕ) → q < len (k .guide .spans) s → In8 ((entry-at (k .guide .spans) s q) .lane)
+  -- where the lists of one more registration start
+  pub list-start : length (k .adds) < N → pooled (k .adds) < 2 ^ 40
 
 one-of-le : (p x : ℕ) → one-of p x ≤ 1
 unfolding one-of
@@ -86,6 +97,12 @@ module _ (P N W : ℕ) (hP : 1 ≤ P) (tP : P ≤ most-parallelism) (hN : N ≤ 
   item-fits : (e : Item) → e .added < length (k .adds) → OfSession (length (k .adds)) e → Item32 e
   item-fits e h o = (omega (arith, f .many, o .0), omega (arith, f .many), omega (arith, f .many, o .1))
 
+  lane-fits : (r : ℕ) → In8 ((reg-of k r) .lane)
+  lane-fits r = omega (arith, s .inside .lists r .lane-few)
+
+  own-lane : (e : Item) → LaneKept k e → In8 (e .lane)
+  own-lane e x = omega (arith, x .1, lane-fits (e .added))
+
   -- a sound model's numbers have them
   pub widths : Widths P N k
   widths =
@@ -106,6 +123,10 @@ module _ (P N W : ℕ) (hP : 1 ≤ P) (tP : P ≤ most-parallelism) (hN : N ≤ 
         fixed = (low-registered (k .closed), omega (arith, s .entries .places-few));
         flushes = omega (arith, s .limits .few);
         lists = λ r. (omega (arith, s .inside .lists r .ins-few), omega (arith, s .inside .lists r .outs-few));
+        lanes = lane-fits;
+        order-lanes = λ j h. own-lane ((nth k j) .item) (order-entry (LaneKept k) (k .guide .order) j (s .entries .lanes .in-order) h);
+        held-lanes = λ i q h. own-lane (entry-at (k .guide .spans) i q) (span-at (LaneKept k) (k .guide .spans) i q (s .entries .lanes .in-spans) h);
+        list-start = start-few P N W k st s hN;
       }
 
 -- after every list of calls

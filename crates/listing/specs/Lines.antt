@@ -8,19 +8,19 @@ use native.Mathlib.Omega.{arith}
 use lib.ListN.{length}
 use Rattle.rules.specs.Guide.{Entry as OrderEntry}
 use Rattle.rules.specs.Listing.{field, line, least, floor, entry-line, rejection, word-status, word-line, word-entries, word-places, word-floor}
-use Rattle.rules.specs.Listing.{word-median, word-order, word-added, word-accepted, word-parallelism, word-written}
+use Rattle.rules.specs.Listing.{word-median, word-order, word-added, word-accepted, word-parallelism, word-written, word-lane}
 use Rattle.entries.specs.declared.Entry.{Entry}
 use Rattle.entries.specs.Entries.{entry-at, entry-of, item-of}
 use Rattle.writer.specs.Wrote.{Wrote, wrote-then, wrote-none}
 use Rattle.listing.specs.Listed.{line-bytes, entries-from, line-in, lines-from, listed}
 
 -- an entry's line, by its fields; the last is a line
-pub wrote-entry : {o a b c d f : List ℕ} {at p q r s t : ℕ} (index : ℕ) (e : Entry) (written : ℕ)
+pub wrote-entry : {o a b c d f g : List ℕ} {at p q r s t u : ℕ} (index : ℕ) (e : Entry) (written : ℕ)
     → Wrote o a at p (field word-order index) → Wrote a b p q (field word-added (e .added)) → Wrote b c q r (field word-accepted (e .accepted))
-    → Wrote c d r s (field word-parallelism (e .parallelism)) → Wrote d f s t (line word-written written)
-    → Wrote o f at t (entry-line index (entry-of e) written)
+    → Wrote c d r s (field word-parallelism (e .parallelism)) → Wrote d f s t (field word-written written) → Wrote f g t u (line word-lane (e .lane))
+    → Wrote o g at u (entry-line index (entry-of e) written)
 unfolding entry-line entry-of item-of line
-wrote-entry index e written v w x y z = wrote-then v (wrote-then w (wrote-then x (wrote-then y z)))
+wrote-entry index e written v w x y z l = wrote-then v (wrote-then w (wrote-then x (wrote-then y (wrote-then z l))))
 
 -- a loop over the entries: i of them are written, and the others are left
 more : (o rows : List ℕ) (i n : ℕ) → i < n → lines-from o rows i (n - i) ≡ line-in o rows i ++ lines-from o rows (i + 1) (n - (i + 1))

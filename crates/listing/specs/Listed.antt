@@ -12,7 +12,7 @@ abbrev pub head-bytes : ℕ
 head-bytes = 256
 
 abbrev pub line-bytes : ℕ
-line-bytes = 96
+line-bytes = 112
 
 abbrev pub rejection-bytes : ℕ
 rejection-bytes = 64

@@ -8,7 +8,7 @@ ghost use Rattle.writer.specs.Wrote.{Wrote};
 ghost use Rattle.listing.specs.Listed.{head-bytes, line-bytes, rejection-bytes, entries-from, lines-from, listed, Ready};
 use entries::Entry;
 
-// An entry's line: its order index, added, accepted and parallelism, and its row's written.
+// An entry's line: its order index, added, accepted and parallelism, its row's written, and its lane.
 fn put_entry(out: &mut [u8], at: usize, index: u64, e: Entry, written: u32) -> usize
     requires { ⌜ (index < 2 ^ 32) × (at + line-bytes ≤ length (now out)) ⌝ }
     ensures { λ r. ⌜ (Wrote (now (out .entry)) (now (out .exit)) at r (entry-line index (entry-of e) written)) × (r ≤ at + line-bytes) ⌝ }
@@ -17,7 +17,8 @@ fn put_entry(out: &mut [u8], at: usize, index: u64, e: Entry, written: u32) -> u
     let b = writer::put_field(out, a, b" added=", e.added as u64);
     let c = writer::put_field(out, b, b" accepted=", e.accepted as u64);
     let d = writer::put_field(out, c, b" parallelism=", e.parallelism as u64);
-    writer::put_line(out, d, b" written=", written as u64)
+    let f = writer::put_field(out, d, b" written=", written as u64);
+    writer::put_line(out, f, b" lane=", e.lane as u64)
 }
 
 // The lines of the first n entries, one after another.

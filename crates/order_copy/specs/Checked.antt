@@ -8,42 +8,44 @@ use native.Mathlib.Omega.{arith}
 use native.Mathlib.Decide.{decLt}
 use lib.Dec.{ltb}
 use borrow.Author.Tests.{lt-ltb, le-ltb}
+use Rattle.rules.specs.Limits.{most-lane}
 use Rattle.rules.specs.Refusals as refusal
 use Rattle.rules.specs.Checks.{verdict}
 use Rattle.entries.specs.Entries.{capacity}
 use Rattle.entries.specs.Stored.{capacity-fits}
-use Rattle.order_copy.specs.Flat.{widest, width, Readable}
+use Rattle.order_copy.specs.Flat.{lane-of, Readable}
 use Rattle.order_copy.specs.Copied.{wide-entry, check-new}
 
 pub wide-none : (f : List ℕ) (k to : ℕ) → to ≤ k → wide-entry f k (to - k) ≡ false
 unfolding wide-entry
 wide-none f k to h = let e : to - k ≡ 0 = omega arith in rw e
 
-pub wide-found : (f : List ℕ) (k to : ℕ) → k < to → widest < width f k → wide-entry f k (to - k) ≡ true
+pub wide-found : (f : List ℕ) (k to : ℕ) → k < to → most-lane < lane-of f k → wide-entry f k (to - k) ≡ true
 unfolding wide-entry
-wide-found f k to h w = let e : to - k ≡ suc (to - suc k) = omega arith in rw (e, wide-entry, lt-ltb widest (width f k) w)
+wide-found f k to h w = let e : to - k ≡ suc (to - suc k) = omega arith in rw (e, wide-entry, lt-ltb most-lane (lane-of f k) w)
 
-pub wide-next : (f : List ℕ) (k to : ℕ) → k < to → width f k ≤ widest → wide-entry f k (to - k) ≡ wide-entry f (k + 1) (to - (k + 1))
+pub wide-next : (f : List ℕ) (k to : ℕ) → k < to → lane-of f k ≤ most-lane → wide-entry f k (to - k) ≡ wide-entry f (k + 1) (to - (k + 1))
 unfolding wide-entry
 wide-next f k to h w =
     let e : to - k ≡ suc (to - (k + 1)) = omega arith in
     let s : suc k ≡ k + 1 = omega arith in
-    rw (e, wide-entry, le-ltb widest (width f k) w) (ap (λ j. wide-entry f j (to - (k + 1))) s)
+    rw (e, wide-entry, le-ltb most-lane (lane-of f k) w) (ap (λ j. wide-entry f j (to - (k + 1))) s)
 
 -- neither of two tests holds
-none : (x : ℕ) (b : Bool) → (ltb widest x || b) ≡ false → (x ≤ widest) × (b ≡ false)
-none x b e = elim (decLt widest x) [ yes w ↦ absurd (true≢false (sym (ap (λ t. t || b) (lt-ltb widest x w)) ∙ e)) | no w ↦ (omega arith, sym (ap (λ t. t || b) (le-ltb widest x (omega arith))) ∙ e) ]
+none : (x : ℕ) (b : Bool) → (ltb most-lane x || b) ≡ false → (x ≤ most-lane) × (b ≡ false)
+none x b e =
+    elim (decLt most-lane x) [ yes w ↦ absurd (true≢false (sym (ap (λ t. t || b) (lt-ltb most-lane x w)) ∙ e)) | no w ↦ (omega arith, sym (ap (λ t. t || b) (le-ltb most-lane x (omega arith))) ∙ e) ]
 
 -- no entry is too wide
-narrow : (f : List ℕ) (k n : ℕ) → wide-entry f k n ≡ false → (j : ℕ) → k ≤ j → j < k + n → width f j ≤ widest
+narrow : (f : List ℕ) (k n : ℕ) → wide-entry f k n ≡ false → (j : ℕ) → k ≤ j → j < k + n → lane-of f j ≤ most-lane
 unfolding wide-entry
 narrow f k zero e j l h = absurd (omega (arith, l, h))
 narrow f k (suc n) e j l h =
-    let p : (width f k ≤ widest) × (wide-entry f (suc k) n ≡ false) = none (width f k) (wide-entry f (suc k) n) e in
+    let p : (lane-of f k ≤ most-lane) × (wide-entry f (suc k) n ≡ false) = none (lane-of f k) (wide-entry f (suc k) n) e in
     elim (decLt k j) [ yes m ↦ narrow f (suc k) n (p .1) j m (omega arith) | no m ↦ here (p .0) (omega arith) ]
   where
-    here : width f k ≤ widest → j ≡ k → width f j ≤ widest
-    here w s = let x : width f j ≡ width f k = ap (width f) s in omega (arith, w, x)
+    here : lane-of f k ≤ most-lane → j ≡ k → lane-of f j ≤ most-lane
+    here w s = let x : lane-of f j ≡ lane-of f k = ap (lane-of f) s in omega (arith, w, x)
 
 -- what an accepted copying may presume: the indices are there on both sides, and each entry can be read
 pub record Ready (room : ℕ) (f : List ℕ) (from to : ℕ) : Type 0 where

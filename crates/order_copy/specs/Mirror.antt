@@ -21,7 +21,7 @@ use Rattle.order_copy.specs.Loop.{before, copied-length}
 
 -- the order's entry that a struct stands for
 unfoldable pub entry : OrderInfo → Entry
-entry e = record { item = record { value = e .value; added = e .added; accepted = e .accepted }; parallelism = e .parallelism }
+entry e = record { item = record { value = e .value; added = e .added; accepted = e .accepted; lane = e .lane }; parallelism = e .parallelism }
 
 -- the first n structs are the n entries of the flat order
 pub record Mirrors (o : List OrderInfo) (flat : List ℕ) (n : ℕ) : Type 0 where

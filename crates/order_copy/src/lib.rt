@@ -15,10 +15,8 @@ pub struct OrderInfo {
     pub added: u32,
     pub accepted: u32,
     pub parallelism: u16,
+    pub lane: u8,
 }
-
-// The widest parallelism that a struct holds.
-const WIDEST: u32 = 65535;
 
 // Entry k of the flat order.
 pub fn entry_at(flat: &[u32], k: usize) -> OrderInfo
@@ -30,7 +28,8 @@ pub fn entry_at(flat: &[u32], k: usize) -> OrderInfo
         value: e.value,
         added: e.added,
         accepted: e.accepted,
-        parallelism: e.parallelism as u16,
+        parallelism: e.parallelism,
+        lane: e.lane as u8,
     }
 }
 
@@ -42,14 +41,15 @@ pub fn append(order: &mut [OrderInfo], at: usize, e: OrderInfo)
     order[at] = e;
 }
 
-// Whether one of the entries `from` to `to` - 1 of the flat order has a parallelism of more than 16 bits.
+// Whether the last number of one of the entries `from` to `to` - 1 of the flat order has more than 24 bits: a lane of more than 8.
 fn has_wide(flat: &[u32], from: usize, to: usize) -> bool
     requires { ⌜ fits (now flat) to ⌝ }
     ensures { λ r. ⌜ r ≡ wide-entry (now (flat .entry)) from (to - from) ⌝ }
 {
     let mut k = from;
     while k < to {
-        if WIDEST < entries::parallelism_at(flat, k) {
+        let e = entries::load(flat, k);
+        if rules::MOST_LANE < e.lane as u64 {
             return true;
         }
         k += 1;

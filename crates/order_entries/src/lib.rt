@@ -8,7 +8,7 @@ use order_copy::OrderInfo;
 
 // Copies entries `from` to `to` - 1 of the flat order to the same indices of the order; every other entry stays. After a call of the
 // session `from` is the order's length before it and `to` the length after it. The answer is 0; it is 2, and the order is as it was,
-// where `from` is past `to`, one of the two slices is too short, or an entry's parallelism takes more than 16 bits.
+// where `from` is past `to`, one of the two slices is too short, or an entry's last number takes more than 24 bits.
 #[no_mangle]
 pub extern "C" fn order_append_new(
     order: &mut [OrderInfo],

@@ -9,10 +9,9 @@ use lib.ListN.{length, getD, take, drop, replicate, getD-replicate}
 use lib.Seq.{drop-at, getD-take}
 use Rattle.rules.specs.Limits.{most-places}
 use Rattle.rules.specs.Guide.{tallied, tally}
-use Rattle.laws.specs.Width.{width-flat, width-le}
 use Rattle.entries.specs.declared.Entry.{Entry}
-use Rattle.entries.specs.Entries.{fits, row, entry-at, held-entry, annotated, appended, entry-of}
-use Rattle.entries.specs.Stored.{row-add, stored-elsewhere, appended-elsewhere, stored-length}
+use Rattle.entries.specs.Entries.{Narrow, fits, row, entry-at, held-entry, annotated, appended, entry-of}
+use Rattle.entries.specs.Stored.{parallelism-most, annotated-narrow, row-add, stored-elsewhere, appended-elsewhere, stored-length}
 use Rattle.buffer.specs.declared.Guide.{Guide}
 use Rattle.buffer.specs.View.{length-of, start-of, order-of, Laid}
 use Rattle.buffer.specs.Rows.{most-at, row-length, row-ends}
@@ -30,22 +29,21 @@ pub record Stands (g : Guide) (s o t : List ℕ) : Type 0 where
   pub tally-is : take (g .p + 1) t ≡ tally (g .p) (order-of o (g .written))
 
 -- lists
-appended-tail : (o : List ℕ) (n : ℕ) (es : List Entry) → fits o (n + length es) → row (appended o n es) n (length es) ≡ es
-appended-tail o n es h =
+appended-tail : (o : List ℕ) (n : ℕ) (es : List Entry) → fits o (n + length es) → Narrow es → row (appended o n es) n (length es) ≡ es
+appended-tail o n es h k =
     let o1 = appended o n es in
     let a = length es in
     let z : 0 + n ≡ n = omega arith in
     sym (drop-at (row o1 0 n) (row o1 n a) n (row-length o1 0 n))
     ∙ ap (λ t. drop n t) (sym (row-add o1 0 n a ∙ ap (λ t. row o1 0 n ++ row o1 t a) z))
-    ∙ ap (λ t. drop n t) (appended-row o n es h)
+    ∙ ap (λ t. drop n t) (appended-row o n es h k)
     ∙ drop-at (row o 0 n) es n (row-length o 0 n)
 
 -- the parallelism of what a release appends is at most p
-annotated-within : (p a b q : ℕ) (es : List Entry) → 1 ≤ p → q + length es ≤ a → a ≤ p + 1 → Within p (map entry-of (annotated p a b q es))
+annotated-within : (p a b q : ℕ) (es : List Entry) → 1 ≤ p → Within p (map entry-of (annotated p a b q es))
 unfolding Within entry-of
-annotated-within p a b q [] hp h k = tt
-annotated-within p a b q (e ∷ es) hp h k =
-    (omega (arith, width-flat p a b q hp (omega arith) k, width-le p a b q hp (omega arith)), annotated-within p a b (suc q) es hp (omega arith) k)
+annotated-within p a b q [] hp = tt
+annotated-within p a b q (e ∷ es) hp = (parallelism-most p a b q hp, annotated-within p a b (suc q) es hp)
 
 within-at : (p : ℕ) (o : List ℕ) (n a q : ℕ) → Within p (map entry-of (row o n a)) → q < a → (entry-at o (n + q)) .parallelism ≤ p
 unfolding Within entry-of
@@ -98,9 +96,12 @@ module _ (g : Guide) (s o t : List ℕ) (k : Stands g s o t) where
     new-fits : fits o (g .written + length new)
     new-fits = omega (arith, new-length, k .order-long)
 
+    new-narrow : Narrow new
+    new-narrow = annotated-narrow (g .p) a (length-of g 1) 0 es (k .laid .one) (k .laid .few)
+
     pub new-row : row o′ (g .written) a ≡ new
     unfolding released-order
-    new-row = ap (λ n. row (appended o (g .written) new) (g .written) n) (sym new-length) ∙ appended-tail o (g .written) new new-fits
+    new-row = ap (λ n. row (appended o (g .written) new) (g .written) n) (sym new-length) ∙ appended-tail o (g .written) new new-fits new-narrow
 
     order-same : length o′ ≡ length o
     unfolding released-order
@@ -110,14 +111,11 @@ module _ (g : Guide) (s o t : List ℕ) (k : Stands g s o t) where
     unfolding order-of released-order
     order-is =
         ap (λ n. map entry-of (row (appended o (g .written) new) 0 (g .written + n))) (sym new-length)
-        ∙ ap (λ l. map entry-of l) (appended-row o (g .written) new new-fits)
+        ∙ ap (λ l. map entry-of l) (appended-row o (g .written) new new-fits new-narrow)
         ∙ map-append entry-of (row o 0 (g .written)) new
 
     within : Within (g .p) (map entry-of new)
-    within =
-        annotated-within (g .p) a (length-of g 1) 0 es (k .laid .one)
-        (omega (arith, row-length s (start-of g 0) a))
-        (most-at (g .p + 1) (g .window .lens) 0 (k .laid .short))
+    within = annotated-within (g .p) a (length-of g 1) 0 es (k .laid .one)
 
     -- a count is at most the number of the order's entries
     count-small : (x : ℕ) → x ≤ g .p → getD t x 0 ≤ g .written

@@ -11,38 +11,44 @@ use lib.ListN.{length, getD, set, take, drop, length-append, length-take, length
 use lib.Seq.{take-at, drop-at, take-append-le, take-all, take-suc, take-length, getD-append-seam, getD-set-same, getD-set-other, paste, paste-zero, paste-suc, length-take-le}
 use borrow.Author.Tests.{ltb-true, ltb-false}
 use Rattle.rules.specs.Model.{Reg, Model, reg-of}
-use Rattle.rules.specs.Limits.{most-places, most-in-a-list}
+use Rattle.rules.specs.Limits.{most-lane, most-in-a-list}
 use Rattle.rules.specs.Checks.{pooled, waiting-needed}
 use Rattle.laws.specs.ModelBase.{bool-cases}
 use Rattle.lists.specs.Part.{part}
-use Rattle.pool.specs.Lists.{radix, most-pooled, cell, cell-at, with-cell, start-of, inputs-of, end-of, stored, contents, nth, Lists}
+use Rattle.pool.specs.Lists.{lane-limit, inputs-limit, cell, cell-at, with-cell, start-of, inputs-of, lane-of, end-of, stored, contents, nth, Lists}
 
-pub cell-start : (s n : ℕ) → n < radix → cell s n / radix ≡ s
-unfolding cell
-cell-start s n h = omega arith
+-- what a cell is read as
+module _ (start inputs lane : ℕ) (few : inputs < inputs-limit) (low : lane < lane-limit) where
+  pub cell-start : cell start inputs lane / (inputs-limit * lane-limit) ≡ start
+  unfolding cell
+  cell-start = omega arith
 
-pub cell-inputs : (s n : ℕ) → n < radix → cell s n % radix ≡ n
-unfolding cell
-cell-inputs s n h = omega arith
+  pub cell-inputs : cell start inputs lane / lane-limit % inputs-limit ≡ inputs
+  unfolding cell
+  cell-inputs = let e : cell start inputs lane / lane-limit ≡ start * inputs-limit + inputs = omega arith in rw e (omega arith)
+
+  pub cell-lane : cell start inputs lane % lane-limit ≡ lane
+  unfolding cell
+  cell-lane = omega arith
 
 -- the cell that is stored is read, and the others are as they were
-module _ (w : List ℕ) (v r start inputs : ℕ) where
-  pub cell-length : length (with-cell w v r start inputs) ≡ length w
+module _ (w : List ℕ) (v r start inputs lane : ℕ) where
+  pub cell-length : length (with-cell w v r start inputs lane) ≡ length w
   unfolding with-cell
   cell-length = simp length-set
 
-  cell-same : r < v → waiting-needed v ≤ length w → cell-at (with-cell w v r start inputs) v r ≡ cell start inputs
+  cell-same : r < v → waiting-needed v ≤ length w → cell-at (with-cell w v r start inputs lane) v r ≡ cell start inputs lane
   unfolding with-cell cell-at
   cell-same h long = getD-set-same w _ _ 0 (omega arith)
 
-  cell-other : (q : ℕ) → q < r → cell-at (with-cell w v r start inputs) v q ≡ cell-at w v q
+  cell-other : (q : ℕ) → q < r → cell-at (with-cell w v r start inputs lane) v q ≡ cell-at w v q
   unfolding with-cell cell-at
   cell-other q h = getD-set-other w _ _ _ 0 (λ e. omega arith)
 
 -- the accepted add numbered r
 pub reg-is : (k : Model) (r : ℕ) → r < length (k .adds) → reg-of k r ≡ nth (k .adds) r
 unfolding reg-of nth
-reg-is k r h = default _ (record { ins = []; outs = [] }) (k .adds) r h
+reg-is k r h = default _ (record { lane = 0; ins = []; outs = [] }) (k .adds) r h
   where
     default : (d e : Reg) (l : List Reg) (i : ℕ) → i < length l → getD l i d ≡ getD l i e
     default d e [] i h = absurd (omega arith)
@@ -66,7 +72,7 @@ pooled-append (a ∷ as′) bs = omega (arith, pooled-append as′ bs)
 
 take-snoc : (as′ : List Reg) (r : ℕ) → r < length as′ → take (suc r) as′ ≡ take r as′ ++ (nth as′ r ∷ [])
 unfolding nth
-take-snoc as′ r h = take-suc as′ r (record { ins = []; outs = [] }) h
+take-snoc as′ r h = take-suc as′ r (record { lane = 0; ins = []; outs = [] }) h
 
 pooled-next : (as′ : List Reg) (r : ℕ) → r < length as′ → pooled (take (suc r) as′) ≡ pooled (take r as′) + length ((nth as′ r) .ins) + length ((nth as′ r) .outs)
 unfolding pooled
@@ -82,12 +88,6 @@ contents-at as′ r h =
     ∙ ap (λ (l : List ℕ). l ++ contents (drop (suc r) as′)) (contents-append (take r as′) (nth as′ r ∷ []))
     ∙ rw append-nil (simp append-assoc)
 
-pooled-most : (as′ : List Reg) → ((r : ℕ) → r < length as′ → (length ((nth as′ r) .ins) ≤ most-in-a-list) × (length ((nth as′ r) .outs) ≤ most-in-a-list))
-    → pooled as′ ≤ length as′ * (2 * most-in-a-list)
-unfolding nth pooled
-pooled-most [] f = omega arith
-pooled-most (b ∷ as′) f = omega (arith, f 0 (omega arith), pooled-most as′ (λ r k. f (suc r) (omega arith)))
-
 lt-or-eq : (a b : ℕ) → a < suc b → (a < b) ⊎ (a ≡ b)
 lt-or-eq a b h = go (bool-cases (ltb a b))
   where
@@ -97,11 +97,11 @@ lt-or-eq a b h = go (bool-cases (ltb a b))
 
 nth-old : (as′ : List Reg) (g : Reg) (r : ℕ) → r < length as′ → nth (as′ ++ (g ∷ [])) r ≡ nth as′ r
 unfolding nth
-nth-old as′ g r h = List·getD-append as′ (g ∷ []) (record { ins = []; outs = [] }) r h
+nth-old as′ g r h = List·getD-append as′ (g ∷ []) (record { lane = 0; ins = []; outs = [] }) r h
 
 nth-new : (as′ : List Reg) (g : Reg) → nth (as′ ++ (g ∷ [])) (length as′) ≡ g
 unfolding nth
-nth-new as′ g = getD-append-seam as′ g [] (record { ins = []; outs = [] })
+nth-new as′ g = getD-append-seam as′ g [] (record { lane = 0; ins = []; outs = [] })
 
 -- ---- a list stored
 
@@ -129,21 +129,33 @@ store-end pool at xs j e = rw (e, take-length xs) (append-assoc (take at pool) x
 pub store-begin : (pool : List ℕ) (at : ℕ) (xs : List ℕ) → pool ≡ storing pool at xs 0
 store-begin pool at xs = paste-zero pool at xs
 
--- the parts of registration r as they are read: where its lists start, how many inputs, where the outputs end
+-- the parts of registration r as they are read: its lane, where its lists start, how many inputs, where the outputs end
 pub record Parts (w : List ℕ) (v r n used : ℕ) (pool : List ℕ) (g : Reg) : Type 0 where
+  pub lane-is : lane-of w v r ≡ g .lane
   pub ordered : start-of w v r + inputs-of w v r ≤ end-of w v r n used
   pub inside : end-of w v r n used ≤ length pool
   pub ins-are : part pool (start-of w v r) (inputs-of w v r) ≡ g .ins
   pub outs-are : part pool (start-of w v r + inputs-of w v r) (end-of w v r n used - (start-of w v r + inputs-of w v r)) ≡ g .outs
 
 module _ (N : ℕ) (adds : List Reg) (used : ℕ) (w pool : List ℕ) (l : Lists N adds used w pool) where
-  pub starts : (r : ℕ) → r < length adds → start-of w N r ≡ pooled (take r adds)
-  unfolding start-of
-  starts r h = ap (λ (x : ℕ). x / radix) (l .cells r h) ∙ cell-start (pooled (take r adds)) (length ((nth adds r) .ins)) (omega (arith, l .few r h))
+  module _ (r : ℕ) (h : r < length adds) where
+    low : (nth adds r) .lane < lane-limit
+    low = omega (arith, l .few r h .0)
 
-  pub inputs : (r : ℕ) → r < length adds → inputs-of w N r ≡ length ((nth adds r) .ins)
-  unfolding inputs-of
-  inputs r h = ap (λ (x : ℕ). x % radix) (l .cells r h) ∙ cell-inputs (pooled (take r adds)) (length ((nth adds r) .ins)) (omega (arith, l .few r h))
+    short : length ((nth adds r) .ins) < inputs-limit
+    short = omega (arith, l .few r h .1)
+
+    pub starts : start-of w N r ≡ pooled (take r adds)
+    unfolding start-of
+    starts = ap (λ (x : ℕ). x / (inputs-limit * lane-limit)) (l .cells r h) ∙ cell-start (pooled (take r adds)) (length ((nth adds r) .ins)) ((nth adds r) .lane) short low
+
+    pub inputs : inputs-of w N r ≡ length ((nth adds r) .ins)
+    unfolding inputs-of
+    inputs = ap (λ (x : ℕ). x / lane-limit % inputs-limit) (l .cells r h) ∙ cell-inputs (pooled (take r adds)) (length ((nth adds r) .ins)) ((nth adds r) .lane) short low
+
+    pub lane : lane-of w N r ≡ (nth adds r) .lane
+    unfolding lane-of
+    lane = ap (λ (x : ℕ). x % lane-limit) (l .cells r h) ∙ cell-lane (pooled (take r adds)) (length ((nth adds r) .ins)) ((nth adds r) .lane) short low
 
   pub ends : (r : ℕ) → r < length adds → end-of w N r (length adds) used ≡ pooled (take (suc r) adds)
   unfolding end-of
@@ -197,15 +209,12 @@ module _ (N : ℕ) (adds : List Reg) (used : ℕ) (w pool : List ℕ) (l : Lists
         let p = pooled-next adds r h in
         let d : end-of w N r (length adds) used - (start-of w N r + inputs-of w N r) ≡ length (a .outs) = omega (arith, s, n, e, p) in
         record {
+          lane-is = lane r h;
           ordered = omega (arith, s, n, e, p);
           inside = omega (arith, e, pooled-le, l .fits);
           ins-are = rw (s, n, at-ins) (take-at (a .ins) (a .outs ++ after) (length (a .ins)) refl);
           outs-are = rw (d, s, n, at-outs) (take-at (a .outs) after (length (a .outs)) refl);
         }
-
-  -- the pool's used numbers are few enough for a cell
-  pub used-few : N ≤ most-places → used ≤ most-pooled
-  used-few h = omega (arith, l .used-is, pooled-most adds (l .few), l .many)
 
   -- only the cells matter
   pub lists-same : (w′ : List ℕ) → length w′ ≡ length w → ((r : ℕ) → r < N → cell-at w′ N r ≡ cell-at w N r) → Lists N adds used w′ pool
@@ -221,13 +230,13 @@ module _ (N : ℕ) (adds : List Reg) (used : ℕ) (w pool : List ℕ) (l : Lists
       }
 
   -- one registration more: its lists stored behind the others', and its cell
-  pub lists-add : (g : Reg) → length adds < N → used + length (g .ins) + length (g .outs) ≤ length pool → length (g .ins) ≤ most-in-a-list → length (g .outs) ≤ most-in-a-list
-      → Lists N (adds ++ (g ∷ [])) (used + length (g .ins) + length (g .outs)) (with-cell w N (length adds) used (length (g .ins)))
+  pub lists-add : (g : Reg) → length adds < N → used + length (g .ins) + length (g .outs) ≤ length pool → g .lane ≤ most-lane → length (g .ins) ≤ most-in-a-list
+      → Lists N (adds ++ (g ∷ [])) (used + length (g .ins) + length (g .outs)) (with-cell w N (length adds) used (length (g .ins)) (g .lane))
       (stored (stored pool used (g .ins)) (used + length (g .ins)) (g .outs))
   unfolding pooled contents
-  lists-add g room fits li lo =
+  lists-add g room fits low li =
       record {
-        long = omega (arith, l .long, cell-length w N (length adds) used (length (g .ins)));
+        long = omega (arith, l .long, cell-length w N (length adds) used (length (g .ins)) (g .lane));
         many = omega (arith, length-append adds (g ∷ []));
         used-is = omega (arith, l .used-is, pooled-append adds (g ∷ []));
         fits = omega (arith, two);
@@ -261,15 +270,17 @@ module _ (N : ℕ) (adds : List Reg) (used : ℕ) (w pool : List ℕ) (l : Lists
       new = nth-new adds g
 
       cells : (r : ℕ) → (r < length adds) ⊎ (r ≡ length adds)
-          → cell-at (with-cell w N (length adds) used (length (g .ins))) N r ≡ cell (pooled (take r (adds ++ (g ∷ [])))) (length ((nth (adds ++ (g ∷ [])) r) .ins))
+          →
+          cell-at (with-cell w N (length adds) used (length (g .ins)) (g .lane)) N r
+          ≡ cell (pooled (take r (adds ++ (g ∷ [])))) (length ((nth (adds ++ (g ∷ [])) r) .ins)) ((nth (adds ++ (g ∷ [])) r) .lane)
       cells r (inl h) =
-          rw (cell-other w N (length adds) used (length (g .ins)) r h, take-append-le r adds (g ∷ []) (omega arith), old r h) (l .cells r h)
+          rw (cell-other w N (length adds) used (length (g .ins)) (g .lane) r h, take-append-le r adds (g ∷ []) (omega arith), old r h) (l .cells r h)
       cells r (inr e) =
-          rw (e, cell-same w N (length adds) used (length (g .ins)) room (l .long), take-append-le (length adds) adds (g ∷ []) (omega arith), take-length adds, new, l .used-is)
+          rw (e, cell-same w N (length adds) used (length (g .ins)) (g .lane) room (l .long), take-append-le (length adds) adds (g ∷ []) (omega arith), take-length adds, new, l .used-is)
 
-      few : (r : ℕ) → (r < length adds) ⊎ (r ≡ length adds) → (length ((nth (adds ++ (g ∷ [])) r) .ins) ≤ most-in-a-list) × (length ((nth (adds ++ (g ∷ [])) r) .outs) ≤ most-in-a-list)
+      few : (r : ℕ) → (r < length adds) ⊎ (r ≡ length adds) → ((nth (adds ++ (g ∷ [])) r) .lane ≤ most-lane) × (length ((nth (adds ++ (g ∷ [])) r) .ins) ≤ most-in-a-list)
       few r (inl h) = rw (old r h) (l .few r h)
-      few r (inr e) = rw (e, new) (li, lo)
+      few r (inr e) = rw (e, new) (low, li)
 
 -- opening: no list is stored
 pub lists-open : (N : ℕ) (w pool : List ℕ) → waiting-needed N ≤ length w → Lists N [] 0 w pool

@@ -15,8 +15,8 @@ use borrow.Author.Tests.{eqb-true, eqb-false}
 use Rattle.rules.specs.Guide.{Entry as OrderEntry}
 use Rattle.rules.specs.Record.{Row, unfilled, fill, row-after}
 use Rattle.entries.specs.declared.Entry.{Entry}
-use Rattle.entries.specs.Entries.{row, entry-at, item-of, entry-of}
-use Rattle.entries.specs.Stored.{row-add}
+use Rattle.entries.specs.Entries.{lane-radix, packed, parallelism-in, lane-in, Narrow, row, entry-at, item-of, entry-of}
+use Rattle.entries.specs.Stored.{packed-parallelism, packed-lane, row-narrow, row-add}
 use Rattle.buffer.specs.View.{order-of}
 use Rattle.buffer.specs.Order.{map-append, order-count}
 use Rattle.records.specs.Filling.{row-extent, rows-fit, has-row, written-at, with-written, fill-one, filled, Fillable, fill-one-length, filled-length}
@@ -25,7 +25,15 @@ use Rattle.records.specs.Filling.{row-extent, rows-fit, has-row, written
 unfoldable pub row-at : List ℕ → ℕ → Row
 row-at rs r =
     let i = row-extent r in
-    record { added = getD rs i 0; accepted = getD rs (i + 1) 0; written = written-at rs r; index = getD rs (i + 3) 0; parallelism = getD rs (i + 4) 0 }
+    let last = getD rs (i + 4) 0 in
+    record {
+      added = getD rs i 0;
+      accepted = getD rs (i + 1) 0;
+      written = written-at rs r;
+      index = getD rs (i + 3) 0;
+      parallelism = parallelism-in last;
+      lane = lane-in last;
+    }
 
 -- the rows of the first v registrations are those of an order, with the written that ws has for each
 abbrev pub Filled : ℕ → List ℕ → List ℕ → List OrderEntry → Type 0
@@ -48,6 +56,9 @@ module _ (rs : List ℕ) (n : ℕ) (e : Entry) (h : has-row rs (e .added)) where
   abbrev a : ℕ
   a = e .added
 
+  abbrev fifth : ℕ
+  fifth = packed (e .parallelism) (e .lane)
+
   abbrev s1 : List ℕ
   s1 = set rs (row-extent a) (e .added)
 
@@ -60,29 +71,29 @@ module _ (rs : List ℕ) (n : ℕ) (e : Entry) (h : has-row rs (e .added)) where
   pub fill-other : (i : ℕ) → i ≢ row-extent a → i ≢ row-extent a + 1 → i ≢ row-extent a + 3 → i ≢ row-extent a + 4 → getD (fill-one rs n e) i 0 ≡ getD rs i 0
   unfolding fill-one
   fill-other i x y z w =
-      getD-set-other s3 (row-extent a + 4) i (e .parallelism) 0 w
+      getD-set-other s3 (row-extent a + 4) i fifth 0 w
       ∙ getD-set-other s2 (row-extent a + 3) i n 0 z
       ∙ getD-set-other s1 (row-extent a + 1) i (e .accepted) 0 y
       ∙ getD-set-other rs (row-extent a) i (e .added) 0 x
 
-  read-same : row-at (fill-one rs n e) a ≡ fill n (entry-of e) (row-at rs a)
+  read-same : e .parallelism < lane-radix → row-at (fill-one rs n e) a ≡ fill n (entry-of e) (row-at rs a)
   unfolding row-at fill-one fill entry-of item-of
-  read-same =
+  read-same narrow =
       let f0 : getD (fill-one rs n e) (row-extent a) 0 ≡ e .added =
-      getD-set-other s3 (row-extent a + 4) (row-extent a) (e .parallelism) 0 (omega arith)
+      getD-set-other s3 (row-extent a + 4) (row-extent a) fifth 0 (omega arith)
       ∙ getD-set-other s2 (row-extent a + 3) (row-extent a) n 0 (omega arith)
       ∙ getD-set-other s1 (row-extent a + 1) (row-extent a) (e .accepted) 0 (omega arith)
       ∙ getD-set-same rs (row-extent a) (e .added) 0 (omega arith) in
       let f1 : getD (fill-one rs n e) (row-extent a + 1) 0 ≡ e .accepted =
-      getD-set-other s3 (row-extent a + 4) (row-extent a + 1) (e .parallelism) 0 (omega arith)
+      getD-set-other s3 (row-extent a + 4) (row-extent a + 1) fifth 0 (omega arith)
       ∙ getD-set-other s2 (row-extent a + 3) (row-extent a + 1) n 0 (omega arith)
       ∙ getD-set-same s1 (row-extent a + 1) (e .accepted) 0 (simp length-set (omega arith)) in
       let f2 : getD (fill-one rs n e) (row-extent a + 2) 0 ≡ getD rs (row-extent a + 2) 0 = fill-other (row-extent a + 2) (omega arith) (omega arith) (omega arith) (omega arith) in
       let f3 : getD (fill-one rs n e) (row-extent a + 3) 0 ≡ n =
-      getD-set-other s3 (row-extent a + 4) (row-extent a + 3) (e .parallelism) 0 (omega arith)
+      getD-set-other s3 (row-extent a + 4) (row-extent a + 3) fifth 0 (omega arith)
       ∙ getD-set-same s2 (row-extent a + 3) n 0 (simp length-set (omega arith)) in
-      let f4 : getD (fill-one rs n e) (row-extent a + 4) 0 ≡ e .parallelism = getD-set-same s3 (row-extent a + 4) (e .parallelism) 0 (simp length-set (omega arith)) in
-      rw (f0, f1, f2, f3, f4)
+      let f4 : getD (fill-one rs n e) (row-extent a + 4) 0 ≡ fifth = getD-set-same s3 (row-extent a + 4) fifth 0 (simp length-set (omega arith)) in
+      rw (f0, f1, f2, f3, f4, packed-parallelism (e .parallelism) (e .lane) narrow, packed-lane (e .parallelism) (e .lane) narrow)
 
   read-other : (r : ℕ) → r ≢ a → row-at (fill-one rs n e) r ≡ row-at rs r
   unfolding row-at
@@ -94,11 +105,11 @@ module _ (rs : List ℕ) (n : ℕ) (e : Entry) (h : has-row rs (e .added)) where
       let f4 = fill-other (row-extent r + 4) (omega arith) (omega arith) (omega arith) (omega arith) in
       rw (f0, f1, f2, f3, f4)
 
-  read-filled-one : (r : ℕ) → row-at (fill-one rs n e) r ≡ filled-by r n (entry-of e) (row-at rs r)
+  read-filled-one : (r : ℕ) → e .parallelism < lane-radix → row-at (fill-one rs n e) r ≡ filled-by r n (entry-of e) (row-at rs r)
   unfolding entry-of item-of
-  read-filled-one r =
+  read-filled-one r narrow =
       by-cases (eqb a r) (fill n (entry-of e) (row-at rs r)) (row-at rs r) (row-at (fill-one rs n e) r)
-      (λ t. subst (λ (z : ℕ). row-at (fill-one rs n e) z ≡ fill n (entry-of e) (row-at rs z)) (eqb-true a r t) read-same)
+      (λ t. subst (λ (z : ℕ). row-at (fill-one rs n e) z ≡ fill n (entry-of e) (row-at rs z)) (eqb-true a r t) (read-same narrow))
       (λ t. read-other r (λ q. eqb-false a r t (sym q)))
 
 -- every entry is of a registration below v
@@ -106,12 +117,12 @@ unfoldable pub Known : ℕ → List OrderEntry → Type 0
 Known v [] = Unit {0}
 Known v (e ∷ es) = (e .item .added < v) × Known v es
 
-read-filled : (v r n : ℕ) (rs : List ℕ) (es : List Entry) → Known v (map entry-of es) → rows-fit rs v → row-at (filled rs n es) r ≡ row-after r (row-at rs r) n (map entry-of es)
+read-filled : (v r n : ℕ) (rs : List ℕ) (es : List Entry) → Known v (map entry-of es) → Narrow es → rows-fit rs v → row-at (filled rs n es) r ≡ row-after r (row-at rs r) n (map entry-of es)
 unfolding filled row-after Known item-of entry-of
-read-filled v r n rs [] k h = refl
-read-filled v r n rs (e ∷ es) k h =
-    read-filled v r (suc n) (fill-one rs n e) es (k .1) (omega (arith, fill-one-length rs n e))
-    ∙ ap (λ (z : Row). row-after r z (suc n) (map entry-of es)) (read-filled-one rs n e (omega (arith, k .0)) r)
+read-filled v r n rs [] k b h = refl
+read-filled v r n rs (e ∷ es) k b h =
+    read-filled v r (suc n) (fill-one rs n e) es (k .1) (b .1) (omega (arith, fill-one-length rs n e))
+    ∙ ap (λ (z : Row). row-after r z (suc n) (map entry-of es)) (read-filled-one rs n e (omega (arith, k .0)) r (b .0))
 
 pub known-at : (v : ℕ) (o : List ℕ) (n a q : ℕ) → Known v (map entry-of (row o n a)) → q < a → (entry-at o (n + q)) .added < v
 unfolding Known item-of entry-of
@@ -153,7 +164,7 @@ module _ (v n a : ℕ) (o rs : List ℕ) (long : rows-fit rs v) (known : Known v
       let z : Row = unfilled (getD ws r 0) in
       let new : List OrderEntry = map entry-of (row o n a) in
       let index : 0 + length (order-of o n) ≡ n = zero-add (length (order-of o n)) ∙ order-count o n in
-      read-filled v r n rs (row o n a) known long
+      read-filled v r n rs (row o n a) known (row-narrow o n a) long
       ∙ ap (λ (y : Row). row-after r y n new) (f r h)
       ∙ sym (ap (λ (l : List OrderEntry). row-after r z 0 l) order-grown
       ∙ after-append r z 0 (order-of o n) new
@@ -175,7 +186,7 @@ blank-rows v rs z r h =
 -- ---- written, which no entry changes
 
 rewrite : ℕ → Row → Row
-rewrite w a = record { added = a .added; accepted = a .accepted; written = w; index = a .index; parallelism = a .parallelism }
+rewrite w a = record { added = a .added; accepted = a .accepted; written = w; index = a .index; parallelism = a .parallelism; lane = a .lane }
 
 after-written : (r w : ℕ) (a : Row) (n : ℕ) (os : List OrderEntry) → rewrite w (row-after r a n os) ≡ row-after r (rewrite w a) n os
 unfolding row-after fill rewrite

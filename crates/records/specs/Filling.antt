@@ -1,6 +1,6 @@
--- How rows are filled: an entry that stands at index n of the order sets added, accepted, order index and parallelism of its registration's
--- row; `written` is stored apart. And the steps of the loop that fills. How many numbers a row has and what each of them is, is known in
--- this crate alone. Assumes nothing.
+-- How rows are filled: an entry that stands at index n of the order sets added, accepted, order index, parallelism and lane of its
+-- registration's row; `written` is stored apart. And the steps of the loop that fills. How many numbers a row has and what each of them
+-- is, is known in this crate alone; how the last is packed is the entries'. Assumes nothing.
 use mathlib.Core.Path.{_≡_, refl, _∙_}
 use mathlib.Core.List.{List, [], _∷_}
 use Prim.Native.Nat.{ℕ, suc, _+_, _*_, _-_, _/_, _≤_, _<_}
@@ -8,7 +8,7 @@ use native.Mathlib.Nat.{add-zero, sub-zero}
 use native.Mathlib.Omega.{arith}
 use lib.ListN.{length, getD, set, length-set}
 use Rattle.entries.specs.declared.Entry.{Entry}
-use Rattle.entries.specs.Entries.{row, entry-at}
+use Rattle.entries.specs.Entries.{packed, row, entry-at}
 
 -- the numbers of a row, and of n rows
 abbrev pub row-size : ℕ
@@ -38,7 +38,7 @@ with-written rs r written = set rs (row-extent r + 2) written
 unfoldable pub fill-one : List ℕ → ℕ → Entry → List ℕ
 fill-one rs n e =
     let i = row-extent (e .added) in
-    set (set (set (set rs i (e .added)) (i + 1) (e .accepted)) (i + 3) n) (i + 4) (e .parallelism)
+    set (set (set (set rs i (e .added)) (i + 1) (e .accepted)) (i + 3) n) (i + 4) (packed (e .parallelism) (e .lane))
 
 -- entries of which the first stands at index n
 unfoldable pub filled : List ℕ → ℕ → List Entry → List ℕ

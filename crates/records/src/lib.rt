@@ -1,5 +1,5 @@
-// Record rows, SIZE numbers each: added, accepted, written, order index, parallelism. When entries were appended to the order, the rows of
-// their registrations are filled, all but written, which is stored apart.
+// Record rows, SIZE numbers each: added, accepted, written, order index, and parallelism and lane in one. When entries were appended to the
+// order, the rows of their registrations are filled, all but written, which is stored apart.
 ghost use mathlib.Core.Path.{_≡_};
 ghost use Prim.Native.Nat.{_+_, _^_, _<_};
 ghost use Rattle.entries.specs.Entries.{row, fits};
@@ -18,7 +18,7 @@ fn fill_one(rows: &mut [u32], n: u32, e: Entry)
     rows[i] = e.added;
     rows[i + 1] = e.accepted;
     rows[i + 3] = n;
-    rows[i + 4] = e.parallelism;
+    rows[i + 4] = entries::packed(e.parallelism, e.lane);
 }
 
 // Fills the rows of the a entries of the order from index n on.

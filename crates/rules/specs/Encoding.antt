@@ -1,5 +1,6 @@
 -- A list of calls as numbers, as `replay` reads it: set x is 1, x; add is 2, the count of inputs, the inputs, the count of outputs, the
--- outputs; flush is 3; final is 4; an add with a lane (document 02, M-104) is 5, the lane, and then as after 2, which stands for lane 0. (Added beside document 01; the format is described in docs/REPLAY.md.) Assumes nothing.
+-- outputs; flush is 3; final is 4; an add with a lane (document 02, M-104) is 5, the lane, and then as after 2, which stands for lane 0.
+-- (Added beside document 01; the format is described in docs/REPLAY.md.) Assumes nothing.
 use mathlib.Core.List.{List, [], _∷_}
 use mathlib.Core.Bool.{true, false}
 use mathlib.Core.Option.{Option, some, none}

@@ -2,7 +2,7 @@
 -- and V are read and not judged, no call is judged, and every line is read. Only 16 and 15 are refused, in that order. Assumes nothing.
 use mathlib.Core.List.{List, [], _∷_}
 use mathlib.Core.Bool.{Bool, true, false}
-use mathlib.Core.Option.{Option, some, none}
+use mathlib.Core.Option.{some, none}
 use Prim.Native.Nat.{ℕ, suc, _+_, _*_}
 use lib.ListN.{length}
 use lib.Dec.{ltb}

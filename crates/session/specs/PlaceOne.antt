@@ -48,8 +48,8 @@ pub record Finds (locations w pool : List ℕ) (v added used r : ℕ) (f : After
   pub found : (k : Model) → Lists v (k .adds) used w pool → r < length (k .adds) → added ≡ length (k .adds) → Found locations pool (reg-of k r) f
 
 -- the entry that is placed
-abbrev pub entry-for : ℕ → ℕ → Entry
-entry-for r c = record { value = r; added = r; accepted = c; parallelism = 0 }
+abbrev pub entry-for : ℕ → ℕ → ℕ → Entry
+entry-for r c lane = record { value = r; added = r; accepted = c; parallelism = 0; lane = lane }
 
 module _ (c r : ℕ) (g : Guide) (watermark added used : ℕ) (σ : Storage) where
   module _ (P N W : ℕ) (k : Model) (st : List ℕ) (C : Core P N k g watermark σ) (S : Sound P N W k (r ∷ st)) where
@@ -102,7 +102,7 @@ module _ (c r : ℕ) (g : Guide) (watermark added used : ℕ) (σ : Storage) whe
         (found-for (a .P) (a .N) (a .W) (a .k) (a .st) (a .core) (a .sound) (a .added-is) (a .used-is))
 
     module _ (h : Guide) (sp o t : List ℕ) (span pos : ℕ)
-        (U : Pushes g h (after-of (f .has) (f .span) (f .pos)) (item-of (entry-for r c)) (σ .spans) (σ .order) (σ .tally) sp o t span pos) where
+        (U : Pushes g h (after-of (f .has) (f .span) (f .pos)) (item-of (entry-for r c (f .lane))) (σ .spans) (σ .order) (σ .tally) sp o t span pos) where
       abbrev n : ℕ
       n = g .written
 
@@ -121,7 +121,7 @@ module _ (c r : ℕ) (g : Guide) (watermark added used : ℕ) (σ : Storage) whe
         unfolding view
         order-is =
             ap (λ (x : ℕ). order-of o x) all
-            ∙ ap (λ (b : GuideModel). b .order) (placed-view P N k g watermark σ r C (may P N W k st C S) f F c (entry-for r c) h sp o t span pos refl refl refl U)
+            ∙ ap (λ (b : GuideModel). b .order) (placed-view P N k g watermark σ r C (may P N W k st C S) f F c (entry-for r c (f .lane)) h sp o t span pos refl refl refl refl U)
 
         known : Known N (order-of o (n + new))
         unfolding rest keep
@@ -153,7 +153,7 @@ module _ (c r : ℕ) (g : Guide) (watermark added used : ℕ) (σ : Storage) whe
               x .room,
               x .many,
               order-view h sp o,
-              ap (λ (b : GuideModel). length (b .order)) (placed-view P N k g watermark σ r C (may P N W k st C S) f F c (entry-for r c) h sp o t span pos refl refl refl U),
+              ap (λ (b : GuideModel). length (b .order)) (placed-view P N k g watermark σ r C (may P N W k st C S) f F c (entry-for r c (f .lane)) h sp o t span pos refl refl refl refl U),
             )
 
       pub asks-fill : MayPlace c g watermark added used σ r → (fits o (n + new) × (n + new < 2 ^ 32)) × Fillable o n new (σ .rows)
@@ -173,7 +173,7 @@ module _ (c r : ℕ) (g : Guide) (watermark added used : ℕ) (σ : Storage) whe
       places-one rs m l watermark′ a er Z =
           record {
             core = λ P N W k st C S E ea eu.
-                placed P N k g watermark σ r C (may P N W k st C S) f (F P N W k st C S E ea eu) c (entry-for r c) h sp o t span pos refl refl refl U watermark′ rs m l
+                placed P N k g watermark σ r C (may P N W k st C S) f (F P N W k st C S E ea eu) c (entry-for r c (f .lane)) h sp o t span pos refl refl refl refl U watermark′ rs m l
                 (rowed P N W k st C S E ea eu) Z;
             rises = omega (arith, Z .watermark-is, ap (λ (x : List ℕ). run-from (tracked-in x) (g .v) 0) (Z .stamps .marks-are), stamped-from (g .v) watermark (σ .marks) xs (G .long) (G .low));
             frame = record {

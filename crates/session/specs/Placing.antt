@@ -29,13 +29,14 @@ use Rattle.session.specs.Storage.{Storage}
 use Rattle.session.specs.Outputs.{Settling, Settled}
 use Rattle.session.specs.Rep.{Rowed, Core}
 
--- what is read of a registration a: whether it has inputs, the greatest location of them, and where its outputs lie
+-- what is read of a registration a: whether it has inputs, the greatest location of them, where its outputs lie, and its lane
 pub record Found (locations pool : List ℕ) (a : Reg) (f : After) : Type 0 where
   pub has-is : f .has ≡ ltb 0 (length (a .ins))
   pub peak-is : packed (f .span) (f .pos) ≡ peak locations (a .ins)
   pub low : f .pos < location-radix
   pub inside : f .at + f .n ≤ length pool
   pub outs-are : part pool (f .at) (f .n) ≡ a .outs
+  pub lane-is : f .lane ≡ a .lane
 
 pub all-below : (N : ℕ) (xs : List ℕ) → AllBelow N xs → Below N xs
 unfolding Below
@@ -95,17 +96,17 @@ module _ (P N : ℕ) (k : Model) (g : Guide) (watermark : ℕ) (σ : Storage) (r
         run-of : ℕ → ℕ
         run-of v = run-from (tracked-in (σ .marks)) v 0
 
-    module _ (c : ℕ) (e : Entry) (h : Guide) (sp o t : List ℕ) (span pos : ℕ) (ev : e .value ≡ r) (ea : e .added ≡ r) (ec : e .accepted ≡ c)
+    module _ (c : ℕ) (e : Entry) (h : Guide) (sp o t : List ℕ) (span pos : ℕ) (ev : e .value ≡ r) (ea : e .added ≡ r) (ec : e .accepted ≡ c) (el : e .lane ≡ f .lane)
         (U : Pushes g h (after-of (f .has) (f .span) (f .pos)) (item-of e) (σ .spans) (σ .order) (σ .tally) sp o t span pos) where
       item : Item
-      item = record { value = r; added = r; accepted = c }
+      item = record { value = r; added = r; accepted = c; lane = a .lane }
 
       pl : Placed
       pl = place P (after (k .located) (a .ins)) item (k .guide)
 
       pl-is : place (g .p) (after-of (f .has) (f .span) (f .pos)) (item-of e) (view g (σ .spans) (σ .order)) ≡ pl
       unfolding item-of item pl
-      pl-is = cc (after-is, ev, ea, ec, C .guided .view-is, C .guided .p-is)
+      pl-is = cc (after-is, ev, ea, ec, el ∙ F .lane-is, C .guided .view-is, C .guided .p-is)
 
       -- the guide after the placing
       pub placed-view : view h sp o ≡ (place-one P c r k) .guide

@@ -56,7 +56,7 @@ module _ (P N : ℕ) (k : Model) (s : Session) (σ : Storage) (R : Rep P N k s �
   lists-are r h = rw (R .counted .added-is, R .counted .used-is) (whole (parts-of N k (pooled (k .adds)) (σ .waiting) (σ .pool) (R .core .stored .lists) r h))
     where
       whole : Parts (σ .waiting) N r (length (k .adds)) (pooled (k .adds)) (σ .pool) (reg-of k r) → lists-in (σ .waiting) (σ .pool) N (length (k .adds)) (pooled (k .adds)) r ≡ reg-of k r
-      whole p = rw (p .ins-are, p .outs-are)
+      whole p = rw (p .lane-is, p .ins-are, p .outs-are)
 
   none-assigned : (i j : ℕ) → i < 32 → j < getD (s .guide .window .lens) i 0 → (entry-at (σ .spans) (row-start (getD (s .guide .window .rows) i 0) P + j)) .parallelism ≡ 0
   none-assigned = rw (← R .core .guided .p-is) (R .core .guided .stands .laid .unassigned)

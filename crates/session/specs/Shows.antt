@@ -15,7 +15,7 @@ use Rattle.buffer.specs.View.{row-start, order-of, upto}
 use Rattle.records.specs.Filled.{row-at}
 use Rattle.registrar.specs.Reading.{waiting-in}
 use Rattle.lists.specs.Part.{part}
-use Rattle.pool.specs.Lists.{start-of, inputs-of, end-of}
+use Rattle.pool.specs.Lists.{start-of, inputs-of, lane-of, end-of}
 use Rattle.session.specs.declared.Session.{Session}
 use Rattle.session.specs.Storage.{Storage}
 
@@ -23,11 +23,11 @@ use Rattle.session.specs.Storage.{Storage}
 unfoldable pub span-in : ℕ → Window → List ℕ → ℕ → List Item
 span-in P w spans i = map item-of (row spans (row-start (getD (w .rows) i 0) P) (getD (w .lens) i 0))
 
--- the lists of registration r, n being accepted and `used` numbers of the pool taken: its inputs, and its outputs behind them
+-- registration r, n being accepted and `used` numbers of the pool taken: its lane, its inputs, and its outputs behind them
 unfoldable pub lists-in : List ℕ → List ℕ → ℕ → ℕ → ℕ → ℕ → Reg
 lists-in w pool N n used r =
     let outs : ℕ = start-of w N r + inputs-of w N r in
-    record { ins = part pool (start-of w N r) (inputs-of w N r); outs = part pool outs (end-of w N r n used - outs) }
+    record { lane = lane-of w N r; ins = part pool (start-of w N r) (inputs-of w N r); outs = part pool outs (end-of w N r n used - outs) }
 
 pub record Shows (P N : ℕ) (k : Model) (s : Session) (σ : Storage) : Type 0 where
   -- what it was opened with
@@ -46,7 +46,7 @@ pub record Shows (P N : ℕ) (k : Model) (s : Session) (σ : Storage) : Type 0 w
   pub lengths : s .guide .window .lens ≡ map length (k .guide .spans)
   pub held : s .guide .held ≡ held-of (k .guide .spans)
   pub spans : (i : ℕ) → i < 32 → span-in P (s .guide .window) (σ .spans) i ≡ getD (k .guide .spans) i []
-  -- a held entry has no parallelism yet: 0 stands there
+  -- a held entry has no parallelism yet: 0 stands there, beside its lane
   pub unassigned : (i j : ℕ) → i < 32 → j < getD (s .guide .window .lens) i 0
       → entry-at (σ .spans) (row-start (getD (s .guide .window .rows) i 0) P + j) .parallelism ≡ 0
   -- the high mark, as the watermark
@@ -54,7 +54,7 @@ pub record Shows (P N : ℕ) (k : Model) (s : Session) (σ : Storage) : Type 0 w
   -- who waits, and how many
   pub waiting : waiting-in (σ .waiting) N (s .watermark) ≡ k .pending
   pub delayed : s .delayed ≡ length (k .pending)
-  -- how many are accepted, and the lists of each
+  -- how many are accepted, and the lane and the lists of each
   pub accepted : s .added ≡ length (k .adds)
   pub lists : (r : ℕ) → r < length (k .adds) → lists-in (σ .waiting) (σ .pool) N (s .added) (s .used) r ≡ reg-of k r
   -- plain flushes done, whether closed, and what final fixed

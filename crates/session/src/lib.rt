@@ -38,14 +38,15 @@ pub fn held(s: Session) -> u32
     s.guide.held
 }
 
-// What placing a registration reads of its lists: whether it has inputs, the greatest location of them, and the n outputs, which lie in
-// the pool from `at` on.
+// What placing a registration reads of it: whether it has inputs, the greatest location of them, the n outputs, which lie in the pool from
+// `at` on, and its lane.
 pub struct After {
     pub has: bool,
     pub span: u32,
     pub pos: u32,
     pub at: usize,
     pub n: usize,
+    pub lane: u16,
 }
 
 fn wide(x: u32) -> usize
@@ -54,7 +55,7 @@ fn wide(x: u32) -> usize
     x as usize
 }
 
-// Where the lists of registration r lie, and the greatest location of its inputs.
+// Where the lists of registration r lie, the greatest location of its inputs, and its lane.
 fn find_after(
     locations: &[u64],
     waiting: &[u64],
@@ -80,6 +81,7 @@ fn find_after(
         pos: tracking::position_of(top),
         at: at,
         n: end - at,
+        lane: pool::lane_of(waiting, size, i),
     }
 }
 
@@ -139,6 +141,7 @@ fn place_one(
         added: r,
         accepted: c,
         parallelism: 0,
+        lane: a.lane,
     };
     let d = guide::push(s.guide, spans, order, tally, a.has, a.span, a.pos, e);
     records::fill_rows(order, rows, n, d.guide.written - n);

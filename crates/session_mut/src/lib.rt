@@ -37,7 +37,7 @@ pub fn set(
     a.number
 }
 
-// Adds a registration that reads the places ins and writes the places outs: the call's number.
+// Adds a registration in a lane that reads the places ins and writes the places outs: the call's number.
 pub fn add(
     s: &mut Session,
     spans: &mut [u32],
@@ -50,9 +50,10 @@ pub fn add(
     pool: &mut [u32],
     ins: &[u64],
     outs: &[u64],
+    lane: u64,
 ) -> u64
     requires { ⌜ Asks (now s) (given spans order tally rows marks locations waiting pool) ⌝ }
-    ensures { λ r. ⌜ across spans order tally rows marks locations waiting pool (λ σ τ. Called (add-call (now (ins .entry)) (now (outs .entry))) r (now (s .entry)) (now (s .exit)) σ τ) ⌝ }
+    ensures { λ r. ⌜ across spans order tally rows marks locations waiting pool (λ σ τ. Called (add-call lane (now (ins .entry)) (now (outs .entry))) r (now (s .entry)) (now (s .exit)) σ τ) ⌝ }
 {
     let a = sorter::add(
         *s,
@@ -66,6 +67,7 @@ pub fn add(
         pool,
         ins,
         outs,
+        lane,
     );
     *s = a.session;
     a.number

@@ -62,7 +62,7 @@ pub fn set(
     }
 }
 
-// Adds a registration that reads the places ins and writes the places outs.
+// Adds a registration in a lane that reads the places ins and writes the places outs.
 pub fn add(
     s: Session,
     spans: &mut [u32],
@@ -75,11 +75,12 @@ pub fn add(
     pool: &mut [u32],
     ins: &[u64],
     outs: &[u64],
+    lane: u64,
 ) -> Answer
     requires { ⌜ Asks s (given spans order tally rows marks locations waiting pool) ⌝ }
-    ensures { λ r. ⌜ across spans order tally rows marks locations waiting pool (λ σ τ. Called (add-call (now (ins .entry)) (now (outs .entry))) (r .number) s (r .session) σ τ) ⌝ }
+    ensures { λ r. ⌜ across spans order tally rows marks locations waiting pool (λ σ τ. Called (add-call lane (now (ins .entry)) (now (outs .entry))) (r .number) s (r .session) σ τ) ⌝ }
 {
-    let a = admitting::admit_add(s, waiting, pool, ins, outs);
+    let a = admitting::admit_add(s, waiting, pool, ins, outs, lane);
     if a.number != 0 {
         return Answer {
             number: a.number,

@@ -9,12 +9,12 @@ use Rattle.rules.specs.Model.{initial, member, marked, tracked, run-from, water
 use Rattle.rules.specs.Model.{keep, push as push-stack, off, rest, with-set, with-add, cascade, settle-all, do-set, do-add, with-record, note-add, note-flush, note-final}
 use Rattle.rules.specs.Model.{with-flush, do-flush, do-final}
 use Rattle.rules.specs.Checks.{verdict, any, repeats, written-by, taken, pooled, check-closed, check-places, check-set, check-add, check-flush, check-final}
-use Rattle.rules.specs.Calls.{checks, answer, apply-call, unless-refused, step, run, set, add, flush, final}
+use Rattle.rules.specs.Calls.{checks, answer, apply-call, unless-refused, step, run, set, flush, final}
 use Rattle.rules.specs.Alone.{alone, holds, stray, worn, check-push, check-flush-alone, requests, reply, location, serve, serve-step, serve-all}
 use Rattle.rules.specs.Summary.{sum, average, median-from, median, counts, thousands, figures}
 use Rattle.rules.specs.Record.{mark-by, unfilled, fill, row-after, row-of, summary}
-use Rattle.vectors.specs.Shown.{Compared, at, item, keep-zero, trimmed, window, entry, held-item, joined, row, rows-from, place-row, places-from, traced, figured, closing}
-use Rattle.vectors.specs.Shown.{after-calls, traced-calls, where-to, served, after-requests, traced-requests}
+use Rattle.vectors.specs.Shown.{Compared, add, at, item, keep-zero, trimmed, window, entry, held-item, joined, row, rows-from, place-row, places-from, traced, figured}
+use Rattle.vectors.specs.Shown.{closing, after-calls, traced-calls, where-to, served, after-requests, traced-requests}
 
 pub runs : List Compared
 runs =

@@ -10,7 +10,7 @@ use lib.Ieee.{binary32, toBits}
 use Rattle.rules.specs.Guide.{Loc, Item, Entry, Guide, tally}
 use Rattle.rules.specs.Model.{Model, initial, watermark, loc-of, registrations}
 use Rattle.rules.specs.Calls.{Call, answer, step, run}
-use Rattle.rules.specs.Alone.{Alone, alone, Request, push, flush, reply, location, serve-step, serve-all}
+use Rattle.rules.specs.Alone.{Alone, alone, Request, push, pushed, flush, reply, location, serve-step, serve-all}
 use Rattle.rules.specs.Summary.{Figures}
 use Rattle.rules.specs.Record.{Row, mark-of, row-of, summary}
 use Rattle.rules.specs.Limits.{job-pool}
@@ -24,7 +24,11 @@ unfoldable pub at : ℕ → ℕ → Option Loc
 at s q = some (record { span = s; pos = q })
 
 unfoldable pub item : ℕ → ℕ → ℕ → Item
-item v a c = record { value = v; added = a; accepted = c }
+item v a c = pushed v a c
+
+-- the oracle knows no lanes: an add with lane 0
+abbrev pub add : List ℕ → List ℕ → Call
+add ins outs = Call.add 0 ins outs
 
 -- without the zeros at its end
 unfoldable pub keep-zero : ℕ → List ℕ → List ℕ

@@ -68,17 +68,17 @@ delayed-claimed [] b d = d
 delayed-claimed (x ∷ xs) b d = delayed-claimed xs (b .1) (delayed-flag _ 1 (b .0) d)
 
 -- the cell of a registration is stored
-module _ (w : List ℕ) {v r : ℕ} (start inputs : ℕ) (h : r < v) where
-  pub beyond-cell : SameBeyond v w (with-cell w v r start inputs)
+module _ (w : List ℕ) {v r : ℕ} (start inputs lane : ℕ) (h : r < v) where
+  pub beyond-cell : SameBeyond v w (with-cell w v r start inputs lane)
   unfolding with-cell
   beyond-cell i k = getD-set-other w _ i _ 0 (λ e. omega arith)
 
-  pub flags-cell : {t : ℕ → Bool} → Flags v t w → Flags v t (with-cell w v r start inputs)
+  pub flags-cell : {t : ℕ → Bool} → Flags v t w → Flags v t (with-cell w v r start inputs lane)
   unfolding with-cell flag-at
-  flags-cell {t} f = flags-kept v t w (with-cell w v r start inputs) (cell-length w v r start inputs) (λ x k. getD-set-other w _ _ _ 0 (λ e. omega arith)) f
+  flags-cell {t} f = flags-kept v t w (with-cell w v r start inputs lane) (cell-length w v r start inputs lane) (λ x k. getD-set-other w _ _ _ 0 (λ e. omega arith)) f
 
-  pub delayed-cell : {lo : ℕ} {ps : List Pending} {top : ℕ} {st : List ℕ} → Delayed w v lo ps top st → Delayed (with-cell w v r start inputs) v lo ps top st
+  pub delayed-cell : {lo : ℕ} {ps : List Pending} {top : ℕ} {st : List ℕ} → Delayed w v lo ps top st → Delayed (with-cell w v r start inputs lane) v lo ps top st
   unfolding with-cell
   delayed-cell {lo} {ps} {top} {st} d =
-      delayed-same w v lo ps top st d (with-cell w v r start inputs) (cell-length w v r start inputs)
+      delayed-same w v lo ps top st d (with-cell w v r start inputs lane) (cell-length w v r start inputs lane)
       (λ p k. getD-set-other w _ p _ 0 (λ e. omega arith)) (λ q k. getD-set-other w _ _ _ 0 (λ e. omega arith))

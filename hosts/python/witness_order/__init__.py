@@ -7,9 +7,9 @@ r"""Host code, not proved: execution orders of circuits, by the proved libraries
     for entry in run_job(job).entries:
         print(entry.added, entry.parallelism)
 
-    calls = Calls().set(0).add([0], [1, 2]).add([2], [3]).final()
+    calls = Calls().set(0).add([0], [1, 2]).add([2], [3], lane=1).final()
     result = replay(parallelism=4, places=4, calls=calls)
-    print(result.numbers, [entry.added for entry in result.entries()], result.summary().median)
+    print(result.numbers, [(entry.added, entry.lane) for entry in result.entries()], result.summary().median)
     print(held(parallelism=4, places=4, calls=Calls().add([], [0])))
 
 A job or a list of calls that is refused as a whole raises `Rejected`, with the number as a `Refusal` and,

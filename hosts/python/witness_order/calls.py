@@ -6,7 +6,7 @@ from .libraries import as_arguments, function
 from .limits import REPLY_RADIX
 from .refusals import Refusal
 
-SET, ADD, FLUSH, FINAL = 1, 2, 3, 4
+SET, ADD, FLUSH, FINAL, LANE_ADD = 1, 2, 3, 4, 5
 MOST = 2**64 - 1
 
 
@@ -45,10 +45,12 @@ class Calls:
     def set(self, place):
         return self._more([SET, *numbers_of([place])])
 
-    def add(self, inputs, outputs):
+    def add(self, inputs, outputs, lane=None):
+        """Adds a registration, in lane 0 unless a lane is given; a call with one over 255 is refused with 18."""
         ins, outs = numbers_of(inputs), numbers_of(outputs)
+        start = [ADD] if lane is None else [LANE_ADD, *numbers_of([lane])]
         self.pooled += len(ins) + len(outs)
-        return self._more([ADD, len(ins), *ins, len(outs), *outs])
+        return self._more([*start, len(ins), *ins, len(outs), *outs])
 
     def flush(self):
         return self._more([FLUSH])

@@ -10,7 +10,7 @@ from .limits import PROGRAM_LISTING_BYTES, REPLY_RADIX
 LISTING_BYTES = PROGRAM_LISTING_BYTES
 
 # An entry's line: its order index, and the line's other fields by their names.
-Listed = collections.namedtuple("Listed", "index added accepted parallelism written")
+Listed = collections.namedtuple("Listed", "index added accepted parallelism written lane")
 
 
 class Listing:

@@ -7,13 +7,15 @@ import struct
 
 from .limits import LOW_COUNTS, MOST_PARALLELISM, MOST_PLACES, SUMS_OF_THOUSANDS
 
-Entry = collections.namedtuple("Entry", "value added accepted parallelism")
-Row = collections.namedtuple("Row", "added accepted written index parallelism")
+Entry = collections.namedtuple("Entry", "value added accepted parallelism lane")
+Row = collections.namedtuple("Row", "added accepted written index parallelism lane")
 Figures = collections.namedtuple("Figures", "average median counts thousands")
 
 SPANS = 32
-ENTRY_NUMBERS = len(Entry._fields)
-ROW_NUMBERS = len(Row._fields)
+# Parallelism and lane stand in one number: parallelism + LANE_RADIX * lane.
+LANE_RADIX = 65_536
+ENTRY_NUMBERS = len(Entry._fields) - 1
+ROW_NUMBERS = len(Row._fields) - 1
 WAITING_PER_PLACE = 4
 COUNTS, THOUSANDS = LOW_COUNTS, SUMS_OF_THOUSANDS
 SUMMARY_NUMBERS = 2 + COUNTS + THOUSANDS
@@ -46,14 +48,19 @@ def storage(parallelism, places, pool):
     }
 
 
+def unpacked(numbers, index, count):
+    """The fields of an entry or a row among the flat numbers, so many each; the last number is two of them."""
+    *fields, last = numbers[count * index : count * (index + 1)]
+    lane, parallelism = divmod(last, LANE_RADIX)
+    return (*fields, parallelism, lane)
+
+
 def entry_at(order, index):
-    at = ENTRY_NUMBERS * index
-    return Entry(*order[at : at + ENTRY_NUMBERS])
+    return Entry(*unpacked(order, index, ENTRY_NUMBERS))
 
 
 def row_at(rows, registration):
-    at = ROW_NUMBERS * registration
-    return Row(*rows[at : at + ROW_NUMBERS])
+    return Row(*unpacked(rows, registration, ROW_NUMBERS))
 
 
 def figures_of(numbers):

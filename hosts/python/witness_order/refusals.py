@@ -25,6 +25,7 @@ class Refusal(enum.IntEnum):
     MALFORMED = 15
     LONG_JOB = 16
     LONG_LISTING = 17
+    UNKNOWN_LANE = 18
 
     @property
     def when(self):
@@ -58,6 +59,7 @@ WHEN = {
     15: "a line is malformed, missing or surplus; in a list of calls or requests, a number starts none or one is cut short",
     16: "the job has more than 65,536 bytes",
     17: "the listing is longer than the bytes that are lent for it",
+    18: "a registration's lane is over 255",
 }
 
 ADVICE = {
@@ -78,6 +80,7 @@ ADVICE = {
     15: "compare the line with the grammar",
     16: "run it by `order-large`, which takes jobs of any size",
     17: "lend more bytes, or run the job by `order-large`, which prints listings of any size",
+    18: "number the lanes from 0 to 255",
 }
 
 

@@ -1,15 +1,29 @@
 //! Host code, not proved: a list of calls, encoded as docs/REPLAY.md says.
 
-use crate::layout::{TAG_ADD, TAG_FINAL, TAG_FLUSH, TAG_SET};
+use crate::layout::{TAG_ADD, TAG_FINAL, TAG_FLUSH, TAG_LANE_ADD, TAG_SET};
 
 /// A call of a session. `L` holds the places of a list.
 #[derive(Clone, Copy, Debug, PartialEq, Eq)]
 pub enum Call<L> {
     Set(u64),
-    /// Inputs and outputs.
+    /// Inputs and outputs; the lane is 0.
     Add(L, L),
+    /// Lane, inputs and outputs. A lane over 255 is refused with 18.
+    AddInLane(u64, L, L),
     Flush,
     Final,
+}
+
+impl<L> Call<L> {
+    /// The inputs and outputs of an add.
+    pub fn lists(&self) -> Option<(&L, &L)> {
+        match self {
+            Call::Add(inputs, outputs) | Call::AddInLane(_, inputs, outputs) => {
+                Some((inputs, outputs))
+            }
+            Call::Set(_) | Call::Flush | Call::Final => None,
+        }
+    }
 }
 
 impl<L: AsRef<[u64]>> Call<L> {
@@ -17,15 +31,16 @@ impl<L: AsRef<[u64]>> Call<L> {
     pub fn encode(&self, list: &mut Vec<u64>) {
         match self {
             Call::Set(place) => list.extend([TAG_SET, *place]),
-            Call::Add(inputs, outputs) => {
-                let (inputs, outputs) = (inputs.as_ref(), outputs.as_ref());
-                list.extend([TAG_ADD, inputs.len() as u64]);
-                list.extend(inputs);
-                list.push(outputs.len() as u64);
-                list.extend(outputs);
-            }
+            Call::Add(..) => list.push(TAG_ADD),
+            Call::AddInLane(lane, ..) => list.extend([TAG_LANE_ADD, *lane]),
             Call::Flush => list.push(TAG_FLUSH),
             Call::Final => list.push(TAG_FINAL),
+        }
+        if let Some((inputs, outputs)) = self.lists() {
+            for places in [inputs.as_ref(), outputs.as_ref()] {
+                list.push(places.len() as u64);
+                list.extend(places);
+            }
         }
     }
 }
@@ -37,6 +52,7 @@ impl<L: AsRef<[u64]>> Call<L> {
 /// let calls = Calls::new().set(0).add(&[0], &[1, 2]).flush().finish();
 /// assert_eq!(calls.numbers(), [1, 0, 2, 1, 0, 2, 1, 2, 3, 4]);
 /// assert_eq!(calls.len(), 4);
+/// assert_eq!(Calls::new().add_in_lane(7, &[0], &[1]).numbers(), [5, 7, 1, 0, 1, 1]);
 /// ```
 #[derive(Clone, Debug, Default, PartialEq, Eq)]
 pub struct Calls {
@@ -55,9 +71,15 @@ impl Calls {
         self.with(Call::Set(place))
     }
 
-    /// Adds a registration that reads the inputs and writes the outputs.
+    /// Adds a registration that reads the inputs and writes the outputs, in lane 0.
     pub fn add(self, inputs: &[u64], outputs: &[u64]) -> Self {
         self.with(Call::Add(inputs, outputs))
+    }
+
+    /// Adds a registration in a lane: a label for the kind of hardware that it needs, which its entry and
+    /// row carry. Lanes are 0 to 255, and a call with a greater one is refused with 18.
+    pub fn add_in_lane(self, lane: u64, inputs: &[u64], outputs: &[u64]) -> Self {
+        self.with(Call::AddInLane(lane, inputs, outputs))
     }
 
     /// Releases all spans.
@@ -79,7 +101,7 @@ impl Calls {
     pub fn push<L: AsRef<[u64]>>(&mut self, call: &Call<L>) {
         call.encode(&mut self.numbers);
         self.count += 1;
-        if let Call::Add(inputs, outputs) = call {
+        if let Some((inputs, outputs)) = call.lists() {
             self.list_numbers += inputs.as_ref().len() + outputs.as_ref().len();
         }
     }
@@ -149,6 +171,7 @@ impl<'a> Iterator for Iter<'a> {
         Some(match self.take(1)[0] {
             TAG_SET => Call::Set(self.take(1)[0]),
             TAG_ADD => Call::Add(self.counted(), self.counted()),
+            TAG_LANE_ADD => Call::AddInLane(self.take(1)[0], self.counted(), self.counted()),
             TAG_FLUSH => Call::Flush,
             _ => Call::Final,
         })
@@ -161,12 +184,15 @@ mod tests {
 
     #[test]
     fn calls_are_read_as_they_were_made() {
-        let made: [Call<Vec<u64>>; 6] = [
+        let made: [Call<Vec<u64>>; 9] = [
             Call::Set(u64::MAX),
             Call::Add(vec![], vec![]),
             Call::Add(vec![3, 1, 4], vec![]),
+            Call::AddInLane(0, vec![], vec![]),
             Call::Flush,
+            Call::AddInLane(255, vec![2], vec![6, 5]),
             Call::Add(vec![], vec![5, 9]),
+            Call::AddInLane(u64::MAX, vec![], vec![3]),
             Call::Final,
         ];
         let mut calls = Calls::new();
@@ -178,12 +204,15 @@ mod tests {
             .map(|call| match call {
                 Call::Set(place) => Call::Set(place),
                 Call::Add(inputs, outputs) => Call::Add(inputs.to_vec(), outputs.to_vec()),
+                Call::AddInLane(lane, inputs, outputs) => {
+                    Call::AddInLane(lane, inputs.to_vec(), outputs.to_vec())
+                }
                 Call::Flush => Call::Flush,
                 Call::Final => Call::Final,
             })
             .collect();
         assert_eq!(read, made);
-        assert_eq!((calls.len(), calls.list_numbers()), (6, 5));
+        assert_eq!((calls.len(), calls.list_numbers()), (9, 9));
     }
 
     #[test]

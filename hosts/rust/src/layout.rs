@@ -6,12 +6,14 @@ pub mod limits;
 
 /// Spans in the guide's window.
 pub const SPANS: usize = 32;
-/// Numbers of an entry: value, added, accepted, parallelism.
+/// Numbers of an entry: value, added, accepted, and parallelism with lane.
 pub const ENTRY: usize = 4;
-/// Numbers of a row: added, accepted, written, order index, parallelism.
+/// Numbers of a row: added, accepted, written, order index, and parallelism with lane.
 pub const ROW: usize = 5;
 /// Where `written` stands in a row.
 pub const ROW_WRITTEN: usize = 2;
+/// Parallelism and lane stand in one number: parallelism + `LANE_RADIX` · lane.
+pub const LANE_RADIX: u32 = 1 << 16;
 /// Numbers of the waiting storage for each place.
 pub const WAITING: usize = 4;
 
@@ -49,6 +51,8 @@ pub const TAG_SET: u64 = 1;
 pub const TAG_ADD: u64 = 2;
 pub const TAG_FLUSH: u64 = 3;
 pub const TAG_FINAL: u64 = 4;
+/// An add with its lane; `TAG_ADD` is one in lane 0.
+pub const TAG_LANE_ADD: u64 = 5;
 
 /// The numbers that a session of parallelism p over v places needs; the pool may have any length.
 #[derive(Clone, Copy, Debug, PartialEq, Eq)]
@@ -84,6 +88,11 @@ impl Needed {
     }
 }
 
+/// Parallelism and lane from the number that holds both; its upper half is the lane, whole.
+pub fn parallelism_and_lane(number: u32) -> (u32, u32) {
+    (number % LANE_RADIX, number / LANE_RADIX)
+}
+
 /// An entry of the order.
 #[derive(Clone, Copy, Debug, PartialEq, Eq)]
 pub struct Entry {
@@ -91,16 +100,20 @@ pub struct Entry {
     pub added: u32,
     pub accepted: u32,
     pub parallelism: u32,
+    /// Its registration's, at most 255.
+    pub lane: u32,
 }
 
 impl Entry {
     /// From its numbers in the order.
     pub fn from_numbers(numbers: &[u32]) -> Self {
+        let (parallelism, lane) = parallelism_and_lane(numbers[3]);
         Self {
             value: numbers[0],
             added: numbers[1],
             accepted: numbers[2],
-            parallelism: numbers[3],
+            parallelism,
+            lane,
         }
     }
 }
@@ -114,17 +127,21 @@ pub struct Row {
     pub written: u32,
     pub order_index: u32,
     pub parallelism: u32,
+    /// Its entry's.
+    pub lane: u32,
 }
 
 impl Row {
     /// From its numbers among the rows.
     pub fn from_numbers(numbers: &[u32]) -> Self {
+        let (parallelism, lane) = parallelism_and_lane(numbers[4]);
         Self {
             added: numbers[0],
             accepted: numbers[1],
             written: numbers[ROW_WRITTEN],
             order_index: numbers[3],
-            parallelism: numbers[4],
+            parallelism,
+            lane,
         }
     }
 }

@@ -23,13 +23,13 @@
 //! use witness_order::{replay, Calls, Storage};
 //!
 //! # fn main() -> Result<(), Box<dyn std::error::Error>> {
-//! // Place 0 is given; four registrations write 1, 2, 3 and 4.
+//! // Place 0 is given; four registrations write 1, 2, 3 and 4, the last one on hardware of kind 7.
 //! let calls = Calls::new()
 //!     .set(0)
 //!     .add(&[0], &[1])
 //!     .add(&[1], &[2])
 //!     .add(&[0], &[3])
-//!     .add(&[], &[4])
+//!     .add_in_lane(7, &[], &[4])
 //!     .finish();
 //!
 //! // Two at a time, six places, a pool for all numbers of the lists.
@@ -41,6 +41,8 @@
 //! assert_eq!(order, [0, 2, 1, 3]);
 //! let widths: Vec<u32> = done.entries().map(|entry| entry.parallelism).collect();
 //! assert_eq!(widths, [2, 2, 2, 1]);
+//! let lanes: Vec<u32> = done.entries().map(|entry| entry.lane).collect();
+//! assert_eq!(lanes, [0, 0, 0, 7]);
 //! assert_eq!(done.summary().median, 2);
 //! # Ok(())
 //! # }

@@ -9,6 +9,7 @@ pub const LEAST_FLAGGED: u64 = 4_611_686_018_427_387_904;
 pub const LAST_SPAN_LIMIT: u64 = 4_294_967_264;
 pub const MARK_WRITTEN: u64 = 32_768;
 pub const MARK_SET: u64 = 49_152;
+pub const MOST_LANE: u64 = 255;
 pub const LOCATION_RADIX: u64 = 4_294_967_296;
 pub const AVERAGE_DIVISOR: u64 = 65_000;
 pub const LOW_COUNTS: u64 = 128;

@@ -39,11 +39,13 @@ pub enum Refusal {
     LongJob = 16,
     /// the listing is longer than the bytes that are lent for it
     LongListing = 17,
+    /// a registration's lane is over 255
+    UnknownLane = 18,
 }
 
 impl Refusal {
     /// Every refusal, by ascending number.
-    pub const ALL: [Refusal; 17] = [
+    pub const ALL: [Refusal; 18] = [
         Refusal::OutOfRange,
         Refusal::TooShort,
         Refusal::TooManyNumbers,
@@ -61,6 +63,7 @@ impl Refusal {
         Refusal::Malformed,
         Refusal::LongJob,
         Refusal::LongListing,
+        Refusal::UnknownLane,
     ];
 
     /// The refusal's number.
@@ -96,6 +99,7 @@ impl Refusal {
             Refusal::Malformed => "malformed",
             Refusal::LongJob => "long_job",
             Refusal::LongListing => "long_listing",
+            Refusal::UnknownLane => "unknown_lane",
         }
     }
 
@@ -137,6 +141,7 @@ impl Refusal {
             }
             Refusal::LongJob => "the job has more than 65,536 bytes",
             Refusal::LongListing => "the listing is longer than the bytes that are lent for it",
+            Refusal::UnknownLane => "a registration's lane is over 255",
         }
     }
 
@@ -168,6 +173,7 @@ impl Refusal {
             Refusal::LongListing => {
                 "lend more bytes, or run the job by `order-large`, which prints listings of any size"
             }
+            Refusal::UnknownLane => "number the lanes from 0 to 255",
         }
     }
 }

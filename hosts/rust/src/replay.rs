@@ -3,7 +3,7 @@
 use std::alloc::{alloc_zeroed, Layout};
 use std::fmt;
 
-use crate::calls::{Call, Calls};
+use crate::calls::Calls;
 use crate::layout::limits::REPLY_RADIX;
 use crate::layout::{Entry, Location, Needed, Row, ENTRY, ROW, ROW_WRITTEN, SET, UNTRACKED};
 use crate::refusal::Refusal;
@@ -255,7 +255,7 @@ impl<'a> Replayed<'a> {
     /// How many adds were accepted.
     pub fn registrations(&self) -> usize {
         let adds = self.calls.iter().zip(self.numbers());
-        adds.filter(|(call, number)| matches!(call, Call::Add(..)) && **number == 0)
+        adds.filter(|(call, number)| call.lists().is_some() && **number == 0)
             .count()
     }
 
@@ -370,7 +370,8 @@ mod tests {
     #[test]
     fn a_malformed_list_is_refused() {
         let mut storage = Storage::new(3, 5, 0).expect("in range");
-        for numbers in [vec![5], vec![1], vec![2, 1], vec![2, 0, 1], vec![0]] {
+        let cut_short = [vec![1], vec![2, 1], vec![2, 0, 1], vec![5], vec![5, 0]];
+        for numbers in cut_short.into_iter().chain([vec![0], vec![6]]) {
             let calls = Calls {
                 numbers,
                 count: 1,

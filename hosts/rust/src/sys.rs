@@ -201,7 +201,7 @@ pub fn summary(tally: &[u32], summary: &mut [u32]) -> u64 {
     }
 }
 
-/// An entry of the order as a struct.
+/// An entry of the order as a struct; 16 bytes.
 #[repr(C)]
 #[derive(Clone, Copy, Debug, Default, PartialEq, Eq)]
 pub struct OrderInfo {
@@ -209,6 +209,7 @@ pub struct OrderInfo {
     pub added: u32,
     pub accepted: u32,
     pub parallelism: u16,
+    pub lane: u8,
 }
 
 /// Copies entries `from` to `to` - 1 of a flat order: 0, or the number of a refusal.

@@ -90,6 +90,23 @@ fn a_refused_job_has_status_1() {
 }
 
 #[test]
+fn a_lane_is_quoted_with_its_registration() {
+    let head = "parallelism=2\nplaces=6\n";
+    let refused = format!("{head}lane=256\nin=\nout=1\nfinal=1\n");
+    let (_, listing, said) = run(&["--words"], &refused);
+    assert_eq!(listing, "status=18\nline=5\n");
+    let said: Vec<&str> = said.lines().collect();
+    let quoted = ["     3 | lane=256", "     4 | in=", "     5 | out=1"];
+    assert_eq!(said[1..4], quoted);
+    assert!(said[0].starts_with("order-large: line 5: refused with 18 (unknown_lane): "));
+    let malformed = format!("{head}lane=1\nset=0\nfinal=1\n");
+    let (_, listing, said) = run(&["--words"], &malformed);
+    assert_eq!(listing, "status=15\nline=4\n");
+    let expected = "order-large: expected: `in=LIST`, after `lane=N`";
+    assert_eq!(said.lines().nth(2), Some(expected), "{said}");
+}
+
+#[test]
 fn words_quote_the_line() {
     for (job, quoted) in [
         ("", "     1 | (the job ends before this line)"),

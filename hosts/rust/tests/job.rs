@@ -10,10 +10,10 @@ entries=4
 places=5
 floor=2
 median=2
-order=0 added=0 accepted=0 parallelism=2 written=0
-order=1 added=2 accepted=2 parallelism=2 written=0
-order=2 added=1 accepted=1 parallelism=2 written=0
-order=3 added=3 accepted=3 parallelism=1 written=4
+order=0 added=0 accepted=0 parallelism=2 written=0 lane=0
+order=1 added=2 accepted=2 parallelism=2 written=0 lane=0
+order=2 added=1 accepted=1 parallelism=2 written=0 lane=0
+order=3 added=3 accepted=3 parallelism=1 written=4 lane=0
 ";
 
 #[test]
@@ -37,12 +37,14 @@ fn a_listing_one_byte_short_is_refused_and_untouched() {
 
 #[test]
 fn a_refused_job_says_its_line() {
-    let refused: [(&[u8], u64, u64); 6] = [
+    let refused: [(&[u8], u64, u64); 8] = [
         (b"", 15, 1),
         (b"parallelism=0\nplaces=6\n", 1, 2),
         (b"parallelism=65\nplaces=6\n", 2, 2),
         (b"parallelism=2\nplaces=6\nset=6\n", 5, 3),
         (b"parallelism=2\nplaces=6\nin=\nout=1,1\n", 6, 4),
+        (b"parallelism=2\nplaces=6\nlane=256\nin=\nout=1\n", 18, 5),
+        (b"parallelism=2\nplaces=6\nlane=255\nset=0\n", 15, 4),
         (&[b'\n'; 65_537], 16, 1),
     ];
     for (text, number, line) in refused {

@@ -114,7 +114,7 @@ fn jobs_at_the_boundaries() {
     all.retain(|job| !job.windows(16).any(|bytes| bytes == b"places=16777216\n"));
     let seen = compare_all("boundaries", all);
     // 3, 7 and 11 need more lines or longer lists than `order_job` takes; 17 needs fewer bytes lent.
-    for code in [0, 1, 2, 4, 5, 6, 8, 9, 10, 12, 15, 16] {
+    for code in [0, 1, 2, 4, 5, 6, 8, 9, 10, 12, 15, 16, 18] {
         assert!(seen.contains_key(&code), "no job with {code}");
     }
 }
@@ -253,6 +253,11 @@ fn lists_and_flushes_have_their_limits() {
         let earlier = job("\nout=1\nfinal=1\n").replacen("set=0", "set=6", 1);
         assert_eq!(status(&earlier, None), "status=5 line=3");
     }
+    // A lane over 255 comes before a list that is too long.
+    for (lane, wanted) in [(255, "status=3 line=5"), (256, "status=18 line=5")] {
+        let job = format!("lane={lane}\nin={}\nout=1\nfinal=1\n", list(65_536));
+        assert_eq!(status(&(head(2, 6) + &job), None), wanted, "lane {lane}");
+    }
     let outputs = head(2, 6) + &format!("in=\nout={}\nfinal=1\n", list(300_000));
     assert_eq!(status(&outputs, None), "status=3 line=4");
     let flushes = |count: usize| head(2, 6) + &"flush=1\n".repeat(count) + "final=1\n";
@@ -277,6 +282,11 @@ fn an_earlier_refusal_wins_over_a_later_malformed_line() {
         ("in=9\nout=1\nfinal=1\n", "status=5 line=4"),
         ("in=9\nout=1,\nfinal=1\n", "status=15 line=4"),
         ("set=9\nset=8\nfinal=1\n", "status=5 line=3"),
+        ("lane=256\nin=9\nout=1\nnonsense\n", "status=18 line=5"),
+        ("lane=256\nin=9\nout=1,\n", "status=15 line=5"),
+        ("lane=256\nin=9,\nout=1\n", "status=15 line=4"),
+        ("set=0\nset=0\nlane=256\nset=1\n", "status=8 line=4"),
+        ("lane=1\nin=\nout=0\nset=0\nfinal=1\n", "status=8 line=6"),
     ] {
         assert_eq!(status(&(start.clone() + rest), None), wanted, "{rest:?}");
     }
@@ -297,9 +307,10 @@ fn thousands_of_places_beside_the_model() {
         let inputs: Vec<u64> = (0..numbers.below(4))
             .map(|_| numbers.below(place))
             .collect();
-        assert_eq!(session.add(&inputs, &[place]), 0);
+        let lane = numbers.lane();
+        assert_eq!(session.add(lane, &inputs, &[place]), 0);
         let inputs: Vec<String> = inputs.iter().map(u64::to_string).collect();
-        text += &format!("in={}\nout={place}\n", inputs.join(","));
+        text += &format!("lane={lane}\nin={}\nout={place}\n", inputs.join(","));
     }
     let summary = session
         .final_flush()

@@ -29,6 +29,7 @@ fn accepted_jobs_have_the_entries_that_they_need() {
             "flush=1\nin=\nout=\nflush=1\nin=\nout=0,1,2\nflush=1\nfinal=1\n",
             [2, 3, 3, 132],
         ),
+        ("lane=255\nin=\nout=0\nfinal=1\n", [1, 1, 0, 34]),
     ];
     for (calls, needs) in accepted {
         let text = format!("{HEAD}{calls}");
@@ -40,7 +41,7 @@ fn accepted_jobs_have_the_entries_that_they_need() {
 }
 
 /// Jobs that are well formed and refused when they are run: the number of that, their needs, their text.
-fn refused_when_run() -> [(u64, [u64; 4], String); 7] {
+fn refused_when_run() -> [(u64, [u64; 4], String); 8] {
     let many = vec!["0"; 4096].join(",");
     let head = |p, v| format!("parallelism={p}\nplaces={v}\n");
     let calls = |text| format!("{HEAD}{text}final=1\n");
@@ -60,6 +61,7 @@ fn refused_when_run() -> [(u64, [u64; 4], String); 7] {
             calls(&format!("set=0\nin={many}\nout=1\n")),
         ),
         (12, [1, 2, 1, 66], calls("in=5\nout=1\nflush=1\n")),
+        (18, [1, 1, 0, 34], calls("lane=256\nin=\nout=1\n")),
     ]
 }
 
@@ -88,6 +90,10 @@ fn what_is_refused_when_read_is_refused_by_both() {
         (15, 2, "parallelism=2\n".into()),
         (15, 4, format!("{HEAD}set=0\n")),
         (15, 4, format!("{HEAD}in=0\nfinal=1\n")),
+        (15, 4, format!("{HEAD}lane=0\nset=0\n")),
+        (15, 4, format!("{HEAD}lane=0\n")),
+        (15, 4, format!("{HEAD}in=0\nlane=0\nout=1\n")),
+        (15, 3, format!("{HEAD}lane=00\nin=0\nout=1\n")),
         (15, 3, format!("{HEAD}final=1")),
         (15, 1, "#".repeat(65_536)),
         (16, 1, "#".repeat(65_537)),

@@ -103,6 +103,29 @@ fn a_refused_call_changes_nothing_and_the_next_one_runs() {
     assert!(done.is_empty());
 }
 
+/// Registrations 1 and 2 wait until 3 writes place 1.
+#[test]
+fn lanes_come_with_entries_and_rows() {
+    let calls = Calls::new()
+        .add_in_lane(3, &[], &[0])
+        .add_in_lane(255, &[1], &[2])
+        .add_in_lane(256, &[], &[1])
+        .add_in_lane(9, &[2], &[3])
+        .add(&[], &[1])
+        .finish();
+    let mut storage = Storage::new(2, 6, calls.list_numbers()).unwrap();
+    let done = replay(&mut storage, &calls).unwrap();
+    assert_eq!(done.numbers(), [0, 0, 18, 0, 0, 0]);
+    assert_eq!(done.first_refused(), Some((2, Refusal::UnknownLane)));
+    let lanes = [3, 255, 9, 0];
+    assert_eq!(done.len(), lanes.len());
+    for entry in done.entries() {
+        assert_eq!(entry.lane, lanes[entry.added as usize]);
+    }
+    let rows: Vec<u32> = done.rows().map(|row| row.lane).collect();
+    assert_eq!(rows, lanes);
+}
+
 /// J1 by its beginnings: the third registration fills a span, and an empty one is released; the fourth
 /// fills the next, and two entries come into the order.
 #[test]
@@ -275,9 +298,12 @@ fn no_registration_is_past_the_last() {
 
 #[test]
 fn the_order_as_structs() {
-    let calls = j1();
+    let calls = Calls::new().set(0).add_in_lane(255, &[0], &[1]);
+    let calls = calls.add(&[1], &[2]).add_in_lane(7, &[0], &[3]);
+    let calls = calls.add(&[], &[4]).finish();
     let mut storage = Storage::new(2, 6, 16).unwrap();
     let done = replay(&mut storage, &calls).unwrap();
+    assert_eq!(std::mem::size_of::<OrderInfo>(), 16);
     let mut order = vec![OrderInfo::default(); done.len()];
     append_new(&mut order, done.flat_order(), 0, 2).unwrap();
     append_new(&mut order, done.flat_order(), 2, 4).unwrap();
@@ -287,6 +313,7 @@ fn the_order_as_structs() {
             (entry.value, entry.added, entry.accepted)
         );
         assert_eq!(u32::from(info.parallelism), entry.parallelism);
+        assert_eq!(u32::from(info.lane), entry.lane);
     }
     let before = order.clone();
     for (from, to) in [(3, 2), (0, 5), (usize::MAX, usize::MAX)] {
@@ -296,7 +323,7 @@ fn the_order_as_structs() {
         );
     }
     assert_eq!(
-        append_new(&mut order, &[0, 0, 0, 65_536], 0, 1),
+        append_new(&mut order, &[0, 0, 0, 1 << 24], 0, 1),
         Err(Refusal::TooShort)
     );
     assert_eq!(order, before);

@@ -15,12 +15,12 @@ check-lists-requires : tie.Need-check-lists-requires
 check-lists-requires c κs = search needs
 
 returns : tie.Need-returns
-returns c = add-lists _ _ _ _ _ _ _ _ _ (c .before .check-lists .ensures) (c .if1 .taken)
+returns c = add-lists _ _ _ _ _ _ _ _ _ _ (c .before .check-lists .ensures) (c .if1 .taken)
 
 check-state-requires : tie.Need-check-state-requires
 check-state-requires c κs =
     let l = passed c in
-    may-state _ _ _ _ _ _ _ _ (l .before .check-lists .ensures) (l .if1 .left) (start (l .before) .pre)
+    may-state _ _ _ _ _ _ _ _ _ (l .before .check-lists .ensures) (l .if1 .left) (start (l .before) .pre)
 
 same-length : tie.Need-same-length
 same-length c = search needs
@@ -29,7 +29,7 @@ returns-2 : tie.Need-returns-2
 returns-2 c =
     let s = c .before .before in
     let l = passed (s .before) in
-    add-state _ _ _ _ _ _ _ _ _ (l .before .check-lists .ensures) (l .if1 .left) _ _ (s .check-state .ensures)
+    add-state _ _ _ _ _ _ _ _ _ _ (l .before .check-lists .ensures) (l .if1 .left) _ _ (s .check-state .ensures)
 
 pub check-add-spec : {M : Type 1} → statement M
 check-add-spec =

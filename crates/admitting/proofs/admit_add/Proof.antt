@@ -78,7 +78,7 @@ returns c σ q =
     let at-claim-add = c .before .before .before in
     let at-wide2 = at-claim-add .before .before .before in
     let at-wide = at-wide2 .before in
-    admits-not _ _ _ _ _ (add-number _ _ _ _ _ _ _ _ (at-wide .wide .ensures) (at-wide2 .wide2 .ensures) (at-claim-add .claim-add .ensures)) (c .if1 .taken)
+    admits-not _ _ _ _ _ (add-number _ _ _ _ _ _ _ _ _ (at-wide .wide .ensures) (at-wide2 .wide2 .ensures) (at-claim-add .claim-add .ensures)) (c .if1 .taken)
     (same-waiting _ _ (at-claim-add .claim-add .ensures .same (c .if1 .taken)))
 
 store-lists-requires : tie.Need-store-lists-requires
@@ -87,8 +87,8 @@ store-lists-requires c κs =
     let at-wide2 = at-claim-add .before .before .before in
     let at-wide = at-wide2 .before in
     let at-start = at-wide .before .before .before .before .before in
-    add-stores _ _ _ _ _ _ (at-wide .wide .ensures) (at-wide2 .wide2 .ensures) _ (at-claim-add .claim-add .ensures .claims (c .before .before .if1 .left))
-    (may-add _ _ _ _ _ _ _ _ (at-wide .wide .ensures) (at-wide2 .wide2 .ensures) (at-claim-add .claim-add .ensures) (c .before .before .if1 .left)
+    add-stores _ _ _ _ _ _ _ (at-wide .wide .ensures) (at-wide2 .wide2 .ensures) _ (at-claim-add .claim-add .ensures .claims (c .before .before .if1 .left))
+    (may-add _ _ _ _ _ _ _ _ _ (at-wide .wide .ensures) (at-wide2 .wide2 .ensures) (at-claim-add .claim-add .ensures) (c .before .before .if1 .left)
     (at-start .pre .asks))
 
 link-new-requires : tie.Need-link-new-requires
@@ -100,29 +100,29 @@ link-new-requires c κs =
     let at-wide2 = at-greatest .before in
     let at-wide = at-wide2 .before in
     let at-start = at-wide .before .before .before .before .before in
-    add-links _ _ _ _ _ _ (at-wide .wide .ensures) (at-wide2 .wide2 .ensures) _ (at-claim-add .claim-add .ensures .claims (at-else-1 .if1 .left)) _ _
+    add-links _ _ _ _ _ _ _ (at-wide .wide .ensures) (at-wide2 .wide2 .ensures) _ (at-claim-add .claim-add .ensures .claims (at-else-1 .if1 .left)) _ _
     (c .before .before .before .before .before .store-lists .ensures)
-    (may-add _ _ _ _ _ _ _ _ (at-wide .wide .ensures) (at-wide2 .wide2 .ensures) (at-claim-add .claim-add .ensures) (at-else-1 .if1 .left) (at-start .pre .asks))
+    (may-add _ _ _ _ _ _ _ _ _ (at-wide .wide .ensures) (at-wide2 .wide2 .ensures) (at-claim-add .claim-add .ensures) (at-else-1 .if1 .left) (at-start .pre .asks))
     _ (at-greatest .greatest .ensures)
 
-add-t22 : tie.Need-add-t22
-add-t22 c =
+add-t23 : tie.Need-add-t23
+add-t23 c =
     omega (
       arith,
-      add-counts _ _ _ _ (may-add _ _ _ _ _ _ _ _ (at-wide′ c .wide .ensures) (at-wide2′ c .wide2 .ensures) (at-claim-add′ c .claim-add .ensures)
+      add-counts _ _ _ _ _ (may-add _ _ _ _ _ _ _ _ _ (at-wide′ c .wide .ensures) (at-wide2′ c .wide2 .ensures) (at-claim-add′ c .claim-add .ensures)
           (at-else-1′ c .if1 .left) (at-start′ c .pre .asks)) .0,
-    )
-
-add-t24 : tie.Need-add-t24
-add-t24 c =
-    omega (
-      arith,
-      add-counts _ _ _ _ (may-add _ _ _ _ _ _ _ _ (at-wide′ c .wide .ensures) (at-wide2′ c .wide2 .ensures) (at-claim-add′ c .claim-add .ensures)
-          (at-else-1′ c .if1 .left) (at-start′ c .pre .asks)) .3,
     )
 
 add-t25 : tie.Need-add-t25
 add-t25 c =
+    omega (
+      arith,
+      add-counts _ _ _ _ _ (may-add _ _ _ _ _ _ _ _ _ (at-wide′ c .wide .ensures) (at-wide2′ c .wide2 .ensures) (at-claim-add′ c .claim-add .ensures)
+          (at-else-1′ c .if1 .left) (at-start′ c .pre .asks)) .3,
+    )
+
+add-t26 : tie.Need-add-t26
+add-t26 c =
     let at-else-1-1 = c .before .before .before .before .before in
     let at-else-1-2 = at-else-1-1 .before .before .before .before .before in
     let at-else-1 = at-else-1-2 .before .before .before in
@@ -132,16 +132,16 @@ add-t25 c =
     let at-start = at-wide .before .before .before .before .before in
     omega (
       arith,
-      add-counts _ _ _ _ (may-add _ _ _ _ _ _ _ _ (at-wide .wide .ensures) (at-wide2 .wide2 .ensures) (at-claim-add .claim-add .ensures)
+      add-counts _ _ _ _ _ (may-add _ _ _ _ _ _ _ _ _ (at-wide .wide .ensures) (at-wide2 .wide2 .ensures) (at-claim-add .claim-add .ensures)
           (at-else-1 .if1 .left) (at-start .pre .asks)) .2,
       at-start .good,
     )
 
-add-t26 : tie.Need-add-t26
-add-t26 c =
+add-t27 : tie.Need-add-t27
+add-t27 c =
     omega (
       arith,
-      add-counts _ _ _ _ (may-add _ _ _ _ _ _ _ _ (at-wide c .wide .ensures) (at-wide2 c .wide2 .ensures) (at-claim-add c .claim-add .ensures)
+      add-counts _ _ _ _ _ (may-add _ _ _ _ _ _ _ _ _ (at-wide c .wide .ensures) (at-wide2 c .wide2 .ensures) (at-claim-add c .claim-add .ensures)
           (at-else-1 c .if1 .left) (at-start c .pre .asks)) .1,
     )
 
@@ -153,9 +153,9 @@ same-length-3 c = search needs
 
 returns-2 : tie.Need-returns-2
 returns-2 c σ q =
-    add-admits _ _ _ _ _ _ (at-wide c .wide .ensures) (at-wide2 c .wide2 .ensures) _ (at-claim-add c .claim-add .ensures .claims (at-else-1 c .if1 .left))
+    add-admits _ _ _ _ _ _ _ (at-wide c .wide .ensures) (at-wide2 c .wide2 .ensures) _ (at-claim-add c .claim-add .ensures .claims (at-else-1 c .if1 .left))
     _ _ (at-store-lists c .store-lists .ensures) _ _ (at-link-new c .link-new .kept .0) (at-link-new c .link-new .ensures _ refl (at-greatest c .greatest .ensures))
-    _ (add-number _ _ _ _ _ _ _ _ (at-wide c .wide .ensures) (at-wide2 c .wide2 .ensures) (at-claim-add c .claim-add .ensures)) (at-else-1 c .if1 .left) q
+    _ (add-number _ _ _ _ _ _ _ _ _ (at-wide c .wide .ensures) (at-wide2 c .wide2 .ensures) (at-claim-add c .claim-add .ensures)) (at-else-1 c .if1 .left) q
 
 pub admit-add-spec : {M : Type 1} → statement M
 admit-add-spec =
@@ -169,10 +169,10 @@ admit-add-spec =
     returns
     store-lists-requires
     link-new-requires
-    add-t22
-    add-t24
+    add-t23
     add-t25
     add-t26
+    add-t27
     same-length-2
     same-length-3
     returns-2)

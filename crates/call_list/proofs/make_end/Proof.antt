@@ -102,7 +102,7 @@ returns-2 c = let f = to-close c in
     let b = to-else1 (f .before) in
     let t = to-start (b .before .before) .pre .1 in
     let e = end-tag (t .1) in
-    made-final (t .0) (e .0) (e .1) (b .if1 .left) (f .close .ensures)
+    made-final (t .0) (e .0) (e .1) (e .2) (b .if1 .left) (f .close .ensures)
 
 pub make-end-spec : {M : Type 1} → statement M
 make-end-spec =

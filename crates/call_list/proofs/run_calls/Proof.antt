@@ -1,11 +1,12 @@
 -- `call_list::run_calls` meets its contract. The invariant: since the first flush or final the calls up to `r.at` are made, and a flush, a
 -- final or the end is there; the measure is what is left of the numbers.
-use mathlib.Core.Path.{_∙_}
+use mathlib.Core.Path.{_≡_, _∙_}
+use mathlib.Core.Bool.{true}
 use lib.ListN.{length, getD}
 use Prim.Native.Nat.{_-_, _<_}
 use native.Mathlib.Omega.{arith}
-use Rattle.rules.specs.Encoding.{add-tag}
 use Rattle.session.specs.Storage.{storage}
+use Rattle.call_runs.specs.Made.{ends-run}
 use Rattle.call_runs.specs.Continuing.{Going, going-on}
 use Rattle.call_list.specs.Running.{run-may, run-begins, run-ends}
 use Rattle.call_list.proofs.run_calls.Statement.{statement}
@@ -15,7 +16,7 @@ abbrev Inv-loop : tie.InvT-loop
 Inv-loop spans₀ order₀ tally₀ rows₀ marks₀ locations₀ waiting₀ pool₀ answers₀ calls r₀ spans order tally rows marks locations waiting pool answers r =
     Going calls (r₀ .session) (storage spans₀ order₀ tally₀ rows₀ marks₀ locations₀ waiting₀ pool₀) answers₀ (r₀ .at) (r₀ .made)
     (r .session) (storage spans order tally rows marks locations waiting pool) answers (r .at) (r .made)
-    × (r .at < length calls → add-tag < getD calls (r .at) 0)
+    × (r .at < length calls → ends-run (getD calls (r .at) 0) ≡ true)
 
 abbrev μ-loop : tie.MeasureT-loop
 μ-loop spans₀ order₀ tally₀ rows₀ marks₀ locations₀ waiting₀ pool₀ answers₀ calls r₀ spans order tally rows marks locations waiting pool answers r =

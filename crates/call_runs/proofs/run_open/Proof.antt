@@ -3,7 +3,9 @@
 use lib.ListN.{length}
 use Prim.Native.Nat.{_-_}
 use mathlib.Core.Logic.{⊎-elim}
+use mathlib.Core.Path.{sym, _∙_}
 use native.Mathlib.Omega.{arith}
+use borrow.Author.Needs.{needs}
 use Rattle.session.specs.Storage.{storage}
 use Rattle.admitting.specs.Begun.{places, row-there}
 use Rattle.call_runs.specs.Made.{call-asked, call-admitted}
@@ -35,10 +37,13 @@ to-start c =
     after-slice-known5 .before .before .before .before .before
 
 abbrev to-at-loop : tie.Then1 Inv-loop2 μ-loop2 Inv-loop μ-loop → tie.At-loop Inv-loop2 μ-loop2 Inv-loop μ-loop
-to-at-loop c = c .before .before .before
+to-at-loop c = c .before .before .before .before
 
 abbrev to-else1 : tie.After-admit-call-arg3 Inv-loop2 μ-loop2 Inv-loop μ-loop → tie.Else1 Inv-loop2 μ-loop2 Inv-loop μ-loop
 to-else1 c = c .before .before .before
+
+abbrev to-in-loop : tie.Else1 Inv-loop2 μ-loop2 Inv-loop μ-loop → tie.In-loop Inv-loop2 μ-loop2 Inv-loop μ-loop
+to-in-loop c = c .before .before .before
 
 abbrev to-admit-call : tie.After-a Inv-loop2 μ-loop2 Inv-loop μ-loop → tie.After-admit-call Inv-loop2 μ-loop2 Inv-loop μ-loop
 to-admit-call c =
@@ -59,23 +64,26 @@ to-place-next c =
 loop-holds : tie.Need-loop-holds Inv-loop2 μ-loop2 Inv-loop μ-loop
 loop-holds c = going-begins (to-start c .pre)
 
-mul-if1 : tie.Need-mul-if1 Inv-loop2 μ-loop2 Inv-loop μ-loop
-mul-if1 c = omega (arith, c .loop-test .taken, to-start (c .before .before) .good .1 .1 .1 .1 .1 .1 .1 .1 .1 .1 .0)
+mul-ends-run : tie.Need-mul-ends-run Inv-loop2 μ-loop2 Inv-loop μ-loop
+mul-ends-run c = omega (arith, c .loop-test .taken, to-start (c .before .before) .good .1 .1 .1 .1 .1 .1 .1 .1 .1 .1 .0)
 
-shared-slice-read-if1 : tie.Need-shared-slice-read-if1 Inv-loop2 μ-loop2 Inv-loop μ-loop
-shared-slice-read-if1 c = c .before .loop-test .taken
+shared-slice-read-ends-run : tie.Need-shared-slice-read-ends-run Inv-loop2 μ-loop2 Inv-loop μ-loop
+shared-slice-read-ends-run c = c .before .loop-test .taken
+
+ends-run-requires : tie.Need-ends-run-requires Inv-loop2 μ-loop2 Inv-loop μ-loop
+ends-run-requires c κs = search needs
 
 admit-call-requires : tie.Need-admit-call-requires Inv-loop2 μ-loop2 Inv-loop μ-loop
 admit-call-requires c κs =
     let else1 = to-else1 c in
-    let in-loop = else1 .before .before in
+    let in-loop = to-in-loop else1 in
     let at-loop = in-loop .before in
     let g = at-loop .loop .inv in
-    (call-asked (going-asks g), (going-readable g (in-loop .loop-test .taken), else1 .if1 .left))
+    (call-asked (going-asks g), (going-readable g (in-loop .loop-test .taken), sym (else1 .before .ends-run .ensures) ∙ else1 .if1 .left))
 
 mul-answers : tie.Need-mul-answers Inv-loop2 μ-loop2 Inv-loop μ-loop
 mul-answers c =
-    let in-loop = to-else1 (to-admit-call c .before) .before .before in
+    let in-loop = to-in-loop (to-else1 (to-admit-call c .before)) in
     let at-loop = in-loop .before in
     let start = to-start (at-loop .before) in
     let g = at-loop .loop .inv in
@@ -84,14 +92,14 @@ mul-answers c =
 
 slice-write-answers : tie.Need-slice-write-answers Inv-loop2 μ-loop2 Inv-loop μ-loop
 slice-write-answers c =
-    let in-loop = to-else1 (to-admit-call c .before) .before .before in
+    let in-loop = to-in-loop (to-else1 (to-admit-call c .before)) in
     let at-loop = in-loop .before in
     going-room (at-loop .loop .inv) (in-loop .loop-test .taken)
 
 loop2-holds : tie.Need-loop2-holds Inv-loop2 μ-loop2 Inv-loop μ-loop
 loop2-holds c =
     let after-admit-call = to-admit-call (c .before .before) in
-    let at-loop = to-else1 (after-admit-call .before) .before .before .before in
+    let at-loop = to-in-loop (to-else1 (after-admit-call .before)) .before in
     cascading-begins (call-admitted (going-asks (at-loop .loop .inv)) (after-admit-call .admit-call .ensures) .admits .may (c .if2 .taken))
 
 place-next-requires : tie.Need-place-next-requires Inv-loop2 μ-loop2 Inv-loop μ-loop
@@ -118,13 +126,13 @@ note-latest-requires : tie.Need-note-latest-requires Inv-loop2 μ-loop2 Inv-loop
 note-latest-requires c κs =
     let at-loop2 = c .before .before in
     let after-admit-call = to-admit-call (at-loop2 .before .before .before) in
-    let at-loop = to-else1 (after-admit-call .before) .before .before .before in
+    let at-loop = to-in-loop (to-else1 (after-admit-call .before)) .before in
     let i = at-loop2 .loop2 .inv in
     row-there (at-loop .loop .z) (after-admit-call .admit-call .result .admitted) _ _ _ (cascading-ends i (c .before .loop2-test .left)) (i .may)
 
 add-n : tie.Need-add-n Inv-loop2 μ-loop2 Inv-loop μ-loop
 add-n c =
-    let in-loop = to-else1 (to-admit-call (c .before .before) .before) .before .before in
+    let in-loop = to-in-loop (to-else1 (to-admit-call (c .before .before) .before)) in
     let at-loop = in-loop .before in
     let start = to-start (at-loop .before) in
     let g = at-loop .loop .inv in
@@ -134,14 +142,14 @@ add-n c =
 loop-less : tie.Need-loop-less Inv-loop2 μ-loop2 Inv-loop μ-loop
 loop-less c =
     let after-admit-call = to-admit-call (c .before .before) in
-    let at-loop = to-else1 (after-admit-call .before) .before .before .before in
+    let at-loop = to-in-loop (to-else1 (after-admit-call .before)) .before in
     let d = call-admitted (going-asks (at-loop .loop .inv)) (after-admit-call .admit-call .ensures) in
     omega (arith, d .past, d .within)
 
 loop-again : tie.Need-loop-again Inv-loop2 μ-loop2 Inv-loop μ-loop
 loop-again c =
     let after-admit-call = to-admit-call (c .before .before) in
-    let in-loop = to-else1 (after-admit-call .before) .before .before in
+    let in-loop = to-in-loop (to-else1 (after-admit-call .before)) in
     let at-loop = in-loop .before in
     let g = at-loop .loop .inv in
     let h = in-loop .loop-test .taken in
@@ -211,7 +219,7 @@ same-length-18 : tie.Need-same-length-18 Inv-loop2 μ-loop2 Inv-loop μ-loop
 same-length-18 c = to-at-loop c .loop .inv .kept .answers
 
 returns-2 : tie.Need-returns-2 Inv-loop2 μ-loop2 Inv-loop μ-loop
-returns-2 c = record { onward = to-at-loop c .loop .inv .onward; stops = λ h. c .if1 .taken }
+returns-2 c = record { onward = to-at-loop c .loop .inv .onward; stops = λ h. sym (c .before .ends-run .ensures) ∙ c .if1 .taken }
 
 pub run-open-spec : {M : Type 1} → statement M
 run-open-spec =
@@ -222,8 +230,9 @@ run-open-spec =
     Inv-loop
     μ-loop
     loop-holds
-    mul-if1
-    shared-slice-read-if1
+    mul-ends-run
+    shared-slice-read-ends-run
+    ends-run-requires
     admit-call-requires
     mul-answers
     slice-write-answers

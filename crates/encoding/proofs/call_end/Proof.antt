@@ -1,5 +1,5 @@
 -- `encoding::call_end` meets its contract: a law for each tag.
-use Rattle.encoding.specs.Ends.{call-add, call-flush, call-final, call-set, call-set-short, call-other}
+use Rattle.encoding.specs.Ends.{call-add, call-flush, call-final, call-set, call-set-short, call-lane-add, call-other}
 use borrow.Author.Needs.{needs}
 use Rattle.encoding.proofs.call_end.Statement.{statement}
 use Rattle.encoding.proofs.call_end.Tie as tie
@@ -13,6 +13,11 @@ to-start c =
 abbrev to-start-2 : tie.Then5 → tie.Start
 to-start-2 c =
     let else2 = c .before .before .before in
+    else2 .before .before .before .before
+
+abbrev to-start-3 : tie.Else4 → tie.Start
+to-start-3 c =
+    let else2 = c .before .before in
     else2 .before .before .before .before
 
 mul-tag : tie.Need-mul-tag
@@ -60,12 +65,21 @@ returns-4 c = call-set _ _ (to-start-2 c .pre) (c .before .if4 .taken) (c .if5 .
 returns-5 : tie.Need-returns-5
 returns-5 c = call-set-short _ _ (to-start c .pre) (c .before .if4 .taken) (c .if5 .left)
 
+add-add-end-2 : tie.Need-add-add-end-2
+add-add-end-2 c = search needs
+
+add-end-requires-2 : tie.Need-add-end-requires-2
+add-end-requires-2 c κs = search needs
+
 returns-6 : tie.Need-returns-6
-returns-6 c =
-    let else2 = c .before .before in
+returns-6 c = call-lane-add _ _ (to-start-3 (c .before .before) .pre) _ (c .before .if6 .taken) (c .add-end2 .ensures)
+
+returns-7 : tie.Need-returns-7
+returns-7 c =
+    let else4 = c .before in
+    let else2 = else4 .before .before in
     let else1 = else2 .before in
-    let start = else1 .before .before .before in
-    call-other _ _ (start .pre) (c .if4 .left) (else1 .if1 .left) (else2 .if2 .left) (c .before .if3 .left)
+    call-other _ _ (to-start-3 else4 .pre) (else4 .if4 .left) (else1 .if1 .left) (else2 .if2 .left) (else4 .before .if3 .left) (c .if6 .left)
 
 pub call-end-spec : {M : Type 1} → statement M
 call-end-spec =
@@ -84,4 +98,7 @@ call-end-spec =
     add-result-3
     returns-4
     returns-5
-    returns-6)
+    add-add-end-2
+    add-end-requires-2
+    returns-6
+    returns-7)

@@ -33,7 +33,7 @@ returns : tie.Need-returns
 returns c =
     let s = c .before .before in
     let o = outputs s in
-    stores _ _ _ _ _ _ _ _ (inputs o .store-list .ensures) _ _ (o .store-list2 .ensures) (s .set-cell .ensures)
+    stores _ _ _ _ _ _ _ _ _ (inputs o .store-list .ensures) _ _ (o .store-list2 .ensures) (s .set-cell .ensures)
 
 pub store-lists-spec : {M : Type 1} → statement M
 store-lists-spec =

@@ -6,6 +6,7 @@ use native.Mathlib.Omega.{arith}
 use lib.ListN.{length}
 use denote.Ref.{now}
 use Rattle.entries.specs.Entries.{with-entry, row, annotated, appended}
+use Rattle.entries.specs.Stored.{parallelism-most}
 use Rattle.entries.specs.declared.Entry.{Entry}
 use Rattle.entries.proofs.Laws.{rest, begins, turn, ends}
 use Rattle.entries.proofs.append_row.Statement.{statement}
@@ -37,6 +38,15 @@ parallelism-of-requires c κs = search needs
 
 add-store : tie.Need-add-store Inv-loop μ-loop
 add-store c = search needs
+
+cast-with-parallelism : tie.Need-cast-with-parallelism Inv-loop μ-loop
+cast-with-parallelism c =
+    let worked-out = c .before in
+    let at-loop = worked-out .before .before .before in
+    let start = at-loop .before .before .before in
+    let g = start .args in
+    let asked = start .pre .0 in
+    omega (arith, worked-out .parallelism-of .ensures, parallelism-most (g .p) (g .a) (g .b) (at-loop .loop .q) (asked .0), asked)
 
 with-parallelism-requires : tie.Need-with-parallelism-requires Inv-loop μ-loop
 with-parallelism-requires c κs = search needs
@@ -92,6 +102,7 @@ append-row-spec =
     load-requires
     parallelism-of-requires
     add-store
+    cast-with-parallelism
     with-parallelism-requires
     store-requires
     add-q

@@ -3,7 +3,7 @@ use borrow.Author.Needs.{needs}
 use native.Mathlib.Omega.{arith}
 use lib.ListN.{length-set}
 use denote.Ref.{now}
-use Rattle.entries.specs.Entries.{extent}
+use Rattle.entries.specs.Entries.{extent, packed}
 use Rattle.entries.specs.Stored.{stored}
 use Rattle.entries.proofs.store.Statement.{statement}
 use Rattle.entries.proofs.store.Tie as tie
@@ -35,6 +35,9 @@ mul-s-3 c = search needs
 slice-write-s-3 : tie.Need-slice-write-s-3
 slice-write-s-3 c = simp length-set (omega arith)
 
+packed-requires : tie.Need-packed-requires
+packed-requires c κs = search needs
+
 add-s-3 : tie.Need-add-s-3
 add-s-3 c = search needs
 
@@ -48,7 +51,10 @@ same-length : tie.Need-same-length
 same-length c = search needs
 
 returns : tie.Need-returns
-returns c = let e = c .args .e in stored (now (c .args .s)) (extent (c .args .k)) (e .value) (e .added) (e .accepted) (e .parallelism) (c .pre)
+returns c =
+    let start = c .before .before in
+    let e = start .args .e in
+    rw (c .packed .ensures) (stored (now (start .args .s)) (extent (start .args .k)) (e .value) (e .added) (e .accepted) (packed (e .parallelism) (e .lane)) (start .pre))
 
 pub store-spec : {M : Type 1} → statement M
 store-spec =
@@ -63,6 +69,7 @@ store-spec =
     add-s-2
     mul-s-3
     slice-write-s-3
+    packed-requires
     add-s-3
     mul-s-4
     slice-write-s-4

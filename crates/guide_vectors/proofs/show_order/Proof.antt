@@ -25,6 +25,9 @@ load-requires c κs =
     let loop = room .before .before in
     omega (arith, capacity-fits (now (loop .before .before .args .order)) (loop .loop .k + 1) (omega (arith, room .capacity .ensures)))
 
+packed-requires : tie.Need-packed-requires Inv-loop μ-loop
+packed-requires c κs = search needs
+
 show-line-requires : tie.Need-show-line-requires Inv-loop μ-loop
 show-line-requires c κs = search needs
 
@@ -49,6 +52,7 @@ show-order-spec =
     loop-holds
     capacity-requires
     load-requires
+    packed-requires
     show-line-requires
     add-k
     loop-less

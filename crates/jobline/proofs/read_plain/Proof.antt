@@ -5,8 +5,8 @@ use mathlib.Core.Path.{_≡_, refl, sym, _∙_}
 use Prim.Native.Nat.{ℕ}
 use lib.ListN.{length}
 use Rattle.rules.specs.Job as rule
-use Rattle.rules.specs.Job.{key-parallelism, key-places, key-set, key-in, key-out}
-use Rattle.jobline.specs.Lines.{begins}
+use Rattle.rules.specs.Job.{key-parallelism, key-places, key-set}
+use Rattle.jobline.specs.Lines.{begins, NoAdd}
 use Rattle.jobline.specs.Keys.{Numbered, parallelism-key, places-key, set-key, flush-key, final-key, no-key, not-whole}
 use Rattle.jobline.specs.Reads.{value-line, no-value, plain-line}
 use Rattle.jobline.specs.declared.Line.the-variants as line
@@ -51,8 +51,8 @@ no-places c = let q = second (c .before) in sym (q .before .starts2 .ensures) �
 no-set : (c : tie.Else3) → begins key-set (of-3 c) ≡ false
 no-set c = sym (c .before .starts3 .ensures) ∙ c .if3 .left
 
-lists : (c : tie.Else3) → (begins key-in (of-3 c) ≡ false) × (begins key-out (of-3 c) ≡ false)
-lists c = first (second (c .before) .before) .before .before .before .before .pre
+no-add : (c : tie.Else3) → NoAdd (of-3 c)
+no-add c = first (second (c .before) .before) .before .before .before .before .pre
 
 slice-aggregate-starts : tie.Need-slice-aggregate-starts
 slice-aggregate-starts c = search needs
@@ -168,7 +168,7 @@ starts-requires-4 c κs = search needs
 returns-7 : tie.Need-returns-7
 returns-7 c =
     let seven = c .before .before .before in
-    plain-line refl (λ r. refl) (flush-key _ (no-parallelism (seven .before)) (no-places (seven .before)) (no-set (seven .before)) (lists (seven .before) .0) (lists (seven .before) .1)
+    plain-line refl (λ r. refl) (flush-key _ (no-parallelism (seven .before)) (no-places (seven .before)) (no-set (seven .before)) (no-add (seven .before))
     (seven .if4 .taken) (sym (c .before .starts4 .ensures) ∙ c .if5 .taken))
 
 slice-aggregate-starts-5 : tie.Need-slice-aggregate-starts-5
@@ -181,19 +181,19 @@ returns-8 : tie.Need-returns-8
 returns-8 c =
     let other = c .before .before .before in
     let seven = other .before .before .before in
-    plain-line refl (λ r. refl) (final-key _ (no-parallelism (seven .before)) (no-places (seven .before)) (no-set (seven .before)) (lists (seven .before) .0) (lists (seven .before) .1)
+    plain-line refl (λ r. refl) (final-key _ (no-parallelism (seven .before)) (no-places (seven .before)) (no-set (seven .before)) (no-add (seven .before))
     (seven .if4 .taken) (sym (other .before .starts4 .ensures) ∙ other .if5 .left) (sym (c .before .starts5 .ensures) ∙ c .if6 .taken))
 
 returns-9 : tie.Need-returns-9
 returns-9 c =
     let other = c .before .before .before in
     let seven = other .before .before .before in
-    plain-line refl (λ r. refl) (no-key _ (no-parallelism (seven .before)) (no-places (seven .before)) (no-set (seven .before)) (lists (seven .before) .0) (lists (seven .before) .1)
+    plain-line refl (λ r. refl) (no-key _ (no-parallelism (seven .before)) (no-places (seven .before)) (no-set (seven .before)) (no-add (seven .before))
     (seven .if4 .taken) (sym (other .before .starts4 .ensures) ∙ other .if5 .left) (sym (c .before .starts5 .ensures) ∙ c .if6 .left))
 
 returns-10 : tie.Need-returns-10
 returns-10 c =
-    plain-line refl (λ r. refl) (not-whole _ (no-parallelism (c .before)) (no-places (c .before)) (no-set (c .before)) (lists (c .before) .0) (lists (c .before) .1) (c .if4 .left))
+    plain-line refl (λ r. refl) (not-whole _ (no-parallelism (c .before)) (no-places (c .before)) (no-set (c .before)) (no-add (c .before)) (c .if4 .left))
 
 pub read-plain-spec : {M : Type 1} → statement M
 read-plain-spec =

@@ -19,7 +19,7 @@ add-numbers : tie.Need-add-numbers
 add-numbers c =
     let told = c .before in
     let start = start told in
-    omega (arith, lists-fit (start .args .c) _ _ (told .call .given .1) (start .pre))
+    omega (arith, lists-fit (start .args .c) _ _ _ (told .call .given .1) (start .pre))
 
 add-t7 : tie.Need-add-t7
 add-t7 c = search needs
@@ -28,7 +28,7 @@ add-t9 : tie.Need-add-t9
 add-t9 c =
     let told = c .before .before .before in
     let start = start told in
-    omega (arith, lists-fit (start .args .c) _ _ (told .call .given .1) (start .pre))
+    omega (arith, lists-fit (start .args .c) _ _ _ (told .call .given .1) (start .pre))
 
 enum-told-2 : tie.Need-enum-told-2
 enum-told-2 c = search needs
@@ -42,7 +42,7 @@ returns c = counts-set (c .before .before .args .c) _ (c .enum-told .given .1)
 returns-2 : tie.Need-returns-2
 returns-2 c =
     let told = c .before .before .before in
-    counts-add (start told .args .c) _ _ (told .call .given .1)
+    counts-add (start told .args .c) _ _ _ (told .call .given .1)
 
 returns-3 : tie.Need-returns-3
 returns-3 c = counts-flush (c .before .before .before .args .c) (c .before .enum-told2 .given .1)

@@ -156,7 +156,7 @@ returns-2 c =
     let told = told-lists (made .before .before) in
     let lists = told .call2 .given .0 in
     let numbers = start (told .before .before) .args .into .now in
-    called-as numbers (told .call2 .given .1) (made-add (lists .0) (lists .1 .0) numbers (made .add .ensures))
+    called-as numbers (told .call2 .given .1) (made-add (lists .0) (lists .1 .0) (lists .1 .1 .0) numbers (made .add .ensures))
 
 same-length-17 : tie.Need-same-length-17
 same-length-17 c = made-flush c .flush .kept .1 .0

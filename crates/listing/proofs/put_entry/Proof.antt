@@ -1,7 +1,8 @@
--- Five words with their numbers, the last as a line; 32 bits have at most 10 digits. Assumes nothing.
+-- Six words with their numbers, the last as a line; 32 bits have at most 10 digits. Assumes nothing.
+use mathlib.Core.Path.{_∙_}
 use Prim.Native.Nat.{_+_, _≤_}
 use native.Mathlib.Omega.{arith}
-use Rattle.rules.specs.Listing.{word-order, word-added, word-accepted, word-parallelism, word-written}
+use Rattle.rules.specs.Listing.{word-order, word-added, word-accepted, word-parallelism, word-written, word-lane}
 use Rattle.writer.specs.Lines.{field-few, line-few32}
 use Rattle.listing.specs.Lines.{wrote-entry}
 use borrow.Author.Needs.{needs}
@@ -21,8 +22,11 @@ two c = c .before .before .before .before .before
 abbrev three : tie.After-struct-known3 → tie.After-put-field3
 three c = c .before .before .before .before .before
 
-abbrev four : tie.After-put-line-arg2 → tie.After-put-field4
+abbrev four : tie.After-put-field-arg10 → tie.After-put-field4
 four c = c .before .before .before .before
+
+abbrev five : tie.After-struct-known4 → tie.After-put-field5
+five c = c .before .before .before .before .before
 
 -- how far the fields reach
 upto-1 : (c : tie.After-put-field) → c .put-field .result ≤ start c .args .at + 16
@@ -42,7 +46,12 @@ upto-4 : (c : tie.After-put-field4) → c .put-field4 .result ≤ start (one (tw
 upto-4 c =
     let known = c .before .struct-known3 .given .1 .1 .1 .0 .fits in
     let first = one (two (three (c .before) .before) .before) in
-    omega (arith, c .put-field4 .ensures .next, upto-3 (three (c .before)), field-few word-parallelism (start first .args .e .parallelism) known)
+    omega (arith, c .put-field4 .ensures .next, upto-3 (three (c .before)), field-few word-parallelism (start first .args .e .parallelism) (omega (arith, known)))
+
+upto-5 : (c : tie.After-put-field5) → c .put-field5 .result ≤ start (one (two (three (four (c .before) .before) .before) .before)) .args .at + 95
+upto-5 c =
+    let first = one (two (three (four (c .before) .before) .before) .before) in
+    omega (arith, c .put-field5 .ensures .next, upto-4 (four (c .before)), field-few word-written (start first .args .written) (start first .fits .written .fits))
 
 slice-aggregate-put-field : tie.Need-slice-aggregate-put-field
 slice-aggregate-put-field c = search needs
@@ -96,8 +105,28 @@ put-field-requires-4 c κs =
     omega (
       arith,
       upto-3 last,
-      field-few word-parallelism (start first .args .e .parallelism) (c .struct-known3 .given .1 .1 .1 .0 .fits),
+      field-few word-parallelism (start first .args .e .parallelism) (omega (arith, c .struct-known3 .given .1 .1 .1 .0 .fits)),
       last .put-field3 .kept .0,
+      second .put-field2 .kept .0,
+      first .put-field .kept .0,
+      start first .pre .1,
+    )
+
+slice-aggregate-put-field-5 : tie.Need-slice-aggregate-put-field-5
+slice-aggregate-put-field-5 c = search needs
+
+put-field-requires-5 : tie.Need-put-field-requires-5
+put-field-requires-5 c κs =
+    let last = four c in
+    let third = three (last .before) in
+    let second = two (third .before) in
+    let first = one (second .before) in
+    omega (
+      arith,
+      upto-4 last,
+      field-few word-written (start first .args .written) (start first .fits .written .fits),
+      last .put-field4 .kept .0,
+      third .put-field3 .kept .0,
       second .put-field2 .kept .0,
       first .put-field .kept .0,
       start first .pre .1,
@@ -106,17 +135,22 @@ put-field-requires-4 c κs =
 slice-aggregate-put-line : tie.Need-slice-aggregate-put-line
 slice-aggregate-put-line c = search needs
 
+cast-put-line : tie.Need-cast-put-line
+cast-put-line c = search needs
+
 put-line-requires : tie.Need-put-line-requires
 put-line-requires c κs =
-    let last = four c in
-    let third = three (last .before) in
+    let last = five c in
+    let fourth = four (last .before) in
+    let third = three (fourth .before) in
     let second = two (third .before) in
     let first = one (second .before) in
     omega (
       arith,
-      upto-4 last,
-      line-few32 word-written (start first .args .written) (start first .fits .written .fits),
-      last .put-field4 .kept .0,
+      upto-5 last,
+      line-few32 word-lane (start first .args .e .lane) (omega (arith, c .struct-known4 .given .1 .1 .1 .1 .0 .fits)),
+      last .put-field5 .kept .0,
+      fourth .put-field4 .kept .0,
       third .put-field3 .kept .0,
       second .put-field2 .kept .0,
       first .put-field .kept .0,
@@ -124,19 +158,33 @@ put-line-requires c κs =
     )
 
 same-length : tie.Need-same-length
-same-length c = search needs
+same-length c =
+    let last = c .before .before in
+    let fifth = five (last .before) in
+    let fourth = four (fifth .before) in
+    let third = three (fourth .before) in
+    let second = two (third .before) in
+    let first = one (second .before) in
+    last .put-line .kept .0
+    ∙ fifth .put-field5 .kept .0
+    ∙ fourth .put-field4 .kept .0
+    ∙ third .put-field3 .kept .0
+    ∙ second .put-field2 .kept .0
+    ∙ first .put-field .kept .0
 
 returns : tie.Need-returns
 returns c =
     let last = c .before .before in
-    let fourth = four (last .before) in
+    let known = last .before .struct-known4 .given .1 .1 .1 .1 .0 .fits in
+    let fifth = five (last .before) in
+    let fourth = four (fifth .before) in
     let third = three (fourth .before) in
     let second = two (third .before) in
     let first = one (second .before) in
     let start = start first in (
       wrote-entry (start .args .index) (start .args .e) (start .args .written) (first .put-field .ensures) (second .put-field2 .ensures) (third .put-field3 .ensures)
-          (fourth .put-field4 .ensures) (last .put-line .ensures),
-      omega (arith, upto-4 fourth, last .put-line .ensures .next, line-few32 word-written (start .args .written) (start .fits .written .fits)),
+          (fourth .put-field4 .ensures) (fifth .put-field5 .ensures) (last .put-line .ensures),
+      omega (arith, upto-5 fifth, last .put-line .ensures .next, line-few32 word-lane (start .args .e .lane) (omega (arith, known))),
     )
 
 pub put-entry-spec : {M : Type 1} → statement M
@@ -154,7 +202,10 @@ put-entry-spec =
     slice-aggregate-put-field-4
     cast-put-field-3
     put-field-requires-4
+    slice-aggregate-put-field-5
+    put-field-requires-5
     slice-aggregate-put-line
+    cast-put-line
     put-line-requires
     same-length
     returns)

@@ -10,7 +10,7 @@ load-requires : tie.Need-load-requires
 load-requires c κs = c .before .pre .stored
 
 cast-t4 : tie.Need-cast-t4
-cast-t4 c = let l = c .before in omega (arith, l .before .before .pre .narrow, ap (λ (e : Entry). e .parallelism) (l .load .ensures))
+cast-t4 c = let l = c .before in omega (arith, l .before .before .pre .narrow, ap (λ (e : Entry). e .lane) (l .load .ensures))
 
 returns : tie.Need-returns
 returns c = ap info (c .before .load .ensures)

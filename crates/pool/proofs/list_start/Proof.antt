@@ -16,10 +16,24 @@ mul-result-2 c = search needs
 shared-slice-read-result : tie.Need-shared-slice-read-result
 shared-slice-read-result c = search needs
 
+mul-result-3 : tie.Need-mul-result-3
+mul-result-3 c = search needs
+
+div-result : tie.Need-div-result
+div-result c = search needs
+
 returns : tie.Need-returns
 unfolding start-of cell-at
 returns c = search needs
 
 pub list-start-spec : {M : Type 1} → statement M
 list-start-spec =
-    tie.close (tie.spec mul-result add-result mul-result-2 shared-slice-read-result returns)
+    tie.close
+    (tie.spec
+    mul-result
+    add-result
+    mul-result-2
+    shared-slice-read-result
+    mul-result-3
+    div-result
+    returns)

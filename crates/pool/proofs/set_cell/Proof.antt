@@ -19,6 +19,12 @@ add-waiting-2 c = search needs
 mul-waiting-3 : tie.Need-mul-waiting-3
 mul-waiting-3 c = search needs
 
+add-waiting-3 : tie.Need-add-waiting-3
+add-waiting-3 c = search needs
+
+mul-waiting-4 : tie.Need-mul-waiting-4
+mul-waiting-4 c = search needs
+
 slice-write-waiting : tie.Need-slice-write-waiting
 slice-write-waiting c = search needs
 
@@ -31,4 +37,15 @@ returns c = search needs
 
 pub set-cell-spec : {M : Type 1} → statement M
 set-cell-spec =
-    tie.close (tie.spec mul-waiting add-waiting mul-waiting-2 add-waiting-2 mul-waiting-3 slice-write-waiting same-length returns)
+    tie.close
+    (tie.spec
+    mul-waiting
+    add-waiting
+    mul-waiting-2
+    add-waiting-2
+    mul-waiting-3
+    add-waiting-3
+    mul-waiting-4
+    slice-write-waiting
+    same-length
+    returns)

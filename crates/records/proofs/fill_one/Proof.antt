@@ -1,6 +1,5 @@
 -- `records::fill_one` meets its contract: four stores. Assumes nothing.
 use native.Mathlib.Omega.{arith}
-use mathlib.Core.Path.{refl}
 use Rattle.records.specs.Filling.{fill-one}
 use lib.ListN.{length-set}
 use borrow.Author.Needs.{needs}
@@ -37,6 +36,9 @@ mul-rows-3 c = search needs
 slice-write-rows-3 : tie.Need-slice-write-rows-3
 slice-write-rows-3 c = simp length-set (omega arith)
 
+packed-requires : tie.Need-packed-requires
+packed-requires c κs = search needs
+
 add-rows-3 : tie.Need-add-rows-3
 add-rows-3 c = search needs
 
@@ -51,7 +53,7 @@ same-length c = search needs
 
 returns : tie.Need-returns
 unfolding fill-one
-returns c = refl
+returns c = rw (c .packed .ensures)
 
 pub fill-one-spec : {M : Type 1} → statement M
 fill-one-spec =
@@ -67,6 +69,7 @@ fill-one-spec =
     add-rows-2
     mul-rows-3
     slice-write-rows-3
+    packed-requires
     add-rows-3
     mul-rows-4
     slice-write-rows-4

@@ -79,14 +79,19 @@ sub-t15 d =
     (at-wide c .wide .ensures) (at-wide2 c .wide2 .ensures) (c .before .before .wide3 .ensures) (at-list-start c .list-start .ensures) (at-list-inputs c .list-inputs .ensures)
     (c .before .list-end .ensures) (at-start c .pre) .0
 
+lane-of-requires : tie.Need-lane-of-requires
+lane-of-requires c κs = search needs
+
 returns : tie.Need-returns
 returns d =
-    let c = at-top-loc d in
+    let q = d .before in
+    let c = at-top-loc q in
     let a = at-start c .args in
     finds (now (a .locations)) (now (a .waiting)) (now (a .pool)) (a .v) (a .added) (a .used) (a .r) (at-wide c .wide .result) (at-wide2 c .wide2 .result)
     (c .before .before .wide3 .result) (at-list-start c .list-start .result) (at-list-inputs c .list-inputs .result) (c .before .list-end .result)
     (at-wide c .wide .ensures) (at-wide2 c .wide2 .ensures) (c .before .before .wide3 .ensures) (at-list-start c .list-start .ensures) (at-list-inputs c .list-inputs .ensures)
-    (c .before .list-end .ensures) (c .top-loc .result) (d .before .span-of .result) (d .position-of .result) (c .top-loc .ensures) (d .before .span-of .ensures) (d .position-of .ensures)
+    (c .before .list-end .ensures) (c .top-loc .result) (q .before .span-of .result) (q .position-of .result) (d .lane-of .result) (c .top-loc .ensures)
+    (q .before .span-of .ensures) (q .position-of .ensures) (d .lane-of .ensures)
 
 pub find-after-spec : {M : Type 1} → statement M
 find-after-spec =
@@ -103,4 +108,5 @@ find-after-spec =
     span-of-requires
     position-of-requires
     sub-t15
+    lane-of-requires
     returns)

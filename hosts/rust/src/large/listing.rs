@@ -20,6 +20,7 @@ pub struct Listed {
     pub accepted: u32,
     pub parallelism: u32,
     pub written: u32,
+    pub lane: u32,
 }
 
 /// Writes listings; the bytes go through a buffer of its own.
@@ -69,6 +70,7 @@ impl<W: Write> Listing<W> {
         self.field(b" accepted=", listed.accepted.into());
         self.field(b" parallelism=", listed.parallelism.into());
         self.field(b" written=", listed.written.into());
+        self.field(b" lane=", listed.lane.into());
         self.index += 1;
         self.end_line()
     }
@@ -133,6 +135,7 @@ mod tests {
             accepted: u32::MAX,
             parallelism: u32::MAX,
             written: u32::MAX,
+            lane: u32::MAX,
         };
         let mut text = Vec::new();
         let mut listing = Listing {

@@ -227,6 +227,7 @@ fn write_order<W: Write>(
             accepted: entry.accepted,
             parallelism: entry.parallelism,
             written: done.written(entry.added),
+            lane: entry.lane,
         })?;
         progress.written(index + 1, done.len());
     }

@@ -9,7 +9,7 @@ use std::io::{self, BufRead};
 
 use super::{Failure, Progress};
 use crate::calls::{Call, Calls};
-use crate::layout::{MOST_LISTED, TAG_ADD, TAG_FINAL, TAG_FLUSH, TAG_SET};
+use crate::layout::{MOST_LISTED, TAG_ADD, TAG_FINAL, TAG_FLUSH, TAG_LANE_ADD, TAG_SET};
 
 /// What stands on a line that is quoted.
 #[derive(Clone, Debug, PartialEq, Eq)]
@@ -129,19 +129,15 @@ impl<R: BufRead> Reader<R> {
 
     /// One more call put at the end of the list; says whether it is the final one.
     fn call(&mut self, calls: &mut Calls) -> Result<Part<bool>, Failure> {
-        const CALL: &str = "`set=N`, `in=LIST` followed by `out=LIST`, `flush=1` or `final=1`";
+        const CALL: &str = "`set=N`, `lane=N` followed by `in=LIST`, `in=LIST` followed by \
+                            `out=LIST`, `flush=1` or `final=1`";
         let next = self.next()?;
         let start = calls.numbers.len();
         make_room(calls, self.line.len())?;
         if self.line.starts_with(b"in=") && matches!(next, Next::Line | Next::Long) {
             calls.numbers.push(TAG_ADD);
-            if !self.list(next, b"in=".len(), calls)? {
-                calls.numbers.truncate(start);
-                return Ok(Err(
-                    self.malformed(next, "`in=LIST` with numbers and single commas")
-                ));
-            }
-            return self.outputs(calls, start);
+            let expected = "`in=LIST` with numbers and single commas";
+            return self.add(next, calls, start, expected);
         }
         if next != Next::Line {
             return Ok(Err(self.malformed(next, CALL)));
@@ -151,6 +147,11 @@ impl<R: BufRead> Reader<R> {
         let mut last = false;
         if let Some(place) = line.strip_prefix(b"set=").and_then(number) {
             numbers.extend([TAG_SET, place]);
+        } else if let Some(lane) = line.strip_prefix(b"lane=").and_then(number) {
+            numbers.extend([TAG_LANE_ADD, lane]);
+            let next = self.next()?;
+            make_room(calls, self.line.len())?;
+            return self.add(next, calls, start, "`in=LIST`, after `lane=N`");
         } else if line == b"flush=1" {
             numbers.push(TAG_FLUSH);
         } else if line == b"final=1" {
@@ -163,18 +164,29 @@ impl<R: BufRead> Reader<R> {
         Ok(Ok(last))
     }
 
-    /// The `out=` line of the add whose numbers start there; without it there is no such add.
-    fn outputs(&mut self, calls: &mut Calls, start: usize) -> Result<Part<bool>, Failure> {
+    /// The add whose numbers start there, of which those before the inputs are put: its `in=` line, which
+    /// is the one last read, and its `out=` line. Without them there is no such add.
+    fn add(
+        &mut self,
+        next: Next,
+        calls: &mut Calls,
+        start: usize,
+        expected: &'static str,
+    ) -> Result<Part<bool>, Failure> {
+        let lists = calls.numbers.len();
+        if !self.list(next, b"in=", calls)? {
+            calls.numbers.truncate(start);
+            return Ok(Err(self.malformed(next, expected)));
+        }
         let next = self.next()?;
         make_room(calls, self.line.len())?;
-        let list = self.line.starts_with(b"out=") && matches!(next, Next::Line | Next::Long);
-        if !list || !self.list(next, b"out=".len(), calls)? {
+        if !self.list(next, b"out=", calls)? {
             calls.numbers.truncate(start);
             return Ok(Err(self.malformed(next, "`out=LIST`, after `in=LIST`")));
         }
         calls.count += 1;
-        // All numbers of the call but its tag and the two counts.
-        calls.list_numbers += calls.numbers.len() - start - 3;
+        // All numbers of the two lists but their counts.
+        calls.list_numbers += calls.numbers.len() - lists - 2;
         Ok(Ok(false))
     }
 
@@ -187,14 +199,16 @@ impl<R: BufRead> Reader<R> {
     }
 
     /// The list of the line last read, behind its key: its count and its numbers are put at the end of
-    /// the calls. Says whether it is well formed.
-    fn list(&mut self, next: Next, key: usize, calls: &mut Calls) -> Result<bool, Failure> {
+    /// the calls. Says whether the line has that key and is well formed.
+    fn list(&mut self, next: Next, key: &[u8], calls: &mut Calls) -> Result<bool, Failure> {
         let start = calls.numbers.len();
         calls.numbers.push(0);
-        let list = &self.line[key..];
-        let well_formed = match next {
-            Next::Line => list.is_empty() || put_numbers(list, &mut calls.numbers, start),
-            _ => self.long_list(list.to_vec(), calls, start)?,
+        let well_formed = match (next, self.line.strip_prefix(key)) {
+            (Next::Line, Some(list)) => {
+                list.is_empty() || put_numbers(list, &mut calls.numbers, start)
+            }
+            (Next::Long, Some(list)) => self.long_list(list.to_vec(), calls, start)?,
+            _ => false,
         };
         calls.numbers[start] = (calls.numbers.len() - start - 1) as u64;
         Ok(well_formed)
@@ -323,21 +337,34 @@ fn put_numbers(text: &[u8], numbers: &mut Vec<u64>, start: usize) -> bool {
 pub fn call_lines(calls: &Calls, index: usize) -> Vec<(u64, Quoted)> {
     let mut line = 3;
     for call in calls.iter().take(index) {
-        line += if matches!(call, Call::Add(..)) { 2 } else { 1 };
+        line += match call {
+            Call::Add(..) => 2,
+            Call::AddInLane(..) => 3,
+            Call::Set(_) | Call::Flush | Call::Final => 1,
+        };
     }
     let quoted = |text: String| {
         let (start, more) = shortened(text.as_bytes());
         Quoted::Line { start, more }
     };
-    match calls.iter().nth(index) {
-        Some(Call::Set(place)) => vec![(line, quoted(format!("set={place}")))],
-        Some(Call::Add(inputs, outputs)) => vec![
-            (line, quoted(format!("in={}", list_start(inputs)))),
-            (line + 1, quoted(format!("out={}", list_start(outputs)))),
-        ],
-        Some(Call::Flush) => vec![(line, quoted("flush=1".to_owned()))],
-        Some(Call::Final) => vec![(line, quoted("final=1".to_owned()))],
-        None => vec![],
+    let lines = calls.iter().nth(index).map_or(vec![], texts);
+    (line..).zip(lines.into_iter().map(quoted)).collect()
+}
+
+/// The texts of a call's lines, of a list as much as is quoted.
+fn texts(call: Call<&[u64]>) -> Vec<String> {
+    let add = |inputs, outputs| {
+        let (inputs, outputs) = (list_start(inputs), list_start(outputs));
+        vec![format!("in={inputs}"), format!("out={outputs}")]
+    };
+    match call {
+        Call::Set(place) => vec![format!("set={place}")],
+        Call::Add(inputs, outputs) => add(inputs, outputs),
+        Call::AddInLane(lane, inputs, outputs) => {
+            [vec![format!("lane={lane}")], add(inputs, outputs)].concat()
+        }
+        Call::Flush => vec!["flush=1".to_owned()],
+        Call::Final => vec!["final=1".to_owned()],
     }
 }
 
@@ -359,7 +386,7 @@ mod tests {
         calls.numbers.push(9);
         let next = reader.next().unwrap();
         make_room(&mut calls, reader.line.len()).unwrap();
-        let well_formed = reader.list(next, 3, &mut calls).unwrap();
+        let well_formed = reader.list(next, b"in=", &mut calls).unwrap();
         well_formed.then_some(calls.numbers)
     }
 
@@ -422,11 +449,14 @@ mod tests {
     fn a_line_may_be_read_in_any_pieces() {
         let long = vec!["10"; 9000].join(",");
         let job = format!(
-            "parallelism=2\nplaces=6\nset=0\nin=0\nout=1,2\nin={long}\nout=3\nflush=1\nfinal=1\n"
+            "parallelism=2\nplaces=6\nset=0\nin=0\nout=1,2\nin={long}\nout=3\nflush=1\n\
+             lane=7\nin={long}\nout=4\nfinal=1\n"
         );
         let whole = read_in_pieces(job.as_bytes(), 1 << 16);
         let calls = Calls::new().set(0).add(&[0], &[1, 2]);
-        assert_eq!(whole, calls.add(&[10; 9000], &[3]).flush().finish());
+        let calls = calls.add(&[10; 9000], &[3]).flush();
+        let calls = calls.add_in_lane(7, &[10; 9000], &[4]).finish();
+        assert_eq!(whole, calls);
         for size in (1..70).chain([115, 121, 122, 4095, 4096, 4097]) {
             let read = read_in_pieces(job.as_bytes(), size);
             assert_eq!(read, whole, "{size} bytes at a time");
@@ -441,9 +471,73 @@ mod tests {
         calls
     }
 
+    /// The calls that are read behind a head, and the line that is malformed, if one is, with what should
+    /// have stood there.
+    fn read_calls(text: &str) -> (Calls, Option<(u64, &'static str)>) {
+        let job = format!("parallelism=2\nplaces=6\n{text}");
+        let mut reader = Reader::new(job.as_bytes());
+        assert_eq!(reader.head().unwrap(), Ok((2, 6)));
+        let (calls, ended) = reader.calls(&mut ()).unwrap();
+        let malformed = ended.err();
+        (calls, malformed.map(|found| (found.line, found.expected)))
+    }
+
+    #[test]
+    fn a_lane_stands_before_the_inputs() {
+        for lane in [0, 1, 255, 256, u64::MAX] {
+            let text = format!("in=\nout=0\nlane={lane}\nin=0\nout=1,2\nset=3\nfinal=1\n");
+            let calls = Calls::new().add(&[], &[0]);
+            let calls = calls.add_in_lane(lane, &[0], &[1, 2]).set(3).finish();
+            assert_eq!(read_calls(&text), (calls, None));
+        }
+    }
+
+    #[test]
+    fn after_a_lane_only_inputs() {
+        let rest = "\nin=\nout=1\nfinal=1\n";
+        let inputs = "`in=LIST`, after `lane=N`";
+        for next in [
+            "lane=1", "set=0", "out=1", "flush=1", "final=1", "in=0,", "",
+        ] {
+            let (calls, malformed) = read_calls(&format!("lane=0\n{next}{rest}"));
+            assert_eq!((calls, malformed), (Calls::new(), Some((4, inputs))));
+        }
+        for text in ["lane=0\n", "lane=0\nin=0"] {
+            assert_eq!(read_calls(text), (Calls::new(), Some((4, inputs))));
+        }
+        let outputs = "`out=LIST`, after `in=LIST`";
+        for text in ["in=0\nlane=1\nout=1\n", "in=0\n", "in=0\nout=,\n"] {
+            let (calls, malformed) = read_calls(text);
+            assert_eq!((calls, malformed), (Calls::new(), Some((4, outputs))));
+            let (calls, malformed) = read_calls(&format!("lane=256\n{text}"));
+            assert_eq!((calls, malformed), (Calls::new(), Some((5, outputs))));
+        }
+    }
+
+    #[test]
+    fn a_malformed_lane_is_no_call() {
+        let wrong = [
+            "",
+            "01",
+            "+1",
+            "1 ",
+            "1,2",
+            "18446744073709551616",
+            "100000000000000000000",
+        ];
+        for lane in wrong {
+            let (calls, malformed) = read_calls(&format!("set=0\nlane={lane}\nin=\nout=1\n"));
+            let line = malformed.map(|(line, _)| line);
+            assert_eq!((calls, line), (Calls::new().set(0), Some(4)), "{lane}");
+        }
+        let (_, malformed) = read_calls("lane=1");
+        assert_eq!(malformed.map(|(line, _)| line), Some(3), "no line end");
+    }
+
     #[test]
     fn a_call_is_quoted_with_its_lines() {
-        let calls = Calls::new().set(0).add(&[0, 1], &[]).flush().finish();
+        let calls = Calls::new().set(0).add(&[0, 1], &[]).flush();
+        let calls = calls.add_in_lane(256, &[], &[1]).finish();
         let text = |index| -> Vec<(u64, String)> {
             let lines = call_lines(&calls, index).into_iter();
             let text = lines.map(|(line, quoted)| match quoted {
@@ -455,6 +549,8 @@ mod tests {
         assert_eq!(text(0), [(3, "set=0".to_owned())]);
         assert_eq!(text(1), [(4, "in=0,1".to_owned()), (5, "out=".to_owned())]);
         assert_eq!(text(2), [(6, "flush=1".to_owned())]);
-        assert_eq!(text(3), [(7, "final=1".to_owned())]);
+        let labelled = ["lane=256", "in=", "out=1"].map(str::to_owned);
+        assert_eq!(text(3), Vec::from_iter((7..).zip(labelled)));
+        assert_eq!(text(4), [(10, "final=1".to_owned())]);
     }
 }

@@ -1,0 +1,1 @@
+// That lanes never influence placement: all of it stands in specs/.
