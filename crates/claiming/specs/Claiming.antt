@@ -1,7 +1,7 @@
 -- The laws by which the proofs of `admits_add` and `claim_add` go. Assumes nothing.
 use mathlib.Core.Path.{_≡_, refl, sym, _∙_, subst}
 use mathlib.Core.List.{List, _++_}
-use mathlib.Core.Bool.{Bool, true, false, not, true≢false, false≢true}
+use mathlib.Core.Bool.{Bool, true, false, not, _||_, true≢false, false≢true}
 use Prim.Native.Nat.{ℕ, _+_, _-_, _≤_, _<_}
 use native.Mathlib.Omega.{arith}
 use lib.Dec.{leb}
@@ -12,8 +12,8 @@ use Rattle.rules.specs.Checks.{verdict, any, repeats, check-places}
 use Rattle.laws.specs.Accepted.{verdict-head, or-false}
 use Rattle.lists.specs.Part.{Below}
 use Rattle.lists.specs.Arguments.{any-below, below-any, below-append, greatest-below, below-greatest}
-use Rattle.taken.specs.Flags.{Flags, Flagged, Claims, taken-at}
-use Rattle.taken.specs.FlagLaws.{flags-any, flagged-of}
+use Rattle.taken.specs.Flags.{Flags, Plain, unclaimable, Claims, taken-at}
+use Rattle.taken.specs.FlagLaws.{flags-any, plain-of}
 use Rattle.checking.specs.Parts.{list-checks, state-checks, add-checks}
 use Rattle.add_checks.specs.Contracts.{MayAdd, ChecksAdd}
 use Rattle.add_checks.specs.ListChecks.{many, lists-good, verdict-rest, lists-numbered}
@@ -66,8 +66,8 @@ module _ (closed : Bool) (N lane : ℕ) (ins outs : List ℕ) (t : ℕ → Bool)
       ∙ sym (state-verdict N t outs added used (length ins) W false false false false (p .once) (p .free) (lt-leb N added (p .more)) (le-ltb W (used + length ins + length outs) (p .room)))
 
 -- what flagging the outputs asks
-pub may-claim : {w ins : List ℕ} {top v used room : ℕ} (outs : List ℕ) → MayAdmit w ins top v used room → any (λ x. leb v x) outs ≡ false → Flagged w v outs
-may-claim outs m b = flagged-of _ (m .may .taken) _ (m .may .flags) outs (any-below _ outs b)
+pub may-claim : {w ins : List ℕ} {top v used room : ℕ} → MayAdmit w ins top v used room → Plain w v
+may-claim m = plain-of _ (m .may .taken) _ (m .may .flags)
 
 module _ {w : List ℕ} {lane : ℕ} {ins outs : List ℕ} {closed : Bool} {v added used room : ℕ} where
   -- refused, the storage as it was
@@ -86,9 +86,6 @@ module _ {w : List ℕ} {lane : ℕ} {ins outs : List ℕ} {closed : Bool} {v ad
   pub count-fails : v ≤ added → FlagsAdd w lane ins outs closed v added used room false w
   count-fails h = refused (λ t p. omega (arith, p .more))
 
-  pub outs-outside : any (λ x. leb v x) outs ≡ true → FlagsAdd w lane ins outs closed v added used room false w
-  outs-outside e = refused (λ t p. true≢false (sym e ∙ below-any v outs (p .outs-inside)))
-
   module _ {top : ℕ} (m : MayAdmit w ins top v used room) where
     pub ins-outside : v ≤ top → FlagsAdd w lane ins outs closed v added used room false w
     ins-outside h = refused (λ t p. omega (arith, m .top-is, greatest-below v ins (omega (arith, p .more)) (p .ins-inside)))
@@ -96,42 +93,44 @@ module _ {w : List ℕ} {lane : ℕ} {ins outs : List ℕ} {closed : Bool} {v ad
     pub room-fails : room - used < length ins + length outs → FlagsAdd w lane ins outs closed v added used room false w
     room-fails h = refused (λ t p. omega (arith, p .room))
 
-    module _ (b : any (λ x. leb v x) outs ≡ false) where
-      module _ (small : v ≤ least-flagged) (open′ : closed ≡ false) (low : lane ≤ most-lane) (few : many ins outs ≡ false) (l : top < v) (h : added < v) (fits : length ins + length outs ≤ room - used)
-          {r : Bool} {w′ : List ℕ} (c : Claims w v outs r w′) where
-        pub admits : FlagsAdd w lane ins outs closed v added used room r w′
-        admits =
-            record {
-              passes = λ q t f. of-passes closed v lane ins outs t added used room small (good q t f);
-              fails = λ q t f z. bad q t f (passes-of closed v lane ins outs t added used room z);
-              claims = c .claims;
-              same = c .same;
-            }
-          where
-            same-any : (t : ℕ → Bool) → Flags v t w → any (taken-at w v) outs ≡ any t outs
-            same-any t f = flags-any v t w f outs (any-below v outs b)
+    module _ (small : v ≤ least-flagged) (open′ : closed ≡ false) (low : lane ≤ most-lane) (few : many ins outs ≡ false) (l : top < v) (h : added < v) (fits : length ins + length outs ≤ room - used)
+        {r : Bool} {w′ : List ℕ} (c : Claims w v outs r w′) where
+      pub admits : FlagsAdd w lane ins outs closed v added used room r w′
+      unfolding unclaimable
+      admits =
+          record {
+            passes = λ q t f. of-passes closed v lane ins outs t added used room small (good q t f);
+            fails = λ q t f z. bad q t f (passes-of closed v lane ins outs t added used room z);
+            claims = c .claims;
+            same = c .same;
+          }
+        where
+          same-any : (t : ℕ → Bool) → Flags v t w → Below v outs → any (taken-at w v) outs ≡ any t outs
+          same-any t f b = flags-any v t w f outs b
 
-            down : (x : Bool) → not x ≡ true → x ≡ false
-            down true e = absurd (false≢true e)
-            down false e = refl
+          down : (x : Bool) → not x ≡ true → x ≡ false
+          down true e = absurd (false≢true e)
+          down false e = refl
 
-            good : r ≡ true → (t : ℕ → Bool) → Flags v t w → AddPasses closed v lane ins outs t added used room
-            good q t f =
-                let k = or-false (repeats outs) (any (taken-at w v) outs) (down _ (sym (c .answer) ∙ q)) in
-                record {
-                  not-closed = open′;
-                  low = low;
-                  few = few;
-                  ins-inside = below-greatest v ins (omega (arith, m .top-is));
-                  outs-inside = any-below v outs b;
-                  once = k .0;
-                  free = sym (same-any t f) ∙ k .1;
-                  more = h;
-                  room = omega (arith, m .may .fits);
-                }
+          good : r ≡ true → (t : ℕ → Bool) → Flags v t w → AddPasses closed v lane ins outs t added used room
+          good q t f =
+              let u = or-false (any (λ x. leb v x) outs) (repeats outs || any (taken-at w v) outs) (down _ (sym (c .answer) ∙ q)) in
+              let k = or-false (repeats outs) (any (taken-at w v) outs) (u .1) in
+              let b = any-below v outs (u .0) in
+              record {
+                not-closed = open′;
+                low = low;
+                few = few;
+                ins-inside = below-greatest v ins (omega (arith, m .top-is));
+                outs-inside = b;
+                once = k .0;
+                free = sym (same-any t f b) ∙ k .1;
+                more = h;
+                room = omega (arith, m .may .fits);
+              }
 
-            bad : r ≡ false → (t : ℕ → Bool) → Flags v t w → AddPasses closed v lane ins outs t added used room → ⊥
-            bad q t f p = true≢false (sym (c .answer ∙ rw (p .once, same-any t f ∙ p .free)) ∙ q)
+          bad : r ≡ false → (t : ℕ → Bool) → Flags v t w → AddPasses closed v lane ins outs t added used room → ⊥
+          bad q t f p = true≢false (sym (c .answer ∙ rw (below-any v outs (p .outs-inside), p .once, same-any t f (p .outs-inside) ∙ p .free)) ∙ q)
 
   -- the number
   pub claimed-add : {r : Bool} {w′ : List ℕ} → FlagsAdd w lane ins outs closed v added used room r w′ → r ≡ true → ClaimsAdd w lane ins outs closed v added used room 0 w′

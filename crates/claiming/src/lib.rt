@@ -39,9 +39,6 @@ fn admits_add(
     if ins.len() + outs.len() > room - used {
         return false;
     }
-    if lists::any_at_least(outs, v as u64) {
-        return false;
-    }
     taken::claim_new(outs, waiting, v)
 }
 

@@ -129,6 +129,15 @@ store-end pool at xs j e = rw (e, take-length xs) (append-assoc (take at pool) x
 pub store-begin : (pool : List ℕ) (at : ℕ) (xs : List ℕ) → pool ≡ storing pool at xs 0
 store-begin pool at xs = paste-zero pool at xs
 
+-- a list of one number, without the loop
+pub store-one : (pool : List ℕ) (at : ℕ) (xs : List ℕ) → at + length xs ≤ length pool → length xs ≡ 1 → set pool at (getD xs 0 0) ≡ stored pool at xs
+store-one pool at xs h e =
+    let z : at + 0 ≡ at = omega arith in
+    ap (λ (l : List ℕ). set l at (getD xs 0 0)) (store-begin pool at xs)
+    ∙ ap (λ (i : ℕ). set (storing pool at xs 0) i (getD xs 0 0)) (sym z)
+    ∙ store-next pool at xs 0 h (omega arith)
+    ∙ store-end pool at xs (0 + 1) (omega arith)
+
 -- the parts of registration r as they are read: its lane, where its lists start, how many inputs, where the outputs end
 pub record Parts (w : List ℕ) (v r n used : ℕ) (pool : List ℕ) (g : Reg) : Type 0 where
   pub lane-is : lane-of w v r ≡ g .lane

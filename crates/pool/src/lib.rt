@@ -13,11 +13,15 @@ const LANE_LIMIT: u64 = 256;
 
 const INPUTS_LIMIT: u64 = 65536;
 
-// Copies xs into the pool from `at` on; the rest of the pool stays.
+// Copies xs into the pool from `at` on; the rest of the pool stays. The loop is compiled for long lists, and most have one number.
 pub fn store_list(pool: &mut [u32], at: usize, xs: &[u64])
     requires { ⌜ Storable (now pool) at (now xs) ⌝ }
     ensures { λ _. ⌜ now (pool .exit) ≡ stored (now (pool .entry)) at (now (xs .entry)) ⌝ }
 {
+    if xs.len() == 1 {
+        pool[at] = xs[0] as u32;
+        return;
+    }
     let mut j = 0;
     while j < xs.len() {
         pool[at + j] = xs[j] as u32;

@@ -12,7 +12,7 @@ use Rattle.rules.specs.Model.{Reg, Model, member, with-add, with-set, initial}
 use Rattle.rules.specs.Checks.{any, taken, written-by, waiting-needed}
 use Rattle.lists.specs.Part.{Below}
 use Rattle.taken.specs.Flag.{flag-at, with-flag, flag-length, flag-same, flag-other}
-use Rattle.taken.specs.Flags.{taken-at, Flags, claimed, Flagged}
+use Rattle.taken.specs.Flags.{taken-at, Flags, claimed, Plain, Flagged}
 use Rattle.taken.specs.Repeats.{eq-or-ne, or-false}
 
 -- a place's flag says whether it is taken
@@ -30,12 +30,15 @@ unfolding any Below
 flags-any N t w f [] b = refl
 flags-any N t w f (x ∷ xs) b = rw (flag-is N t w f x (b .0), flags-any N t w f xs (b .1))
 
-pub flagged-of : (N : ℕ) (t : ℕ → Bool) (w : List ℕ) → Flags N t w → (xs : List ℕ) → Below N xs → Flagged w N xs
-flagged-of N t w f xs b = record { long = f .long; below = b; plain = λ x h. rw (f .at x h) (small (t x)) }
+pub plain-of : (N : ℕ) (t : ℕ → Bool) (w : List ℕ) → Flags N t w → Plain w N
+plain-of N t w f = record { long = f .long; plain = λ x h. rw (f .at x h) (small (t x)) }
   where
     small : (c : Bool) → cond {A = ℕ} c 1 0 ≤ 1
     small true = omega arith
     small false = omega arith
+
+pub flagged-of : (N : ℕ) (t : ℕ → Bool) (w : List ℕ) → Flags N t w → (xs : List ℕ) → Below N xs → Flagged w N xs
+flagged-of N t w f xs b = record { long = f .long; below = b; plain = plain-of N t w f .plain }
 
 -- another test that says the same
 pub flags-same : (N : ℕ) (t u : ℕ → Bool) (w : List ℕ) → ((x : ℕ) → x < N → u x ≡ t x) → Flags N t w → Flags N u w

@@ -5,7 +5,7 @@ use mathlib.Core.List.{List, [], _∷_}
 use mathlib.Core.Bool.{Bool, true, false, cond, not, _||_}
 use Prim.Native.Nat.{ℕ, _+_, _≤_, _<_}
 use lib.ListN.{length, take}
-use lib.Dec.{eqb}
+use lib.Dec.{leb, eqb}
 use Rattle.rules.specs.Checks.{any, repeats, waiting-needed}
 use Rattle.lists.specs.Part.{Below}
 use Rattle.taken.specs.Flag.{flag-at, with-flag}
@@ -24,7 +24,12 @@ unfoldable pub claimed : List ℕ → ℕ → List ℕ → List ℕ
 claimed w v [] = w
 claimed w v (x ∷ xs) = claimed (with-flag w v x 1) v xs
 
--- the places are below v and every flag is 0 or 1
+-- every flag is 0 or 1
+pub record Plain (w : List ℕ) (v : ℕ) : Type 0 where
+  pub long : waiting-needed v ≤ length w
+  pub plain : (x : ℕ) → x < v → flag-at w v x ≤ 1
+
+-- and the places are below v
 pub record Flagged (w : List ℕ) (v : ℕ) (xs : List ℕ) : Type 0 where
   pub long : waiting-needed v ≤ length w
   pub below : Below v xs
@@ -57,9 +62,10 @@ pub record Repeats (w xs : List ℕ) (r : Bool) (w′ : List ℕ) : Type 0 where
   pub answer : r ≡ repeats xs
   pub same : w′ ≡ w
 
--- the first i of xs do not repeat, were not taken and are flagged
+-- the first i of xs are below v, do not repeat, were not taken and are flagged
 pub record Claiming (w : List ℕ) (v : ℕ) (xs : List ℕ) (i : ℕ) (w′ : List ℕ) : Type 0 where
   pub most : i ≤ length xs
+  pub below : Below v (take i xs)
   pub once : repeats (take i xs) ≡ false
   pub free : any (taken-at w v) (take i xs) ≡ false
   pub is : w′ ≡ claimed w v (take i xs)
@@ -67,15 +73,19 @@ pub record Claiming (w : List ℕ) (v : ℕ) (xs : List ℕ) (i : ℕ) (w′ : L
 -- storage is what flagging the first n of xs made of some storage before
 pub record Unclaiming (w : List ℕ) (v : ℕ) (xs : List ℕ) (n : ℕ) : Type 0 where
   pub before : List ℕ
-  pub flagged : Flagged before v xs
+  pub flagged : Plain before v
   pub claiming : Claiming before v xs n w
 
 -- that storage is back
 pub record Unclaims (w : List ℕ) (v : ℕ) (xs : List ℕ) (n : ℕ) (w′ : List ℕ) : Type 0 where
-  pub back : (u : List ℕ) → Flagged u v xs → Claiming u v xs n w → w′ ≡ u
+  pub back : (u : List ℕ) → Plain u v → Claiming u v xs n w → w′ ≡ u
 
--- `claim_new`: xs repeats nothing and nothing of it is taken, and its places are flagged; or storage is as it was
+-- one of xs is v or more, stands twice or is taken
+unfoldable pub unclaimable : List ℕ → ℕ → List ℕ → Bool
+unclaimable w v xs = any (λ x. leb v x) xs || (repeats xs || any (taken-at w v) xs)
+
+-- `claim_new`: none is, and the places of xs are flagged; or storage is as it was
 pub record Claims (w : List ℕ) (v : ℕ) (xs : List ℕ) (r : Bool) (w′ : List ℕ) : Type 0 where
-  pub answer : r ≡ not (repeats xs || any (taken-at w v) xs)
+  pub answer : r ≡ not (unclaimable w v xs)
   pub claims : r ≡ true → w′ ≡ claimed w v xs
   pub same : r ≡ false → w′ ≡ w

@@ -7,7 +7,7 @@ ghost use Rattle.rules.specs.Checks.{any, waiting-needed};
 ghost use Rattle.lists.specs.Part.{Below};
 ghost use Rattle.zeros.specs.Zeros.{Cleared};
 ghost use Rattle.taken.specs.Flag.{flags-at, flag-at, with-flag};
-ghost use Rattle.taken.specs.Flags.{taken-at, Flagged, Raises, Lowering, Lowers, Repeats, Unclaiming, Unclaims, Claims};
+ghost use Rattle.taken.specs.Flags.{taken-at, Plain, Flagged, Raises, Lowering, Lowers, Repeats, Unclaiming, Unclaims, Claims};
 
 // Takes all flags back.
 pub fn clear(waiting: &mut [u64], v: usize)
@@ -121,14 +121,19 @@ fn unclaim(outs: &[u64], waiting: &mut [u64], v: usize, n: usize)
     }
 }
 
-// Flags each of outs as taken, and says so; where one is taken already or stands twice, storage is as it was.
+// Flags each of outs as taken, and says so; where one is v or more, is taken already or stands twice, storage is as it was. One walk does
+// both tests: most lists are short, and another loop would cost more than they do.
 pub fn claim_new(outs: &[u64], waiting: &mut [u64], v: usize) -> bool
-    requires { ⌜ Flagged (now waiting) v (now outs) ⌝ }
+    requires { ⌜ Plain (now waiting) v ⌝ }
     ensures { λ r. ⌜ Claims (now (waiting .entry)) v (now (outs .entry)) r (now (waiting .exit)) ⌝ }
 {
     let mut i = 0;
     while i < outs.len() {
         let x = outs[i] as usize;
+        if x >= v {
+            unclaim(outs, waiting, v, i);
+            return false;
+        }
         if flag(waiting, v, x) != 0 {
             unclaim(outs, waiting, v, i);
             return false;

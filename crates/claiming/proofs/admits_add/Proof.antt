@@ -1,13 +1,8 @@
 -- A law for each way out. Assumes nothing.
-use mathlib.Core.Path.{_≡_, sym, _∙_}
-use mathlib.Core.Bool.{false}
 use native.Mathlib.Omega.{arith}
-use lib.Dec.{leb}
-use denote.Ref.{now}
 use borrow.Author.Needs.{needs}
 use borrow.Author.Tests.{lt-ltb, le-ltb}
-use Rattle.rules.specs.Checks.{any}
-use Rattle.claiming.specs.Claiming.{closed-fails, lane-fails, many-fails, ins-outside, count-fails, room-fails, outs-outside, may-claim, admits}
+use Rattle.claiming.specs.Claiming.{closed-fails, lane-fails, many-fails, ins-outside, count-fails, room-fails, may-claim, admits}
 use Rattle.claiming.proofs.admits_add.Statement.{statement}
 use Rattle.claiming.proofs.admits_add.Tie as tie
 
@@ -18,14 +13,8 @@ start c = c .before .before .before .before
 abbrev short : tie.Else7 → tie.Else4
 short c = c .before .before .before
 
-abbrev fits : tie.Else8 → tie.Else7
-fits c = c .before .before
-
 abbrev whole : tie.Else4 → tie.Start
 whole c = start (c .before .before .before)
-
-below : (c : tie.Else8) → any (λ x. leb (whole (short (fits c)) .args .v) x) (now (whole (short (fits c)) .args .outs)) ≡ false
-below c = sym (c .before .any-at-least .ensures) ∙ c .if8 .left
 
 returns : tie.Need-returns
 returns c = closed-fails (c .if1 .taken)
@@ -54,26 +43,18 @@ sub-if7 c = search needs
 returns-7 : tie.Need-returns-7
 returns-7 c = room-fails (whole (c .before .before .before) .pre) (c .if7 .taken)
 
-any-at-least-requires : tie.Need-any-at-least-requires
-any-at-least-requires c κs = search needs
-
-returns-8 : tie.Need-returns-8
-returns-8 c = outs-outside (sym (c .before .any-at-least .ensures) ∙ c .if8 .taken)
-
 claim-new-requires : tie.Need-claim-new-requires
-claim-new-requires c κs = may-claim _ (whole (short (fits (c .before))) .pre) (below (c .before))
+claim-new-requires c κs = may-claim (whole (short (c .before)) .pre)
 
 same-length : tie.Need-same-length
 same-length c = search needs
 
-returns-9 : tie.Need-returns-9
-returns-9 c =
-    let o = c .before .before .before .before in
-    let f = fits o in
+returns-8 : tie.Need-returns-8
+returns-8 c =
+    let f = c .before .before .before .before in
     let s = short f in
-    admits (whole s .pre) (below o) (omega arith) (s .before .before .before .if1 .left) (s .before .before .if2 .left)
-    (rw (le-ltb _ _ (s .before .if3 .left), le-ltb _ _ (s .if4 .left))) (f .before .before .if5 .left)
-    (f .before .if6 .left) (f .if7 .left) (c .before .before .claim-new .ensures)
+    admits (whole s .pre) (omega arith) (s .before .before .before .if1 .left) (s .before .before .if2 .left)
+    (rw (le-ltb _ _ (s .before .if3 .left), le-ltb _ _ (s .if4 .left))) (f .before .before .if5 .left) (f .before .if6 .left) (f .if7 .left) (c .before .before .claim-new .ensures)
 
 pub admits-add-spec : {M : Type 1} → statement M
 admits-add-spec =
@@ -88,8 +69,6 @@ admits-add-spec =
     add-if7
     sub-if7
     returns-7
-    any-at-least-requires
-    returns-8
     claim-new-requires
     same-length
-    returns-9)
+    returns-8)

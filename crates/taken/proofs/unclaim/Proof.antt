@@ -7,13 +7,13 @@ use denote.Ref.{now}
 use borrow.Author.Needs.{needs}
 use native.Mathlib.Omega.{arith}
 use Rattle.rules.specs.Checks.{waiting-needed}
-use Rattle.taken.specs.Flags.{Flagged, Claiming}
+use Rattle.taken.specs.Flags.{Plain, Claiming}
 use Rattle.taken.specs.ClaimLaws.{unclaim-in, unclaim-next, unclaim-end}
 use Rattle.taken.proofs.unclaim.Statement.{statement}
 use Rattle.taken.proofs.unclaim.Tie as tie
 
 abbrev Inv-loop : tie.InvT-loop
-Inv-loop outs w₀ v n i₀ w i = (length w ≡ length w₀) × ((u : List ℕ) → Flagged u v outs → Claiming u v outs n w₀ → Claiming u v outs i w)
+Inv-loop outs w₀ v n i₀ w i = (length w ≡ length w₀) × ((u : List ℕ) → Plain u v → Claiming u v outs n w₀ → Claiming u v outs i w)
 
 abbrev μ-loop : tie.MeasureT-loop
 μ-loop outs w₀ v n i₀ w i = i
