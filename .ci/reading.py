@@ -14,7 +14,13 @@ ROW = re.compile(r"^(\| [^|]+ \| )((?:[a-z_]+/[A-Z]\w*(?:\.[\w-]+)?(?:, )?)+)( \
 # What a user is promised: the contracts of the exported functions and of what the program answers, and these records.
 PROMISED = re.compile(r'^pub extern "C" fn \w+\(.*?\n\{', re.S | re.M)
 ANSWER = ("job_reply", re.compile(r"^pub fn answer\(.*?\n\{", re.S | re.M))
-CLAIMS = [("laws", "Demand", "Demand"), ("laws", "Needs", "Needed")]
+CLAIMS = [
+    ("laws", "Demand", "Demand"),
+    ("laws", "Needs", "Needed"),
+    ("lanes", "Claims", "SameLists"),
+    ("lanes", "Claims", "SameRuns"),
+    ("lanes", "Claims", "SameJobs"),
+]
 
 
 class Words:

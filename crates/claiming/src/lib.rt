@@ -1,4 +1,4 @@
-// add with its outputs flagged as taken where it is accepted, in one walk that finds a repeated or a taken one. Only a refused call is
+// add with its outputs flagged as taken where it is accepted, in one walk that finds one of v or more, a repeated or a taken one. Only a refused call is
 // looked at check by check, for its number.
 ghost use Rattle.claiming.specs.Contracts.{MayAdmit, FlagsAdd, ClaimsAdd};
 

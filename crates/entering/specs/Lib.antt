@@ -1,2 +1,2 @@
--- The lists of an accepted registration.
+-- The lane and the lists of an accepted registration.
 pub mod Entering

@@ -8,6 +8,7 @@ use lib.ListN.{length}
 use Rattle.rules.specs.Model.{Model, initial}
 use Rattle.rules.specs.Limits.{most-job-bytes, job-parallelism, job-places, job-pool}
 use Rattle.rules.specs.Checks.{spans-needed, waiting-needed, tally-needed}
+use Rattle.laws.specs.Accepted.{Code}
 use Rattle.entries.specs.Entries.{extent}
 use Rattle.records.specs.Filling.{row-extent}
 use Rattle.rules.specs.Job.{Outcome, finished, rejected, outcome, Reached, reached}
@@ -15,7 +16,7 @@ use Rattle.session.specs.declared.Session.{Session}
 use Rattle.session.specs.Storage.{Storage, Beyond, Frame}
 use Rattle.session.specs.Rep.{Rep}
 use Rattle.jobcalls.specs.Runs.{Run}
-use Rattle.jobturn.specs.Turned.{Code, remains, StandsFor, FiguresOf}
+use Rattle.jobturn.specs.Turned.{remains, StandsFor, FiguresOf}
 use Rattle.jobturn.specs.declared.EndFigures.{EndFigures}
 use Rattle.jobturn.specs.declared.End.{End}
 use Rattle.jobturn.specs.declared.End.the-variants as end

@@ -5,7 +5,7 @@ use Prim.Native.Nat.{ℕ, _≤_}
 use lib.ListN.{length, take, drop}
 use Rattle.rules.specs.Limits.{program-listing-bytes}
 use Rattle.rules.specs.Listing as rule
-use Rattle.jobturn.specs.Turned.{Code}
+use Rattle.laws.specs.Accepted.{Code}
 use Rattle.job.specs.Run.{most-lines}
 use Rattle.job_reply.specs.declared.Reply.{Reply}
 use Rattle.job_reply.specs.declared.Reply.the-variants as reply

@@ -10,10 +10,10 @@ use Rattle.rules.specs.Model.{Model}
 use Rattle.rules.specs.Calls as calls
 use Rattle.rules.specs.Calls.{Call, answer, step}
 use Rattle.rules.specs.Job.{nothing, finished, rejected, lines, ragged}
-use Rattle.rules.specs.Limits.{reply-radix}
 use Rattle.rules.specs.Refusals as refusal
 use Rattle.rules.specs.Summary as rule
 use Rattle.rules.specs.Summary.{median}
+use Rattle.laws.specs.Accepted.{Code}
 use Rattle.laws.specs.Sound.{Between}
 use Rattle.session.specs.declared.Session.{Session}
 use Rattle.session.specs.Storage.{Storage, Beyond, Frame}
@@ -25,10 +25,6 @@ use Rattle.jobturn.specs.declared.EndFigures.{EndFigures}
 use Rattle.jobturn.specs.declared.End.the-variants as end
 use Rattle.jobturn.specs.declared.Step.{Step}
 use Rattle.jobturn.specs.declared.Step.the-variants as step′
-
--- a number of a refusal: it has room beside a line in the number that a host gets
-abbrev pub Code : ℕ → Type 0
-Code code = code < reply-radix
 
 -- what follows a call with this number on line m, the next starting at `next`
 pub record AfterCall (number m next : ℕ) (r : Step) : Type 0 where

@@ -62,7 +62,7 @@ bare-call final = final
 abbrev pub LowLanes : List Call → Type 0
 LowLanes calls = (lane : ℕ) (ins outs : List ℕ) → List·Memᴰ (add lane ins outs) calls → lane ≤ most-lane
 
--- "Numbers, order, tally, mark, window, who waits, rows and record are those of the list with every lane 0, but for the lane fields": of
+-- numbers, order, tally, mark, window, who waits, rows and record are those of the list with every lane 0, but for the lane fields: of
 -- the model k after the calls, and the model j after the same calls with every lane 0, both on a fresh session
 pub record Unlabelled (P N W : ℕ) (calls : List Call) (k j : Model) : Type 0 where
   -- the number of each call

@@ -135,9 +135,13 @@ final-passed N W k h =
     let b = verdict-head _ _ (a .1) (omega arith) in
     record { not-closed = a .0; none = omega (arith, ltb-false 0 (length (k .pending)) (b .0)) }
 
--- a call or an opening is refused with a number below the radix of a host's number, and with none of a job's text
+-- a refusal's number has room beside a line in the number that a host gets
+abbrev pub Code : ℕ → Type 0
+Code n = n < reply-radix
+
+-- and that of a call or an opening is none of a job's text
 abbrev pub CallCode : ℕ → Type 0
-CallCode n = (n < reply-radix) × (n ≢ refusal.malformed) × (n ≢ refusal.long-job)
+CallCode n = Code n × (n ≢ refusal.malformed) × (n ≢ refusal.long-job)
 
 other-code : ℕ → Bool
 other-code n = leb reply-radix n || (eqb n refusal.malformed || eqb n refusal.long-job)

@@ -1,5 +1,5 @@
--- What the checks keep bounded: the counts of registrations, list numbers and plain flushes (`Limits`), and the places that lists and
--- sets name (`Inside`).
+-- What the checks keep bounded: the counts of registrations, list numbers and plain flushes (`Limits`), the lanes of registrations, and the
+-- places that lists and sets name (`Inside`).
 use mathlib.Core.Path.{_≡_, refl, sym, ap, _∙_}
 use mathlib.Core.List.{List, [], _∷_, _++_, List·Memᴰ·not-nil, List·Memᴰ·cases-cons}
 use mathlib.Core.Logic.{_⊎_, inl, inr, _≢_}
@@ -37,7 +37,7 @@ pub record Bounded (N : ℕ) (a : Reg) : Type 0 where
   pub outs-below : AllBelow N (a .outs)
   pub outs-once : repeats (a .outs) ≡ false
 
--- the places
+-- the lanes and the places
 pub record Inside (N : ℕ) (k : Model) (st : List ℕ) : Type 0 where
   pub lists : (r : ℕ) → Bounded N (reg-of k r)
   pub sets-below : AllBelow N (k .sets)

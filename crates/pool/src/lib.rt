@@ -8,7 +8,7 @@ ghost use Rattle.rules.specs.Checks.{waiting-needed};
 ghost use Rattle.pool.specs.Lists.{lane-limit, inputs-limit, start-limit, stored, Storable, with-cell, start-of, inputs-of, lane-of, end-of};
 
 // A cell has the lane in its lowest 8 bits, the count of inputs in 16 above them, and the start in the 40 above these: all outputs together
-// are at most v, and so lists start below 2^40.
+// are at most v, a registration has at most 65,535 inputs, and so lists start below 2^40.
 const LANE_LIMIT: u64 = 256;
 
 const INPUTS_LIMIT: u64 = 65536;

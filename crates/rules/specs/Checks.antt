@@ -1,5 +1,5 @@
 -- Document 01, "Refused by the input, refused by the state": the checks of opening and of the four calls, each list in the paper's
--- order. A call's code is the number of its first failing check, or 0. Assumes nothing.
+-- order, with 18 where document 02, M-104, puts it. A call's code is the number of its first failing check, or 0. Assumes nothing.
 use mathlib.Core.List.{List, [], _∷_, _++_}
 use mathlib.Core.Bool.{Bool, true, false, _||_}
 use Prim.Native.Nat.{ℕ, _+_, _*_}

@@ -235,7 +235,7 @@ jobs =
     -- 15 in line 2 before 1 for line 1; 1 in line 2 before 15 in line 3
     ∷ (bytes "parallelism=0\n" ++ bytes "places=x\n")
     ∷ (head 0 6 ++ one 10)
-    -- an add is its two lines: no out line, another line for it, two in lines, an out line alone; its refusal is at its out line
+    -- an add without a lane is its two lines: no out line, another line for it, two in lines, an out line alone; its refusal is at its out line
     ∷ (head 2 6 ++ in-to 0)
     ∷ (head 2 6 ++ (in-to 0 ++ (set-to 0 ++ end)))
     ∷ (head 2 6 ++ (in-to 0 ++ (in-to 0 ++ (out-to 1 ++ end))))
@@ -415,7 +415,7 @@ needs-want =
     ++ (replicate 11 (four 0 0 0 32)
     -- a malformed line after a P of 0: when run, 1 in line 2 before the second
     ++ ((bad 2 ∷ bad 3 ∷ [])
-    -- the two lines of an add
+    -- the two lines of an add without a lane
     ++ ((bad 4 ∷ bad 4 ∷ bad 4 ∷ bad 3 ∷ four 1 2 0 34 ∷ bad 4 ∷ bad 3 ∷ [])
     -- calls that are refused when run: 5 before a malformed line, and after it; 4, 8, 9 and 12; 12 before a surplus line
     ++ ((bad 4 ∷ bad 3 ∷ four 0 0 0 32 ∷ four 0 0 0 32 ∷ four 2 0 0 36 ∷ four 1 1 0 34 ∷ bad 6 ∷ [])

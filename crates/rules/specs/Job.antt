@@ -1,5 +1,6 @@
 -- Document 01, "Summary, job and listing": the text of a job, from its bytes to the model at its end or to the first refusal with its
--- line. Reading and running go line by line. How open points are read stands in docs/DECISIONS.md. Assumes nothing.
+-- line; and of document 02 the line of a lane (M-104). Reading and running go line by line. How open points are read stands in
+-- docs/DECISIONS.md. Assumes nothing.
 use mathlib.Core.List.{List, [], _∷_, _++_}
 use mathlib.Core.Bool.{Bool, true, false, not, _&&_}
 use mathlib.Core.Option.{Option, some, none}

@@ -1,4 +1,4 @@
--- Document 01's limits, by name; src/lib.rt has the same for code. Assumes nothing.
+-- The limits of document 01, and of lanes (document 02), by name; src/lib.rt has the same for code. Assumes nothing.
 use Prim.Native.Nat.{ℕ, _^_}
 
 -- "P is the desired parallelism, 1 to 64,999. V is the count of places and the greatest count of registrations, 1 to 16,777,216."

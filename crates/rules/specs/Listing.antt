@@ -1,4 +1,4 @@
--- Document 01, the listing of a job, its floor by document 02, and the whole program and the host's call as definitions: job bytes to
+-- Document 01, the listing of a job, its floor and lanes by document 02, and the whole program and the host's call as definitions: job bytes to
 -- output bytes. Assumes nothing.
 use mathlib.Core.List.{List, [], _∷_, _++_}
 use mathlib.Core.Bool.{true, false}

@@ -1,5 +1,5 @@
--- Document 01, "Refused by the input, refused by the state": the numbers of the refusals, by name. src/lib.rt has the same for code, and
--- hosts/refusals.txt for hosts. Assumes nothing.
+-- Document 01, "Refused by the input, refused by the state": the numbers of the refusals, by name, and those that document
+-- 02 adds. src/lib.rt has the same for code, and hosts/refusals.txt for hosts. Assumes nothing.
 use Prim.Native.Nat.{ℕ}
 
 -- "Refused by the input"

@@ -142,6 +142,8 @@ lanes-got =
     ∷ row-labels (0 ∷ 1 ∷ 2 ∷ []) (run 2 6 100 labelled initial)
     ∷ order-labels (run 2 6 100 (labelled ++ (final ∷ [])) initial)
     ∷ row-labels (0 ∷ 1 ∷ 2 ∷ 3 ∷ []) (run 2 6 100 (labelled ++ (final ∷ [])) initial)
+    -- the guide alone writes lane 0
+    ∷ labels (map (λ (e : Entry). e .item) ((serve-all 2 6 (push-request none (pushed 7 8 9) ∷ flush-request ∷ []) alone) .guide .order))
     ∷ [])
 
 pub lanes-want : List (List (List ℕ))
@@ -154,6 +156,7 @@ lanes-want =
     ∷ ((0 ∷ 0 ∷ []) ∷ (0 ∷ 0 ∷ []) ∷ (0 ∷ 0 ∷ []) ∷ [])
     ∷ ((1 ∷ 255 ∷ []) ∷ (2 ∷ 0 ∷ []) ∷ (0 ∷ 3 ∷ []) ∷ [])
     ∷ ((1 ∷ 3 ∷ []) ∷ (1 ∷ 255 ∷ []) ∷ (1 ∷ 0 ∷ []) ∷ (0 ∷ 0 ∷ []) ∷ [])
+    ∷ ((8 ∷ 0 ∷ []) ∷ [])
     ∷ []
 
 -- 18 over 255, up to the greatest number; after 7, and before 3, 4, 5, 6, 8, 9 and 10
@@ -174,7 +177,7 @@ unfolding lanes-got lanes-want lane-checks-got lane-checks-want labels order-lab
     fresh release flush-guide seek found begin choose put settle apply place initial member marked tracked run-from watermark greatest ready loc-of later top after spotted reg-of
     place-one due left queue keep push off rest with-set with-add cascade settle-all do-set do-add with-record note-add note-flush note-final with-flush do-flush do-final verdict
     any repeats written-by taken pooled check-closed check-places check-set check-add check-flush check-final checks answer apply-call unless-refused step run answers unfilled fill
-    row-after row-of
+    row-after row-of alone holds stray worn check-push check-flush-alone requests reply serve serve-step serve-all
 lanes = (refl, refl)
 
 -- ---- opening, and the guide alone

@@ -1,4 +1,4 @@
-// Document 01's limits and the numbers of its refusals for code; specs/Limits and specs/Refusals have them, under the same names, for
+// The limits and the numbers of the refusals for code; specs/Limits and specs/Refusals have them, under the same names, for
 // the definitions, all of which stand in specs/.
 
 // The greatest P and V.

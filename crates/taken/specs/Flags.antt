@@ -73,7 +73,7 @@ pub record Claiming (w : List ℕ) (v : ℕ) (xs : List ℕ) (i : ℕ) (w′ : L
 -- storage is what flagging the first n of xs made of some storage before
 pub record Unclaiming (w : List ℕ) (v : ℕ) (xs : List ℕ) (n : ℕ) : Type 0 where
   pub before : List ℕ
-  pub flagged : Plain before v
+  pub plain : Plain before v
   pub claiming : Claiming before v xs n w
 
 -- that storage is back

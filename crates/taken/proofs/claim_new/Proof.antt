@@ -48,7 +48,7 @@ shared-slice-read-x c = search needs
 unclaim-requires : tie.Need-unclaim-requires Inv-loop μ-loop
 unclaim-requires c κs =
     let l = c .before .before .before .before in
-    record { before = now (start l .args .waiting); flagged = start l .pre; claiming = l .loop .inv }
+    record { before = now (start l .args .waiting); plain = start l .pre; claiming = l .loop .inv }
 
 same-length : tie.Need-same-length Inv-loop μ-loop
 same-length c = let u = c .before .before in u .unclaim .kept .1 .0 ∙ claim-length (outside u .before .before .before .loop .inv)
@@ -67,7 +67,7 @@ flag-requires c κs = let e = c .before in let l = turn e .before in claim-in (s
 unclaim-requires-2 : tie.Need-unclaim-requires-2 Inv-loop μ-loop
 unclaim-requires-2 c κs =
     let l = turn (below (c .before .before)) .before in
-    record { before = now (start l .args .waiting); flagged = start l .pre; claiming = l .loop .inv }
+    record { before = now (start l .args .waiting); plain = start l .pre; claiming = l .loop .inv }
 
 same-length-2 : tie.Need-same-length-2 Inv-loop μ-loop
 same-length-2 c = let u = c .before .before in u .unclaim2 .kept .1 .0 ∙ claim-length (turn (below (met u .before)) .before .loop .inv)

@@ -31,7 +31,7 @@ inside : (c : tie.In-loop Inv-loop μ-loop)
     × (waiting-needed (start (c .before) .args .v) ≤ length (c .before .loop .waiting))
 inside c =
     let p = start (c .before) .pre in
-    unclaim-in (p .flagged) (c .before .loop .inv .1 (p .before) (p .flagged) (p .claiming)) (c .loop-test .taken)
+    unclaim-in (p .plain) (c .before .loop .inv .1 (p .before) (p .plain) (p .claiming)) (c .loop-test .taken)
 
 loop-holds : tie.Need-loop-holds Inv-loop μ-loop
 loop-holds c = (refl, λ u f g. g)
