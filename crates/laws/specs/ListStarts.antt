@@ -16,7 +16,7 @@ use Rattle.laws.specs.ModelBase.{In, bool-cases, member-in}
 use Rattle.laws.specs.Accepted.{or-false}
 use Rattle.laws.specs.GuideInv.{eq-or-ne}
 use Rattle.laws.specs.Balance.{below}
-use Rattle.laws.specs.Once.{one-of, one-same, one-other, below-one}
+use Rattle.laws.specs.Once.{one-of, one-other, one-le, below-one}
 use Rattle.laws.specs.Limits.{AllBelow}
 use Rattle.laws.specs.Sound.{Sound}
 
@@ -69,13 +69,6 @@ not-in : (x : ℕ) (l : List ℕ) → member x l ≡ false → times-in x l ≡ 
 unfolding times-in member
 not-in x [] h = refl
 not-in x (y ∷ l) h = let z = or-false (eqb x y) (member x l) h in omega (arith, one-other y x (λ e. false≢true (sym (z .0) ∙ eq-eqb x y (sym e))), not-in x l (z .1))
-
-one-le : (y x : ℕ) → one-of y x ≤ 1
-one-le y x = go (eq-or-ne y x)
-  where
-    go : (y ≡ x) ⊎ (y ≢ x) → one-of y x ≤ 1
-    go (inl e) = omega (arith, one-same y x e)
-    go (inr e) = omega (arith, one-other y x e)
 
 once-in : (x : ℕ) (l : List ℕ) → repeats l ≡ false → times-in x l ≤ 1
 unfolding times-in repeats

@@ -62,6 +62,13 @@ pub one-other : (r x : ℕ) → r ≢ x → one-of r x ≡ 0
 unfolding one-of
 one-other r x h = rw (ne-eqb r x h, one-of)
 
+pub one-le : (r x : ℕ) → one-of r x ≤ 1
+one-le r x = go (eq-or-ne r x)
+  where
+    go : (r ≡ x) ⊎ (r ≢ x) → one-of r x ≤ 1
+    go (inl e) = omega (arith, one-same r x e)
+    go (inr e) = omega (arith, one-other r x e)
+
 below-none : (r n : ℕ) → n ≤ r → below (one-of r) n ≡ 0
 unfolding below
 below-none r zero h = refl

@@ -9,7 +9,6 @@ use mathlib.Core.Option.{Option}
 use Prim.Native.Nat.{ℕ, _+_, _^_, _≤_, _<_}
 use native.Mathlib.Omega.{arith}
 use lib.ListN.{length, getD}
-use lib.Dec.{eqb}
 use Rattle.rules.specs.Limits.{most-parallelism, most-places}
 use Rattle.rules.specs.Guide.{Loc, Item, Entry, place, tally}
 use Rattle.rules.specs.Model.{Model, marked, loc-of, reg-of, watermark, initial, registrations as registered}
@@ -18,7 +17,7 @@ use Rattle.rules.specs.Calls.{Call, run}
 use Rattle.laws.specs.History.{len}
 use Rattle.laws.specs.ModelBase.{In, bool-cases, entry-at, loc-of-none}
 use Rattle.laws.specs.Place.{place-step}
-use Rattle.laws.specs.Once.{one-of}
+use Rattle.laws.specs.Once.{one-le}
 use Rattle.laws.specs.Order.{nth, written}
 use Rattle.laws.specs.Tally.{having, tally-each}
 use Rattle.laws.specs.Entries.{OfSession, LaneKept, order-entry, span-at}
@@ -66,18 +65,10 @@ pub record Widths (P N : ℕ) (k : Model) : Type 0 where
   -- where the lists of one more registration start
   pub list-start : length (k .adds) < N → pooled (k .adds) < 2 ^ 40
 
-one-of-le : (p x : ℕ) → one-of p x ≤ 1
-unfolding one-of
-one-of-le p x = go (eqb p x)
-  where
-    go : (b : Bool) → elim b [ true ↦ 1 | false ↦ 0 ] ≤ 1
-    go true = omega arith
-    go false = omega arith
-
 pub having-le : (p : ℕ) (l : List Entry) → having p l ≤ length l
 unfolding having
 having-le p [] = omega arith
-having-le p (x ∷ l) = omega (arith, having-le p l, one-of-le p (x .parallelism))
+having-le p (x ∷ l) = omega (arith, having-le p l, one-le p (x .parallelism))
 
 module _ (P N W : ℕ) (hP : 1 ≤ P) (tP : P ≤ most-parallelism) (hN : N ≤ most-places) (k : Model) (st : List ℕ) (s : Sound P N W k st) where
   f : Fits P N k

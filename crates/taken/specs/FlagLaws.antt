@@ -38,7 +38,7 @@ plain-of N t w f = record { long = f .long; plain = λ x h. rw (f .at x h) (smal
     small false = omega arith
 
 pub flagged-of : (N : ℕ) (t : ℕ → Bool) (w : List ℕ) → Flags N t w → (xs : List ℕ) → Below N xs → Flagged w N xs
-flagged-of N t w f xs b = record { long = f .long; below = b; plain = plain-of N t w f .plain }
+flagged-of N t w f xs b = record { flags = plain-of N t w f; below = b }
 
 -- another test that says the same
 pub flags-same : (N : ℕ) (t u : ℕ → Bool) (w : List ℕ) → ((x : ℕ) → x < N → u x ≡ t x) → Flags N t w → Flags N u w

@@ -31,9 +31,8 @@ pub record Plain (w : List ℕ) (v : ℕ) : Type 0 where
 
 -- and the places are below v
 pub record Flagged (w : List ℕ) (v : ℕ) (xs : List ℕ) : Type 0 where
-  pub long : waiting-needed v ≤ length w
+  pub flags : Plain w v
   pub below : Below v xs
-  pub plain : (x : ℕ) → x < v → flag-at w v x ≤ 1
 
 -- w with the flag of each place of xs raised by 2
 unfoldable pub raised : List ℕ → ℕ → List ℕ → List ℕ

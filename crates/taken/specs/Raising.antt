@@ -63,18 +63,18 @@ raise-length {w} {v} {xs} {i} g = ap length (g .is) ∙ raised-length w v (take 
 
 module _ {w : List ℕ} {v : ℕ} {xs : List ℕ} (f : Flagged w v xs) {i : ℕ} {w′ : List ℕ} (g : Raising w v xs i w′) where
   found : (x : ℕ) → flag-at w′ v x ≡ flag-at w v x + cond {A = ℕ} (member x (take i xs)) 2 0
-  found x = ap (λ (l : List ℕ). flag-at l v x) (g .is) ∙ raised-flag w v (take i xs) (f .long) (below-first v xs (f .below) i) (g .single) x
+  found x = ap (λ (l : List ℕ). flag-at l v x) (g .is) ∙ raised-flag w v (take i xs) (f .flags .long) (below-first v xs (f .below) i) (g .single) x
 
   -- the place reached has its flag in storage
   pub raise-in : i < length xs → (getD xs i 0 < v) × (waiting-needed v ≤ length w′)
-  raise-in h = (below-at v xs (f .below) i h, omega (arith, f .long, raise-length g))
+  raise-in h = (below-at v xs (f .below) i h, omega (arith, f .flags .long, raise-length g))
 
   pub raise-met : i < length xs → 1 < flag-at w′ v (getD xs i 0) → Raises w v xs i w′
   raise-met h k = record { most = g .most; single = g .single; again = λ n. repeats-met xs i h (go (bool-cases (member (getD xs i 0) (take i xs)))); is = g .is }
     where
       go : (member (getD xs i 0) (take i xs) ≡ true) ⊎ (member (getD xs i 0) (take i xs) ≡ false) → member (getD xs i 0) (take i xs) ≡ true
       go (inl m) = m
-      go (inr m) = absurd (omega (arith, rw m at (found (getD xs i 0)), f .plain (getD xs i 0) (below-at v xs (f .below) i h)))
+      go (inr m) = absurd (omega (arith, rw m at (found (getD xs i 0)), f .flags .plain (getD xs i 0) (below-at v xs (f .below) i h)))
 
   pub raise-next : i < length xs → flag-at w′ v (getD xs i 0) ≤ 1 → Raising w v xs (i + 1) (with-flag w′ v (getD xs i 0) (flag-at w′ v (getD xs i 0) + 2))
   raise-next h k =
@@ -106,7 +106,7 @@ module _ {w : List ℕ} {v : ℕ} {xs : List ℕ} (f : Flagged w v xs) {i : ℕ}
     before = raised w v (take (i - 1) xs)
 
     long : waiting-needed v ≤ length before
-    long = omega (arith, f .long, raised-length w v (take (i - 1) xs))
+    long = omega (arith, f .flags .long, raised-length w v (take (i - 1) xs))
 
     up : w′ ≡ with-flag before v x (flag-at before v x + 2)
     up = g .is ∙ ap (raised w v) (take-last xs i some (g .most)) ∙ raised-snoc w v (take (i - 1) xs) x
@@ -115,7 +115,7 @@ module _ {w : List ℕ} {v : ℕ} {xs : List ℕ} (f : Flagged w v xs) {i : ℕ}
     flag = ap (λ (l : List ℕ). flag-at l v x) up ∙ flag-same before v x (flag-at before v x + 2) low long
 
     pub lower-in : (i - 1 < length xs) × (getD xs (i - 1) 0 < v) × (waiting-needed v ≤ length w′) × (2 ≤ flag-at w′ v (getD xs (i - 1) 0))
-    lower-in = (omega (arith, g .most), low, omega (arith, f .long, raise-length g), omega (arith, flag))
+    lower-in = (omega (arith, g .most), low, omega (arith, f .flags .long, raise-length g), omega (arith, flag))
 
     pub lower-next : Raising w v xs (i - 1) (with-flag w′ v (getD xs (i - 1) 0) (flag-at w′ v (getD xs (i - 1) 0) - 2))
     lower-next = record { most = omega (arith, g .most); single = single; is = back }
