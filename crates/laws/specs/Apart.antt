@@ -37,7 +37,7 @@ taken-not k i h = go (bool-cases (member i (k .sets)))
 free-set : (k : Model) (i : ℕ) → taken k i ≡ false → In i (k .sets) → ⊥
 free-set k i h y = false≢true (sym (taken-not k i h .0) ∙ in-member i (k .sets) y)
 
-free-out : (k : Model) (i r : ℕ) → taken k i ≡ false → In i ((reg-of k r) .outs) → ⊥
+pub free-out : (k : Model) (i r : ℕ) → taken k i ≡ false → In i ((reg-of k r) .outs) → ⊥
 free-out k i r h y = false≢true (sym (taken-not k i h .1) ∙ reg-written i k r y)
 
 -- sets and outputs apart, and the outputs of two registrations apart

@@ -121,16 +121,16 @@ module _ (φ : ℕ → ℕ) where
       go (inl e) f = rw (e, due, left) (omega arith)
       go (inr e) f = rw (e, due, left) (omega arith)
 
-  off-sum : (N : ℕ) (k : Model) → lsum (off N k) + qsum ((rest N k) .pending) ≡ qsum (k .pending)
+  pub off-sum : (N : ℕ) (k : Model) → lsum (off N k) + qsum ((rest N k) .pending) ≡ qsum (k .pending)
   unfolding off rest keep
   off-sum N k = due-sum (watermark N k) (k .pending)
 
-  push-sum : (rs st : List ℕ) → lsum (push rs st) ≡ lsum rs + lsum st
+  pub push-sum : (rs st : List ℕ) → lsum (push rs st) ≡ lsum rs + lsum st
   unfolding push lsum
   push-sum [] st = omega arith
   push-sum (r ∷ rs) st = omega (arith, push-sum rs (r ∷ st))
 
-  queue-sum : (w : Pending) (ws : List Pending) → qsum (queue w ws) ≡ φ (w .reg) + qsum ws
+  pub queue-sum : (w : Pending) (ws : List Pending) → qsum (queue w ws) ≡ φ (w .reg) + qsum ws
   unfolding queue qsum
   queue-sum w [] = refl
   queue-sum w (v ∷ ws) = go (bool-cases (ltb (w .under) (v .under))) (queue-sum w ws)

@@ -65,7 +65,7 @@ stays P N W hP cs ds =
 
 module _ (P N W : ℕ) where
   -- an accepted final closes
-  accepted-closes : (k : Model) → answer N W final k ≡ 0 → (step P N W final k) .closed ≡ true
+  pub accepted-closes : (k : Model) → answer N W final k ≡ 0 → (step P N W final k) .closed ≡ true
   unfolding step unless-refused apply-call do-final note-final note-flush with-record with-flush
   accepted-closes k a = rw (eq-eqb (answer N W final k) 0 a, unless-refused)
 

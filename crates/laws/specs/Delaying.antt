@@ -41,12 +41,12 @@ watermark-mono : (N : ℕ) (k j : Model) → ((i : ℕ) → tracked k i ≡ true
 unfolding watermark
 watermark-mono N k j h = run-mono (tracked k) (tracked j) h N 0
 
-ready-up : (m n : ℕ) (l : List ℕ) → m ≤ n → ready m l ≡ true → ready n l ≡ true
+pub ready-up : (m n : ℕ) (l : List ℕ) → m ≤ n → ready m l ≡ true → ready n l ≡ true
 unfolding ready
 ready-up m n [] h e = refl
 ready-up m n (x ∷ l) h e = lt-ltb (greatest (x ∷ l)) n (omega (arith, ltb-true (greatest (x ∷ l)) m e))
 
-ready-off : (m n : ℕ) (l : List ℕ) → n ≤ greatest l → ready m l ≡ false → ready n l ≡ false
+pub ready-off : (m n : ℕ) (l : List ℕ) → n ≤ greatest l → ready m l ≡ false → ready n l ≡ false
 unfolding ready
 ready-off m n [] h e = e
 ready-off m n (x ∷ l) h e = le-ltb _ _ h

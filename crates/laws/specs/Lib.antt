@@ -1,5 +1,6 @@
 -- Theorems about the definitions of `rules`. The main ones: `demand-3` (DemandProof), `numbers-fit` (Widths), `sound` and `between`
--- (Sound), `placeable` (Placeable), `alone-sound` (Alone), `alone-numbers-fit` (AloneWidths), `needed` (NeedsProof), `floor-is` (Floor).
+-- (Sound), `placeable` (Placeable), `alone-sound` (Alone), `alone-numbers-fit` (AloneWidths), `needed` (NeedsProof), `floor-is` (Floor),
+-- `reasons` (ReasonProof), `job-reason-holds` (ReasonJobs).
 pub mod Width
 pub mod History
 pub mod Together
@@ -34,3 +35,9 @@ pub mod AloneWidths
 pub mod Needs
 pub mod NeedsProof
 pub mod Floor
+pub mod Waits
+pub mod Promised
+pub mod Reason
+pub mod ReasonProof
+pub mod JobSession
+pub mod ReasonJobs

@@ -112,7 +112,7 @@ module _ (P N W : ℕ) (hP : 1 ≤ P) where
           rw (run-lines, need-lines, e) (call-agrees n (add x ins outs) k b (run-lines P N W (suc n) nothing ls rag) (need-lines (suc n) nothing ls rag) (f (suc n) nothing))
 
 -- an opening that passes its checks has a parallelism
-opened-positive : (P N : ℕ) → verdict (check-open P N job-sizes) ≡ 0 → 1 ≤ P
+pub opened-positive : (P N : ℕ) → verdict (check-open P N job-sizes) ≡ 0 → 1 ≤ P
 unfolding check-open check-range
 opened-positive P N e = ltb-false P 1 (or-false (ltb P 1) (ltb most-parallelism P) (verdict-head _ _ e (omega arith) .0) .0)
 

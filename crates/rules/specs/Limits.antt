@@ -59,6 +59,10 @@ program-listing-bytes = 65536
 abbrev pub reply-radix : ℕ
 reply-radix = 64
 
+-- "64 · (2^24 · input + place)" (document 02, M-105): no place reaches it
+abbrev pub place-radix : ℕ
+place-radix = 2 ^ 24
+
 -- "Both lend storage for P ≤ 64, V ≤ 512, W = 4,096."
 abbrev pub job-parallelism : ℕ
 job-parallelism = 64

@@ -53,6 +53,13 @@ too-many-flushes = 11
 abbrev pub still-waiting : ℕ
 still-waiting = 12
 
+-- document 02, M-105: "19, never accepted; 20, accepted but not waiting"
+abbrev pub never-accepted : ℕ
+never-accepted = 19
+
+abbrev pub not-waiting : ℕ
+not-waiting = 20
+
 -- the guide alone
 abbrev pub not-held : ℕ
 not-held = 13

@@ -44,6 +44,9 @@ pub const PROGRAM_LISTING_BYTES: usize = 65536;
 // What a listing's length, or a refusal's line, is multiplied by in the number that a host gets.
 pub const REPLY_RADIX: u64 = 64;
 
+// What an input is multiplied by where it and a place are told as one number: above every place.
+pub const PLACE_RADIX: u64 = 16777216;
+
 // The storage that a job is run in: its greatest P and V, and W.
 pub const JOB_PARALLELISM: usize = 64;
 
@@ -87,3 +90,7 @@ pub const LONG_JOB: u64 = 16;
 pub const LONG_LISTING: u64 = 17;
 
 pub const UNKNOWN_LANE: u64 = 18;
+
+pub const NEVER_ACCEPTED: u64 = 19;
+
+pub const NOT_WAITING: u64 = 20;
