@@ -22,7 +22,7 @@ use Rattle.guide.specs.Fresh.{first-guide}
 use Rattle.session.specs.declared.Session.{Session}
 use Rattle.session.specs.Storage.{Storage, Beyond, Frame, beyond-refl, beyond-drop, beyond-trans, frame-refl, frame-trans}
 use Rattle.session.specs.Rep.{Rep}
-use Rattle.opening.specs.Opened.{Opens, enough-of}
+use Rattle.opening.specs.Opened.{Opens, enough-of, first-session}
 use Rattle.jobcalls.specs.Told.{HeadRead}
 use Rattle.jobcalls.specs.Runs.{Run, whole-run, opens, head-runs}
 use Rattle.jobcalls.specs.declared.Head.{Head}
@@ -33,7 +33,8 @@ use Rattle.jobturn.specs.Turned.{remains, StandsFor, Refuses, Surplus, Turned, 
 use Rattle.jobturn.specs.declared.EndFigures.{EndFigures}
 use Rattle.jobturn.specs.declared.End.{End}
 use Rattle.jobturn.specs.declared.End.the-variants as end
-use Rattle.job.specs.Run.{StandsReached, Left, Refused, Tells, MayRun, outcome-as, Stopped, Runs, Room, Ran}
+use Rattle.job.specs.declared.Ended.{Ended}
+use Rattle.job.specs.Run.{StandsReached, Left, Refused, Tells, MayRun, outcome-as, Stopped, Runs, unopened-at, Room, Ran}
 
 -- begun with s and σ, the calls up to `at` lead to a model, for which what remains is what remained at the start
 pub record Going (P N W : ℕ) (s : Session) (σ : Storage) (job : List ℕ) (start : ℕ) (s′ : Session) (σ′ : Storage) (at n : ℕ) : Type 0 where
@@ -111,7 +112,7 @@ module _ {s : Session} {σ : Storage} {job : List ℕ} {room start : ℕ} (m : M
       pub falls : (next i : ℕ) → x ≡ step′.On next i → (at < next) × (next ≤ length job)
       falls next i e = let d′ = subst (λ (y : Step). Turned job at n s′ y t σ′ τ b b′) e d in (d′ .further .0, d′ .further .1 .0)
 
-      pub runs-ended : (e : End) → x ≡ step′.Ended e → Runs s σ job start e τ a b′
+      pub runs-ended : (e : End) → x ≡ step′.Ended e → Runs s σ job start e t τ a b′
       runs-ended (end.Finished f) e =
           let d′ = subst (λ (y : Step). Turned job at n s′ y t σ′ τ b b′) e d in
           record {
@@ -120,7 +121,6 @@ module _ {s : Session} {σ : Storage} {job : List ℕ} {room start : ℕ} (m : M
                 let g = d′ .tells P N (length (σ .pool)) (h .model) hP (h .stands) in
                 record {
                   model = step P N (length (σ .pool)) calls.final (h .model);
-                  session = t;
                   stands = g .final .stands;
                   is = h .same ∙ g .is;
                   frame = frame-on h t τ (d′ .frame);
@@ -143,11 +143,10 @@ module _ {s : Session} {σ : Storage} {job : List ℕ} {room start : ℕ} (m : M
               → Frame (s′ .guide .p) (s′ .guide .v) (s′ .guide .written) (t .guide .written) σ′ τ
               → Refuses (h .model) s′ t σ′ τ i code (remains P N (length (σ .pool)) job at n (h .model))
               ⊎ Surplus P N (length (σ .pool)) (h .model) t τ i code (remains P N (length (σ .pool)) job at n (h .model))
-              → Stopped P N (length (σ .pool)) s σ τ (end.Rejected i code) (remains P N (length (σ .pool)) job start 3 initial)
+              → Stopped P N (length (σ .pool)) s t σ τ (end.Rejected i code) (remains P N (length (σ .pool)) job start 3 initial)
           stopped i code P N h f (inl y) =
               record {
                 model = h .model;
-                session = t;
                 stands = subst (λ (z : Session). StandsFor P N (length (σ .pool)) z τ (h .model)) (sym (y .session))
                     (subst (λ (z : Storage). StandsFor P N (length (σ .pool)) s′ z (h .model)) (sym (y .storage)) (h .stands));
                 is = h .same ∙ y .is;
@@ -157,7 +156,6 @@ module _ {s : Session} {σ : Storage} {job : List ℕ} {room start : ℕ} (m : M
           stopped i code P N h f (inr y) =
               record {
                 model = step P N (length (σ .pool)) calls.final (h .model);
-                session = t;
                 stands = y .final .stands;
                 is = h .same ∙ y .is;
                 frame = frame-on h t τ f;
@@ -195,15 +193,17 @@ lengths-trans x y =
     }
 
 -- a job too long, one with a bad head, one that opening refuses, and one that is run
-pub ran-long : (job : List ℕ) (σ : Storage) (a : List ℕ) → most-job-bytes < length job → Ran job (end.Rejected 1 refusal.long-job) σ σ a a
+pub ran-long : (job : List ℕ) (r : Ended) → r ≡ unopened-at 1 refusal.long-job → (σ : Storage) (a : List ℕ) → most-job-bytes < length job
+    → Ran job (r .end) (r .session) σ σ a a
 unfolding outcome reached
-ran-long job σ a h =
+ran-long job r e σ a h =
     let n : reached job ≡ none = rw (reached, lt-ltb most-job-bytes (length job) h) in
-    record {
-      tells = record { is = rw (outcome, lt-ltb most-job-bytes (length job) h); left = subst (λ (x : Option Reached). Left x σ σ) (sym n) refl };
+    subst (λ (x : Ended). Ran job (x .end) (x .session) σ σ a a) (sym e)
+    (record {
+      tells = record { is = rw (outcome, lt-ltb most-job-bytes (length job) h); left = subst (λ (x : Option Reached). Left x (first-session 0 0) σ σ) (sym n) (refl, refl) };
       low = (omega arith, omega arith);
       into = beyond-refl _ a;
-    }
+    })
 
 module _ (job : List ℕ) (short : length job ≤ most-job-bytes) where
   abbrev whole : Outcome × Option Reached
@@ -214,22 +214,24 @@ module _ (job : List ℕ) (short : length job ≤ most-job-bytes) where
   not-long = rw (outcome, reached, le-ltb most-job-bytes (length job) short)
 
   -- no session was opened
-  unopened : (σ : Storage) (n code : ℕ) → whole ≡ (rejected n code, none) → Refused job σ σ n code
-  unopened σ n code q =
+  unopened : (s : Session) → s ≡ first-session 0 0 → (σ : Storage) (n code : ℕ) → whole ≡ (rejected n code, none) → Refused job s σ σ n code
+  unopened s f σ n code q =
       record {
         is = ap (λ (x : Outcome × Option Reached). x .0) q;
-        left = subst (λ (x : Option Reached). Left x σ σ) (sym (ap (λ (x : Outcome × Option Reached). x .1) q)) refl;
+        left = subst (λ (x : Option Reached). Left x s σ σ) (sym (ap (λ (x : Outcome × Option Reached). x .1) q)) (refl, f);
       }
 
-  pub ran-malformed : (n : ℕ) (h : Head) (a b : List ℕ) → HeadRead job h a b → length b ≡ length a → h ≡ head.Malformed n → (σ : Storage) → Ran job (end.Rejected n refusal.malformed) σ σ a b
+  pub ran-malformed : (n : ℕ) (h : Head) (a b : List ℕ) → HeadRead job h a b → length b ≡ length a → h ≡ head.Malformed n
+      → (x : Ended) → x ≡ unopened-at n refusal.malformed → (σ : Storage) → Ran job (x .end) (x .session) σ σ a b
   unfolding opens
-  ran-malformed n h a b r l e σ =
-      let r′ = subst (λ (x : Head). HeadRead job x a b) e r in
-      record {
-        tells = unopened σ n refusal.malformed (not-long ∙ head-runs r′ (ragged job));
+  ran-malformed n h a b r l e x f σ =
+      let r′ = subst (λ (y : Head). HeadRead job y a b) e r in
+      subst (λ (y : Ended). Ran job (y .end) (y .session) σ σ a b) (sym f)
+      (record {
+        tells = unopened (first-session 0 0) refl σ n refusal.malformed (not-long ∙ head-runs r′ (ragged job));
         low = (omega (arith, r′ .starts), omega arith);
         into = beyond-drop (length job / 2) (length job / 2) a b (omega arith) l (r′ .into);
-      }
+      })
 
   module _ (P N start : ℕ) (h : Head) (a b : List ℕ) (r : HeadRead job h a b) (e : h ≡ head.Sizes P N start) where
     sized : HeadRead job (head.Sizes P N start) a b
@@ -254,12 +256,13 @@ module _ (job : List ℕ) (short : length job ≤ most-job-bytes) where
       unfolding job-sizes
       number-is = o .number ∙ rw (R .spans, R .order, R .tally, R .rows, R .marks, R .locations, R .waiting)
 
-      pub ran-refused : (number ≡ 0 → ⊥) → Ran job (end.Rejected 2 number) σ τ a b
+      pub ran-refused : (number ≡ 0 → ⊥) → Ran job (end.Rejected 2 number) s σ τ a b
       unfolding on-line opened
       ran-refused z =
           let q : opened number ≡ (rejected 2 number, none) = rw (on-line, ne-eqb number 0 z) in
           record {
-            tells = subst (λ (x : Storage). Refused job σ x 2 number) (sym (o .refused z)) (unopened σ 2 number (opening-next ∙ ap opened (sym number-is) ∙ q));
+            tells = subst (λ (x : Storage). Refused job s σ x 2 number) (sym (o .refused z))
+                (unopened s (o .unopened z) σ 2 number (opening-next ∙ ap opened (sym number-is) ∙ q));
             low = (omega arith, rw number-is (open-code P N job-sizes .0));
             into = subst (λ (x : List ℕ). Beyond (length job / 2) a x) (sym (sized .into)) (beyond-refl _ a);
           }
@@ -289,18 +292,18 @@ module _ (job : List ℕ) (short : length job ≤ most-job-bytes) where
             opening-next ∙ ap opened (sym number-is) ∙ rw (on-line, q)
             (ap (λ (x : Bool). (run-lines P N job-pool 3 nothing (lines (drop start job)) x initial, there)) (sym (sized .starts .1 .1)))
 
-        standing : (x : End) (υ : Storage) (u : Stopped P N job-pool s τ υ x (remains P N job-pool job start 3 initial))
-            → StandsReached (record { parallelism = P; places = N; model = u .model }) (u .session) σ υ
+        standing : (x : End) (t : Session) (υ : Storage) (u : Stopped P N job-pool s t τ υ x (remains P N job-pool job start 3 initial))
+            → StandsReached (record { parallelism = P; places = N; model = u .model }) t σ υ
         unfolding first-guide
-        standing x υ u =
+        standing x t υ u =
             let w : s .guide .written ≡ 0 = ap (λ (y : Session). y .guide .written) (o .session z) in
             record {
               stands = u .stands;
-              frame = frame-trans P N 0 0 (u .session .guide .written) σ τ υ (o .frame z)
-                  (subst (λ (y : ℕ). Frame P N y (u .session .guide .written) τ υ) w (u .frame));
+              frame = frame-trans P N 0 0 (t .guide .written) σ τ υ (o .frame z)
+                  (subst (λ (y : ℕ). Frame P N y (t .guide .written) τ υ) w (u .frame));
             }
 
-        module _ (x : End) (υ : Storage) (u : Stopped P N job-pool s τ υ x (remains P N job-pool job start 3 initial)) where
+        module _ (x : End) (t : Session) (υ : Storage) (u : Stopped P N job-pool s t τ υ x (remains P N job-pool job start 3 initial)) where
           abbrev there : Reached
           there = record { parallelism = P; places = N; model = u .model }
 
@@ -312,40 +315,39 @@ module _ (job : List ℕ) (short : length job ≤ most-job-bytes) where
           is-outcome : outcome job ≡ outcome-as x P (u .model)
           is-outcome = ap (λ (y : Outcome × Option Reached). y .0) runs-whole ∙ ap (λ (y : Run). y .0) (u .is)
 
-        told : (x : End) (υ : Storage) → Stopped P N job-pool s τ υ x (remains P N job-pool job start 3 initial) → Tells job σ υ x
-        told (end.Rejected i code) υ u =
+        told : (x : End) (t : Session) (υ : Storage) → Stopped P N job-pool s t τ υ x (remains P N job-pool job start 3 initial) → Tells job t σ υ x
+        told (end.Rejected i code) t υ u =
             record {
-              is = is-outcome (end.Rejected i code) υ u;
-              left = subst (λ (y : Option Reached). Left y σ υ) (sym (is-reached (end.Rejected i code) υ u)) (u .session, standing (end.Rejected i code) υ u);
+              is = is-outcome (end.Rejected i code) t υ u;
+              left = subst (λ (y : Option Reached). Left y t σ υ) (sym (is-reached (end.Rejected i code) t υ u)) (standing (end.Rejected i code) t υ u);
             }
-        told (end.Finished f) υ u =
+        told (end.Finished f) t υ u =
             record {
-              last = there (end.Finished f) υ u;
-              reached-is = is-reached (end.Finished f) υ u;
-              is = is-outcome (end.Finished f) υ u;
-              session = u .session;
-              standing = standing (end.Finished f) υ u;
+              last = there (end.Finished f) t υ u;
+              reached-is = is-reached (end.Finished f) t υ u;
+              is = is-outcome (end.Finished f) t υ u;
+              standing = standing (end.Finished f) t υ u;
               figures = u .figures;
             }
 
-        pub ran-all : (x : End) (υ : Storage) (b′ : List ℕ) → Runs s τ job start x υ b b′ → length (τ .pool) ≡ length (σ .pool) → Ran job x σ υ a b′
-        ran-all x υ b′ u l =
+        pub ran-all : (x : End) (t : Session) (υ : Storage) (b′ : List ℕ) → Runs s τ job start x t υ b b′ → length (τ .pool) ≡ length (σ .pool) → Ran job x t σ υ a b′
+        ran-all x t υ b′ u l =
             let w : length (τ .pool) ≡ job-pool = l ∙ R .pool in
             record {
-              tells = told x υ (subst (λ (y : ℕ). Stopped P N y s τ υ x (remains P N y job start 3 initial)) w (u .tells P N positive (o .rep z)));
+              tells = told x t υ (subst (λ (y : ℕ). Stopped P N y s t τ υ x (remains P N y job start 3 initial)) w (u .tells P N positive (o .rep z)));
               low = u .low;
               into = subst (λ (y : List ℕ). Beyond (length job / 2) y b′) (sized .into) (u .into);
             }
 
 -- so a job that is too long, whose head is malformed or that opening refuses has written nothing
-pub nothing-written : {job : List ℕ} {n code : ℕ} {σ σ′ : Storage} {a b : List ℕ} → reached job ≡ none → Ran job (end.Rejected n code) σ σ′ a b → σ′ ≡ σ
-nothing-written {job} {n} {code} {σ} {σ′} {a} {b} e r = subst (λ (x : Option Reached). Left x σ σ′) e (r .tells .left)
+pub nothing-written : {job : List ℕ} {n code : ℕ} {s : Session} {σ σ′ : Storage} {a b : List ℕ} → reached job ≡ none → Ran job (end.Rejected n code) s σ σ′ a b → σ′ ≡ σ
+nothing-written {job} {n} {code} {s} {σ} {σ′} {a} {b} e r = (subst (λ (x : Option Reached). Left x s σ σ′) e (r .tells .left)) .0
 
--- a wrong program shut out: a job opened with another P or V. The storage stands for the model reached with the P and V of the job's first
--- two lines, and the session's are these
-pub own-numbers : {job : List ℕ} {f : EndFigures} {σ σ′ : Storage} {a b : List ℕ} → Ran job (end.Finished f) σ σ′ a b
-    → (r : Reached) × ((reached job ≡ some r) × ((s : Session) × (Rep (r .parallelism) (r .places) (r .model) s σ′ × ((s .guide .v ≡ r .places) × (s .guide .p ≡ r .parallelism)))))
+-- a wrong program shut out: a job opened with another P or V. The session and the storage stand for the model reached with the P and V of
+-- the job's first two lines, and the session's are these
+pub own-numbers : {job : List ℕ} {f : EndFigures} {s : Session} {σ σ′ : Storage} {a b : List ℕ} → Ran job (end.Finished f) s σ σ′ a b
+    → (r : Reached) × ((reached job ≡ some r) × (Rep (r .parallelism) (r .places) (r .model) s σ′ × ((s .guide .v ≡ r .places) × (s .guide .p ≡ r .parallelism))))
 own-numbers r =
     let c = r .tells in
     let g = c .standing .stands .rep in
-    (c .last, (c .reached-is, (c .session, (g, (g .core .guided .v-is, g .core .guided .p-is)))))
+    (c .last, (c .reached-is, (g, (g .core .guided .v-is, g .core .guided .p-is))))

@@ -1,11 +1,18 @@
 // A job run on a session: its head, opening, then call by call to its end.
+ghost use mathlib.Core.Path.{_≡_};
 ghost use lib.ListN.{length};
 ghost use Rattle.session.specs.Storage.{given, across};
-ghost use Rattle.job.specs.Run.{MayRun, Runs, Room, Ran};
+ghost use Rattle.job.specs.Run.{MayRun, Runs, unopened-at, Room, Ran};
 use jobcalls::Head;
 use jobturn::End;
 use jobturn::Step;
 use session::Session;
+
+// How a job ended, and the session where it stopped; where none was opened, one of parallelism 0 and 0 places.
+pub struct Ended {
+    pub end: End,
+    pub session: Session,
+}
 
 // Runs the calls from `start` on, which is line 3.
 fn run_calls(
@@ -21,9 +28,9 @@ fn run_calls(
     into: &mut [u64],
     job: &[u8],
     start: usize,
-) -> End
+) -> Ended
     requires { ⌜ MayRun s (given spans order tally rows marks locations waiting pool) (now job) (length (now into)) start ⌝ }
-    ensures { λ r. ⌜ across spans order tally rows marks locations waiting pool (λ σ τ. Runs s σ (now (job .entry)) start r τ (now (into .entry)) (now (into .exit))) ⌝ }
+    ensures { λ r. ⌜ across spans order tally rows marks locations waiting pool (λ σ τ. Runs s σ (now (job .entry)) start (r .end) (r .session) τ (now (into .entry)) (now (into .exit))) ⌝ }
 {
     let mut session = s;
     let mut at = start;
@@ -53,10 +60,22 @@ fn run_calls(
                 line = n;
             }
             Step::Ended { end } => {
-                return end;
+                return Ended {
+                    end,
+                    session: after,
+                };
             }
         }
     }
+}
+
+// A job refused on `line` before a session was opened.
+fn unopened(line: u64, code: u64) -> Ended
+    ensures { λ r. ⌜ r ≡ unopened-at line code ⌝ }
+{
+    let end = End::Rejected { line, code };
+    let session = opening::fresh(0, 0);
+    Ended { end, session }
 }
 
 // Runs a job of any length on storage for the greatest P and V and the W of a job (`rules::JOB_PARALLELISM`, `JOB_PLACES`, `JOB_POOL`).
@@ -71,23 +90,24 @@ pub fn run(
     pool: &mut [u32],
     into: &mut [u64],
     job: &[u8],
-) -> End
+) -> Ended
     requires { ⌜ Room (given spans order tally rows marks locations waiting pool) (length (now into)) ⌝ }
-    ensures { λ r. ⌜ across spans order tally rows marks locations waiting pool (λ σ τ. Ran (now (job .entry)) r σ τ (now (into .entry)) (now (into .exit))) ⌝ }
+    ensures { λ r. ⌜ across spans order tally rows marks locations waiting pool (λ σ τ. Ran (now (job .entry)) (r .end) (r .session) σ τ (now (into .entry)) (now (into .exit))) ⌝ }
 {
     if job.len() > rules::MOST_JOB_BYTES {
         let code = rules::LONG_JOB;
-        return End::Rejected { line: 1, code };
+        return unopened(1, code);
     }
     let head = jobcalls::read_head(job, into);
     match head {
         Head::Sizes { p, v, next } => {
             let o = opening::open(spans, order, tally, rows, marks, locations, waiting, p, v);
             let code = o.number;
-            if code != 0 {
-                return End::Rejected { line: 2, code };
-            }
             let s = o.session;
+            if code != 0 {
+                let end = End::Rejected { line: 2, code };
+                return Ended { end, session: s };
+            }
             run_calls(
                 s,
                 spans,
@@ -105,7 +125,7 @@ pub fn run(
         }
         Head::Malformed { line } => {
             let code = rules::MALFORMED;
-            End::Rejected { line, code }
+            unopened(line, code)
         }
     }
 }

@@ -3,7 +3,7 @@ use mathlib.Core.List.{List, _++_}
 use mathlib.Core.Path.{_≡_, sym, ap, _∙_, subst}
 use Prim.Native.Nat.{ℕ, _+_, _≤_, _<_}
 use native.Mathlib.Omega.{arith}
-use lib.ListN.{length, take, drop, length-take, take-append-drop}
+use lib.ListN.{length, take, drop, length-take}
 use lib.Seq.{paste, take-at, drop-at}
 use borrow.Author.Tests.{lt-ltb, le-ltb}
 use Rattle.rules.specs.Model.{Model}
@@ -12,8 +12,9 @@ use Rattle.entries.specs.Entries.{extent}
 use Rattle.rules.specs.Limits.{program-listing-bytes, job-places, job-pool}
 use Rattle.rules.specs.Listing as rule
 use Rattle.rules.specs.Listing.{listing, fit, told, program, printed, rejection}
+use Rattle.session.specs.declared.Session.{Session}
 use Rattle.session.specs.Storage.{Storage, storage}
-use Rattle.writer.specs.Wrote.{Wrote}
+use Rattle.writer.specs.Wrote.{Wrote, wrote-in, wrote-whole}
 use Rattle.report.specs.Report.{Shown, MayReport, Reports}
 use Rattle.jobturn.specs.declared.EndFigures.{EndFigures}
 use Rattle.jobturn.specs.declared.End.{End}
@@ -23,24 +24,20 @@ use Rattle.job_reply.specs.declared.Reply.{Reply}
 use Rattle.job_reply.specs.declared.Reply.the-variants as reply
 use Rattle.job_reply.specs.Reply.{reply-as, Replied, Answered}
 
--- what was written from the start on lies within the bytes
-pub wrote-in : {a b : List ℕ} {n : ℕ} {t : List ℕ} → Wrote a b 0 n t → n ≤ length b
-wrote-in {a} {b} {n} {t} w = omega (arith, w .next, sym (length-take n b) ∙ ap length (w .holds))
-
 -- a job that was refused
-pub replied-refused : (job bytes : List ℕ) (n code : ℕ) (x : End) {σ σ′ : Storage} {a b : List ℕ} → Ran job x σ σ′ a b → x ≡ end.Rejected n code
+pub replied-refused : (job bytes : List ℕ) (n code : ℕ) (x : End) {s : Session} {σ σ′ : Storage} {a b : List ℕ} → Ran job x s σ σ′ a b → x ≡ end.Rejected n code
     → Replied job bytes bytes (reply.Refused n code)
 unfolding rule.reply told rule.bytes-after
-replied-refused job bytes n code x {σ} {σ′} {a} {b} r e =
-    let r′ = subst (λ (y : End). Ran job y σ σ′ a b) e r in
+replied-refused job bytes n code x {s} {σ} {σ′} {a} {b} r e =
+    let r′ = subst (λ (y : End). Ran job y s σ σ′ a b) e r in
     let q : rule.reply (length bytes) job ≡ rule.refused n code = ap (told (length bytes)) (r′ .tells .is) in
     record { is = sym q; bytes = sym (ap (λ (y : rule.Reply). rule.bytes-after y bytes) q); small = (r′ .low .0, omega (arith, r′ .low .1)) }
 
 -- a job that was finished, over order o and rows rs
-module _ {job : List ℕ} {figures : EndFigures} {x : End} {sp o t rs m l wa pool : List ℕ} {σ : Storage} {a b : List ℕ}
-    (r : Ran job x σ (storage sp o t rs m l wa pool) a b) (e : x ≡ end.Finished figures) where
-  done : Closed job σ (storage sp o t rs m l wa pool) figures
-  done = subst (λ (y : End). Ran job y σ (storage sp o t rs m l wa pool) a b) e r .tells
+module _ {job : List ℕ} {figures : EndFigures} {x : End} {s : Session} {sp o t rs m l wa pool : List ℕ} {σ : Storage} {a b : List ℕ}
+    (r : Ran job x s σ (storage sp o t rs m l wa pool) a b) (e : x ≡ end.Finished figures) where
+  done : Closed job s σ (storage sp o t rs m l wa pool) figures
+  done = subst (λ (y : End). Ran job y s σ (storage sp o t rs m l wa pool) a b) e r .tells
 
   abbrev P : ℕ
   P = done .last .parallelism
@@ -54,7 +51,7 @@ module _ {job : List ℕ} {figures : EndFigures} {x : End} {sp o t rs m l wa poo
   shown : Shown P N job-pool model o rs figures
   shown =
       record {
-        session = done .session;
+        session = s;
         spans = sp;
         tally = t;
         marks = m;
@@ -134,13 +131,10 @@ module _ {job entry exit : List ℕ} {x : Reply} (r : Replied job entry exit x) 
   unfolding printed rule.bytes-after
   answer-refused line code e out n h w =
       let r′ = subst (λ (y : Reply). Replied job entry exit y) e r in
-      let t : take n out ≡ program job = w .holds ∙ ap (λ (y : Reply). printed (reply-as y exit)) (sym e) ∙ printed-is in
+      let t : rejection line code ≡ program job = ap (λ (y : Reply). printed (reply-as y exit)) (sym e) ∙ printed-is in
       let q : exit ≡ entry = r′ .bytes ∙ ap (λ (y : rule.Reply). rule.bytes-after y entry) (sym (r′ .is)) in
-      record {
-        small = h;
-        text = t;
-        bytes = sym (take-append-drop n out) ∙ ap (λ (y : List ℕ). y ++ drop n out) t ∙ ap (λ (y : List ℕ). program job ++ y) (w .rest ∙ ap (drop n) q);
-      }
+      let w′ = subst (λ (y : List ℕ). Wrote y out 0 n (program job)) q (subst (λ (y : List ℕ). Wrote exit out 0 n y) t w) in
+      record { small = h; text = w′ .holds; bytes = wrote-whole w′ }
 
 -- so nothing past what the program prints is written
 pub past-answer : {job entry exit : List ℕ} {r : ℕ} → length exit ≡ length entry → length entry ≡ program-listing-bytes → Answered job entry exit r → drop r exit ≡ drop r entry

@@ -25,7 +25,7 @@ pub fn reply_to(text: &[u8], listing: &mut [u8]) -> Reply
     let mut waiting = [0u64; waiting::SIZE * rules::JOB_PLACES];
     let mut pool = [0u32; rules::JOB_POOL];
     let mut into = [0u64; rules::MOST_JOB_BYTES / 2];
-    let end = job::run(
+    let ended = job::run(
         &mut spans,
         &mut order,
         &mut tally,
@@ -37,6 +37,7 @@ pub fn reply_to(text: &[u8], listing: &mut [u8]) -> Reply
         &mut into,
         text,
     );
+    let end = ended.end;
     match end {
         End::Finished { figures } => {
             let mut page = [0u8; rules::PROGRAM_LISTING_BYTES];

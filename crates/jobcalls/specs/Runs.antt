@@ -1,20 +1,19 @@
 -- What the rules' run of a job (rules, Job) makes of what is read of it: the run of some lines is told by their first call, the run of a job
--- by its head, and a job that is finished has reached the model of its outcome. Assumes nothing.
+-- by its head. Assumes nothing.
 use mathlib.Core.Bool.{Bool, true, false}
 use mathlib.Core.List.{List, [], _∷_}
 use mathlib.Core.Option.{Option, some, none}
-use mathlib.Core.Path.{_≡_, refl, sym, ap, _∙_, subst}
+use mathlib.Core.Path.{_≡_, refl, ap, _∙_}
 use Prim.Native.Nat.{ℕ, suc}
-use native.Mathlib.Omega.{arith}
-use lib.ListN.{length, drop}
-use lib.Dec.{eqb, ltb}
+use lib.ListN.{drop}
+use lib.Dec.{eqb}
 use Rattle.rules.specs.Model.{Model, initial}
 use Rattle.rules.specs.Checks.{verdict, check-open}
 use Rattle.rules.specs.Calls as calls
 use Rattle.rules.specs.Calls.{Call, answer, step}
 use Rattle.rules.specs.Job as rule
-use Rattle.rules.specs.Job.{Outcome, Begun, nothing, labelled, reading, lines, ragged, run-lines, run-places, run-job, on-line, closing, job-sizes, Reached, reached-lines, reached-places, reached-job}
-use Rattle.rules.specs.Limits.{most-job-bytes, job-pool}
+use Rattle.rules.specs.Job.{Outcome, Begun, nothing, labelled, reading, lines, run-lines, run-places, run-job, on-line, closing, job-sizes, Reached, reached-lines, reached-places, reached-job}
+use Rattle.rules.specs.Limits.{job-pool}
 use Rattle.rules.specs.Refusals as refusal
 use Rattle.jobcalls.specs.Told.{first-line, other-lines, FirstCall, found, malformed, added, after-lane, started, first-call, first-as, NextCall}
 use Rattle.jobcalls.specs.Told.{Heading, sized, unsized, heading-2, heading-1, heading, heading-as, HeadRead}
@@ -177,106 +176,3 @@ run-heading (l ∷ ls) rag = go (rule.parallelism-of (rule.line-of l)) refl
 
 pub head-runs : {s : List ℕ} {h : Head} {a b : List ℕ} → HeadRead s h a b → (rag : Bool) → whole-run (lines s) rag ≡ opens (heading-as s h) rag
 head-runs {s} r rag = run-heading (lines s) rag ∙ ap (λ (x : Heading). opens x rag) (r .is)
-
--- a job that is finished has reached the model of its outcome: so for lines, and for a head with the lines after it
-abbrev Agrees : ℕ → Run → Type 0
-Agrees P o = (Q : ℕ) (m : Model) → o .0 ≡ rule.finished Q m → (Q ≡ P) × (o .1 ≡ m)
-
-refused-agrees : (P n code : ℕ) (k : Model) → Agrees P (rule.rejected n code, k)
-refused-agrees P n code k Q m e = let z : _≡_ {A = ℕ} 0 1 = cc in absurd (omega arith)
-
-closing-agrees : (P n : ℕ) (ls : List (List ℕ)) (rag : Bool) (k : Model) → Agrees P (closing P n ls rag k, k)
-unfolding closing
-closing-agrees P n [] false k Q m e = ((cc), (cc))
-closing-agrees P n [] true k Q m e = refused-agrees P n refusal.malformed k Q m e
-closing-agrees P n (l ∷ ls) rag k Q m e = refused-agrees P n refusal.malformed k Q m e
-
--- a call with number `code` on line n, o being what follows it, and a the model where it is refused
-met-agrees : (P n code : ℕ) (o : Run) (a : Model) → Agrees P o → Agrees P (on-line n code (o .0), elim (eqb code 0) [ true ↦ o .1 | false ↦ a ])
-unfolding on-line
-met-agrees P n code o a h = go (eqb code 0)
-  where
-    go : (b : Bool) → Agrees P (elim b [ true ↦ o .0 | false ↦ rule.rejected n code ], elim b [ true ↦ o .1 | false ↦ a ])
-    go true = h
-    go false = refused-agrees P n code a
-
-last-agrees : (P n code : ℕ) (o : Run) → Agrees P o → Agrees P (on-line n code (o .0), o .1)
-unfolding on-line
-last-agrees P n code o h = go (eqb code 0)
-  where
-    go : (b : Bool) → Agrees P (elim b [ true ↦ o .0 | false ↦ rule.rejected n code ], o .1)
-    go true = h
-    go false = refused-agrees P n code (o .1)
-
-module _ (P N W : ℕ) (rag : Bool) where
-  acts-agree : (n : ℕ) (k : Model) (x : Option rule.Start) (ls : List (List ℕ))
-      → ((i : ℕ) (begun : Begun) (q : Model) → Agrees P (reads P N W i begun ls rag q)) → Agrees P (acts P N W rag k n x ls)
-  unfolding acts
-  acts-agree n k none ls h = refused-agrees P n refusal.malformed k
-  acts-agree n k (some (rule.single c)) ls h = met-agrees P n (answer N W c k) (reads P N W (suc n) nothing ls rag (step P N W c k)) k (h (suc n) nothing (step P N W c k))
-  acts-agree n k (some (rule.label lane)) ls h = h (suc n) (labelled lane) k
-  acts-agree n k (some (rule.inputs ins)) ls h = h (suc n) (reading 0 ins) k
-  acts-agree n k (some rule.last) ls h =
-      let q = step P N W calls.final k in
-      last-agrees P n (answer N W calls.final k) (closing P (suc n) ls rag q, q) (closing-agrees P (suc n) ls rag q)
-
-  after-agrees : (n : ℕ) (k : Model) (lane : ℕ) (ins : List ℕ) (x : Option (List ℕ)) (ls : List (List ℕ))
-      → ((i : ℕ) (begun : Begun) (q : Model) → Agrees P (reads P N W i begun ls rag q)) → Agrees P (acts-after P N W rag k n lane ins x ls)
-  unfolding acts-after
-  after-agrees n k lane ins none ls h = refused-agrees P n refusal.malformed k
-  after-agrees n k lane ins (some outs) ls h =
-      let q = step P N W (calls.add lane ins outs) k in
-      met-agrees P n (answer N W (calls.add lane ins outs) k) (reads P N W (suc n) nothing ls rag q) k (h (suc n) nothing q)
-
-  labelled-agrees : (n : ℕ) (k : Model) (lane : ℕ) (x : Option (List ℕ)) (ls : List (List ℕ))
-      → ((i : ℕ) (begun : Begun) (q : Model) → Agrees P (reads P N W i begun ls rag q)) → Agrees P (acts-labelled P N W rag k n lane x ls)
-  unfolding acts-labelled
-  labelled-agrees n k lane none ls h = refused-agrees P n refusal.malformed k
-  labelled-agrees n k lane (some ins) ls h = h (suc n) (reading lane ins) k
-
-  lines-agree : (ls : List (List ℕ)) (n : ℕ) (begun : Begun) (k : Model) → Agrees P (reads P N W n begun ls rag k)
-  unfolding run-lines reached-lines first-line other-lines
-  lines-agree [] n begun k = refused-agrees P n refusal.malformed k
-  lines-agree (l ∷ ls) n nothing k =
-      subst (λ (o : Run). Agrees P o) (sym (run-nothing P N W rag k n (l ∷ ls))) (acts-agree n k (rule.start-of (rule.line-of l)) ls (lines-agree ls))
-  lines-agree (l ∷ ls) n (labelled lane) k =
-      subst (λ (o : Run). Agrees P o) (sym (run-labelled P N W rag k n lane (l ∷ ls))) (labelled-agrees n k lane (rule.inputs-of (rule.line-of l)) ls (lines-agree ls))
-  lines-agree (l ∷ ls) n (reading lane ins) k =
-      subst (λ (o : Run). Agrees P o) (sym (run-reading P N W rag k n lane ins (l ∷ ls))) (after-agrees n k lane ins (rule.outputs-of (rule.line-of l)) ls (lines-agree ls))
-
-abbrev Reaches : Outcome × Option Reached → Type 0
-Reaches o = (P : ℕ) (m : Model) → o .0 ≡ rule.finished P m → (N : ℕ) × (o .1 ≡ some (record { parallelism = P; places = N; model = m }))
-
-refused-reaches : (n code : ℕ) → Reaches (rule.rejected n code, none)
-refused-reaches n code P m e = let z : _≡_ {A = ℕ} 0 1 = cc in absurd (omega arith)
-
-opens-reach : (h : Heading) (rag : Bool) → Reaches (opens h rag)
-unfolding opens on-line
-opens-reach (unsized n) rag = refused-reaches n refusal.malformed
-opens-reach (sized P N rest) rag = go (eqb (verdict (check-open P N job-sizes)) 0)
-  where
-    go : (b : Bool)
-        → Reaches (
-          elim b [ true ↦ run-lines P N job-pool 3 nothing rest rag initial | false ↦ rule.rejected 2 (verdict (check-open P N job-sizes)) ],
-          elim b [ true ↦ some (record { parallelism = P; places = N; model = reached-lines P N job-pool nothing rest initial }) | false ↦ none ],
-        )
-    go true Q m e =
-        let a = lines-agree P N job-pool rag rest 3 nothing initial Q m e in (
-          N,
-          ap (λ (i : ℕ). some (record { parallelism = i; places = N; model = reached-lines P N job-pool nothing rest initial })) (sym (a .0))
-              ∙ ap (λ (y : Model). some (record { parallelism = Q; places = N; model = y })) (a .1),
-        )
-    go false Q m e = refused-reaches 2 (verdict (check-open P N job-sizes)) Q m e
-
-pub finished-reached : (job : List ℕ) (P : ℕ) (m : Model) → rule.outcome job ≡ rule.finished P m
-    → (N : ℕ) × (rule.reached job ≡ some (record { parallelism = P; places = N; model = m }))
-unfolding rule.outcome rule.reached
-finished-reached job = go (ltb most-job-bytes (length job))
-  where
-    lines-reach : Reaches (whole-run (lines job) (ragged job))
-    lines-reach = subst (λ (o : Outcome × Option Reached). Reaches o) (sym (run-heading (lines job) (ragged job))) (opens-reach (heading (lines job)) (ragged job))
-
-    go : (b : Bool)
-        → Reaches (elim b [ true ↦ rule.rejected 1 refusal.long-job | false ↦ run-job (lines job) (ragged job) ], elim b [ true ↦ none | false ↦ reached-job (lines job) ])
-    go true = refused-reaches 1 refusal.long-job
-    go false = lines-reach

@@ -5,7 +5,7 @@ use Prim.Native.Nat.{ℕ, _+_, _≤_, _<_}
 use native.Mathlib.Nat.{le-refl}
 use native.Mathlib.Numerals.{add-one}
 use native.Mathlib.Omega.{arith}
-use lib.ListN.{length, length-append, take, drop, set}
+use lib.ListN.{length, length-append, length-take, take, drop, take-append-drop, set}
 use lib.Seq.{drop-drop, drop-set-lt, drop-paste, paste, take-paste, take-suc-set, take-length}
 
 pub record Wrote (entry exit : List ℕ) (at r : ℕ) (text : List ℕ) : Type 0 where
@@ -49,3 +49,11 @@ wrote-word out word at h =
 -- what was copied, by the copy's own promise
 pub wrote-copy : (out word exit : List ℕ) (at : ℕ) → at + length word ≤ length out → exit ≡ paste out at word (length word) → Wrote out exit at (at + length word) word
 wrote-copy out word exit at h e = subst (λ (l : List ℕ). Wrote out l at (at + length word) word) (sym e) (wrote-word out word at h)
+
+-- what was written from the start on lies within the bytes
+pub wrote-in : {a b : List ℕ} {n : ℕ} {t : List ℕ} → Wrote a b 0 n t → n ≤ length b
+wrote-in {a} {b} {n} {t} w = omega (arith, w .next, sym (length-take n b) ∙ ap length (w .holds))
+
+-- and so they are the text, and past it what stood there before
+pub wrote-whole : {a b : List ℕ} {n : ℕ} {t : List ℕ} → Wrote a b 0 n t → b ≡ t ++ drop n a
+wrote-whole {a} {b} {n} {t} w = sym (take-append-drop n b) ∙ ap (λ (y : List ℕ). y ++ drop n b) (w .holds) ∙ ap (λ (y : List ℕ). t ++ y) (w .rest)

@@ -19,15 +19,16 @@ told c =
     let after-open-arg4 = c .before .before .before in
     after-open-arg4 .before .before .before .before .before
 
-abbrev opened : tie.After-slice-known15 → tie.After-open
+abbrev opened : tie.After-s → tie.After-open
 opened c =
-    let after-marks = c .before .before .before .before .before in
-    after-marks .before .before .before .before .before
+    let after-locations = c .before .before .before .before in
+    let after-rows = after-locations .before .before .before .before in
+    after-rows .before .before .before
 
 abbrev passed : tie.After-run-calls-arg9 → tie.Else2
 passed c =
     let after-run-calls-arg4 = c .before .before .before .before .before in
-    after-run-calls-arg4 .before .before .before .before .before
+    after-run-calls-arg4 .before .before .before .before
 
 abbrev ran : tie.After-slice-known24 → tie.After-run-calls
 ran c =
@@ -36,8 +37,13 @@ ran c =
     let after-tally2 = after-marks2 .before .before .before .before in
     after-tally2 .before .before .before .before .before
 
+unopened-requires : tie.Need-unopened-requires
+unopened-requires c κs = search needs
+
 returns : tie.Need-returns
-returns c = ran-long (start (c .before) .args .job .now) _ _ (c .if1 .taken)
+returns c =
+    let long = c .before in
+    ran-long (start (long .before) .args .job .now) _ (c .unopened .ensures) _ _ (long .if1 .taken)
 
 read-head-requires : tie.Need-read-head-requires
 read-head-requires c κs = search needs
@@ -96,6 +102,9 @@ run-calls-requires c κs =
 enum-known-head-2 : tie.Need-enum-known-head-2
 enum-known-head-2 c = search needs
 
+unopened-requires-2 : tie.Need-unopened-requires-2
+unopened-requires-2 c κs = search needs
+
 same-length-9 : tie.Need-same-length-9
 same-length-9 c = ran c .run-calls .kept .1 .0
 
@@ -145,22 +154,24 @@ returns-3 c =
     let within = read .before .before in
     let start = start (within .before) in
     ran-all (start .args .job .now) (within .if1 .left) _ _ _ _ _ _ (read .read-head .ensures) (sized .head .given .1) _ _ _ _ _
-    (start .pre) (opened .«open» .ensures _) (passed .if2 .left) _ _ _ (ran .run-calls .ensures) refl
+    (start .pre) (opened .«open» .ensures _) (passed .if2 .left) _ _ _ _ (ran .run-calls .ensures) refl
 
 same-length-18 : tie.Need-same-length-18
 same-length-18 c = search needs
 
 returns-4 : tie.Need-returns-4
 returns-4 c =
-    let told = c .before in
+    let told = c .before .before in
     let read = read (told .before .before) in
     let within = read .before .before in
-    ran-malformed (start (within .before) .args .job .now) (within .if1 .left) _ _ _ _ (read .read-head .ensures) (read .read-head .kept .1 .0) (told .head2 .given .1) _
+    ran-malformed (start (within .before) .args .job .now) (within .if1 .left) _ _ _ _ (read .read-head .ensures) (read .read-head .kept .1 .0) (told .head2 .given .1)
+    _ (c .unopened2 .ensures) _
 
 pub run-spec : {M : Type 1} → statement M
 run-spec =
     tie.close
     (tie.spec
+    unopened-requires
     returns
     read-head-requires
     enum-known-head
@@ -176,6 +187,7 @@ run-spec =
     returns-2
     run-calls-requires
     enum-known-head-2
+    unopened-requires-2
     same-length-9
     same-length-10
     same-length-11

@@ -1,6 +1,7 @@
 -- The listing, or the two lines of a refusal. Assumes nothing.
 use native.Mathlib.Omega.{arith}
-use Rattle.job_reply.specs.Laws.{wrote-in, answer-listed, answer-refused}
+use Rattle.writer.specs.Wrote.{wrote-in}
+use Rattle.job_reply.specs.Laws.{answer-listed, answer-refused}
 use borrow.Author.Needs.{needs}
 use Rattle.job_reply.proofs.answer.Statement.{statement}
 use Rattle.job_reply.proofs.answer.Tie as tie

@@ -1,6 +1,6 @@
 -- The bytes read lie within the room, and so does the answer. Assumes nothing.
 use native.Mathlib.Omega.{arith}
-use Rattle.order.specs.Input.{within}
+use Rattle.job_input.specs.Input.{within}
 use lib.ListN.{length-take, length-replicate}
 use Prim.Native.Nat.{ℕ}
 use borrow.Author.Needs.{needs}

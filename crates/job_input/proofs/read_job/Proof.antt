@@ -3,8 +3,8 @@ use lib.ListN.{length}
 use mathlib.Core.Path.{_≡_}
 use Prim.Native.Nat.{_≤_, _-_}
 use borrow.Author.Needs.{needs}
-use Rattle.order.proofs.read_job.Statement.{statement}
-use Rattle.order.proofs.read_job.Tie as tie
+use Rattle.job_input.proofs.read_job.Statement.{statement}
+use Rattle.job_input.proofs.read_job.Tie as tie
 
 abbrev Inv-loop : tie.InvT-loop
 Inv-loop job₀ done₀ job done = (done ≤ length job) × (length job ≡ length job₀)

@@ -1,0 +1,2 @@
+-- A job on standard input: what reading it promises.
+pub mod Input

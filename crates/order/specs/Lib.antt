@@ -1,2 +1,0 @@
--- The program's input.
-pub mod Input

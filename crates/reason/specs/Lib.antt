@@ -1,0 +1,3 @@
+-- What the exported calls promise, and the laws of it.
+pub mod Exported
+pub mod Telling
