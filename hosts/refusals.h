@@ -24,7 +24,9 @@ enum order_code {
     ORDER_MALFORMED = 15,
     ORDER_LONG_JOB = 16,
     ORDER_LONG_LISTING = 17,
-    ORDER_UNKNOWN_LANE = 18
+    ORDER_UNKNOWN_LANE = 18,
+    ORDER_NEVER_ACCEPTED = 19,
+    ORDER_NOT_WAITING = 20
 };
 
 /* A number in words: when it is given. Never null; a number that is none of the above is said to be so. */
@@ -68,6 +70,10 @@ static inline const char *order_code_text(uint64_t number) {
         return "the listing is longer than the bytes that are lent for it";
     case ORDER_UNKNOWN_LANE:
         return "a registration's lane is over 255";
+    case ORDER_NEVER_ACCEPTED:
+        return "no registration of this number was accepted";
+    case ORDER_NOT_WAITING:
+        return "the registration was accepted and does not wait";
     default:
         return "no number of a refusal";
     }

@@ -1,5 +1,5 @@
-/* Host code, not proved: the storage of a session in one block of memory, around the proved replay_calls
-   and replay_held.
+/* Host code, not proved: the storage of a session in one block of memory, around the proved replay_calls,
+   replay_held and replay_reason.
 
        size_t bytes = replay_storage_bytes(p, v, w);           0: no session is that large
        void *memory = malloc(bytes);
@@ -7,8 +7,9 @@
        uint64_t returned = replay_run(&storage, calls, calls_count, answers, answers_count);
        for (size_t i = 0; i < storage.entries; i++) .. replay_entry_at(&storage, i) ..
 
-   All functions are defined here; the program is linked with the archive of crate replay, and with that
-   of crate summary where it calls replay_summary_of.
+   All functions are defined here; the program is linked with the archive of crate replay, with that
+   of crate summary where it calls replay_summary_of, and with that of crate reason where it calls
+   replay_run_reason.
    hosts/storage_example.c is a whole program. docs/REPLAY.md describes the calls' encoding, and what
    the slices hold. */
 #ifndef REPLAY_STORAGE_H
@@ -16,6 +17,7 @@
 
 #include <string.h>
 
+#include "reason.h"
 #include "replay.h"
 #include "summary.h"
 
@@ -124,11 +126,18 @@ static inline struct replay_storage replay_storage_in(void *memory, uint64_t p, 
     return replay_storage_within(memory, replay_storage_bytes(p, v, w), p, v, w);
 }
 
-/* What replay_run and replay_run_held have in common: `function` is called on the storage, if there is any. */
-static inline uint64_t replay_run_by(replay_function *function, struct replay_storage *storage,
-                                     const uint64_t *calls, size_t calls_count,
-                                     uint64_t *answers, size_t answers_count) {
-    uint64_t nothing = 0;
+/* The slices as the first arguments of the proved calls. */
+#define REPLAY_SLICES(storage)                                                                \
+    (storage)->spans, REPLAY_SPANS((storage)->p), (storage)->order, REPLAY_ORDER((storage)->v), \
+    (storage)->tally, REPLAY_TALLY((storage)->p), (storage)->rows, REPLAY_ROWS((storage)->v),   \
+    (storage)->marks, REPLAY_MARKS((storage)->v),                                             \
+    (storage)->locations, REPLAY_LOCATIONS((storage)->v),                                     \
+    (storage)->waiting, REPLAY_WAITING((storage)->v), (storage)->pool, (storage)->pool_count
+
+/* What every run begins with: no entries, and the refusal of a storage that could not be laid out, of null calls and of
+   null answers, unless their count is 0. */
+static inline uint64_t replay_run_code(struct replay_storage *storage, const uint64_t *calls, size_t calls_count,
+                                       const uint64_t *answers, size_t answers_count) {
     if (storage == NULL)
         return ORDER_TOO_SHORT;
     storage->entries = 0;
@@ -138,13 +147,26 @@ static inline uint64_t replay_run_by(replay_function *function, struct replay_st
         return ORDER_MALFORMED;
     if (answers == NULL && answers_count > 0)
         return ORDER_TOO_SHORT;
-    return function(
-        storage->spans, REPLAY_SPANS(storage->p), storage->order, REPLAY_ORDER(storage->v),
-        storage->tally, REPLAY_TALLY(storage->p), storage->rows, REPLAY_ROWS(storage->v),
-        storage->marks, REPLAY_MARKS(storage->v), storage->locations, REPLAY_LOCATIONS(storage->v),
-        storage->waiting, REPLAY_WAITING(storage->v), storage->pool, storage->pool_count,
-        answers == NULL ? &nothing : answers, answers_count,
-        calls == NULL ? &nothing : calls, calls_count, storage->p, storage->v);
+    return ORDER_ACCEPTED;
+}
+
+/* What replay_run and replay_run_held have in common: `function` is called on the storage, if there is any. */
+static inline uint64_t replay_run_by(replay_function *function, struct replay_storage *storage,
+                                     const uint64_t *calls, size_t calls_count,
+                                     uint64_t *answers, size_t answers_count) {
+    uint64_t nothing = 0, code = replay_run_code(storage, calls, calls_count, answers, answers_count);
+    if (code != ORDER_ACCEPTED)
+        return code;
+    return function(REPLAY_SLICES(storage), answers == NULL ? &nothing : answers, answers_count,
+                    calls == NULL ? &nothing : calls, calls_count, storage->p, storage->v);
+}
+
+/* How many entries the tally counts: the order's length. */
+static inline size_t replay_tallied(const struct replay_storage *storage) {
+    size_t sum = 0;
+    for (size_t i = 0; i < REPLAY_TALLY(storage->p); i++)
+        sum += storage->tally[i];
+    return sum;
 }
 
 /* Opens a session on the storage and makes all calls; each call's number, 0 if it was accepted, goes to
@@ -166,8 +188,26 @@ static inline uint64_t replay_run_held(struct replay_storage *storage, const uin
                                        uint64_t *answers, size_t answers_count) {
     uint64_t returned = replay_run_by(replay_held, storage, calls, calls_count, answers, answers_count);
     if (returned % ORDER_REPLY_RADIX == ORDER_ACCEPTED)
-        for (size_t i = 0; i < REPLAY_TALLY(storage->p); i++)
-            storage->entries += storage->tally[i];
+        storage->entries = replay_tallied(storage);
+    return returned;
+}
+
+/* The same run once more, but what is returned is that of replay_reason: why registration r waits after the calls, taken
+   apart by REASON_CODE, REASON_INPUT and REASON_PLACE. Where it was never accepted or does not wait, the calls have been
+   made, and the results are read as after every other run. */
+static inline uint64_t replay_run_reason(struct replay_storage *storage, const uint64_t *calls, size_t calls_count,
+                                         uint64_t *answers, size_t answers_count, uint64_t r) {
+    uint64_t nothing = 0, returned = replay_run_code(storage, calls, calls_count, answers, answers_count);
+    if (returned != ORDER_ACCEPTED)
+        return returned;
+    returned = replay_reason(REPLAY_SLICES(storage), answers == NULL ? &nothing : answers, answers_count,
+                             calls == NULL ? &nothing : calls, calls_count, storage->p, storage->v, r);
+    switch (REASON_CODE(returned)) {
+    case ORDER_ACCEPTED:
+    case ORDER_NEVER_ACCEPTED:
+    case ORDER_NOT_WAITING:
+        storage->entries = replay_tallied(storage);
+    }
     return returned;
 }
 

@@ -1,4 +1,4 @@
-/* Host code, not proved: how a number that a call returns of a job is taken apart, for order.h and needs.h. */
+/* Host code, not proved: how a number that a call returns of a job is taken apart, for order.h, needs.h and reason.h. */
 #ifndef ORDER_REPLY_H
 #define ORDER_REPLY_H
 

@@ -1,7 +1,7 @@
 #!/bin/bash
 # Every job of examples/ gives the listing that is kept beside it, the generated ones are what their
 # commands write, lanes change nothing else, and examples/README.md tells the answers of the refused ones, one for every number. Needs
-# target/bin/order, which the proofs' step builds.
+# target/bin/order and order_reason, which the proofs' step builds.
 set -euo pipefail
 trap 'echo "$0: line $LINENO ended with $?" >&2' ERR
 cd "$(dirname "$0")/../.."
@@ -38,7 +38,8 @@ done < <(sed -n 's/^| \[\([a-z-]*\)\](refused.*| status=\([0-9]*\), line=\([0-9]
 [ $failed = 0 ] || exit 1
 python3 .ci/transcripts.py examples/README.md
 
-# Of every number that a job can be refused with by `order` there is an example there.
+# Of every number that a job can be refused with by `order` there is an example there. 19 and 20 refuse no job: they say of
+# a registration that there is no reason to tell.
 answers=$(sed -n 's/.*status=\([1-9][0-9]*\).*/\1/p' examples/README.md | sort -nu | paste -sd' ')
 [ "$answers" = "1 2 4 5 6 8 9 10 12 15 16 18" ] || { echo "tests/examples: README has examples of $answers" >&2; exit 1; }
 

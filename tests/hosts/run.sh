@@ -122,6 +122,9 @@ line=10 start=62 end=65
 line=11 start=66 end=71
 line=12 start=72 end=79
 TEXT
+# What a job's registrations wait for: one that is placed stands among them.
+printf '%s\n' parallelism=4 places=6 in=3 out=0 in= out=4 in=1 out=2 final=1 >"$work/waiting.job"
+printf '%s\n' 'registration=0 input=3 place=0' 'registration=2 input=1 place=0' >"$work/waiting.reasons"
 headers=0
 for compiler in "${compilers[@]}"; do
   strict="$compiler -Wall -Wextra -pedantic -Werror -O2"
@@ -147,6 +150,8 @@ for compiler in "${compilers[@]}"; do
   "$work/storage" || fail "storage by $compiler"
   diff "$work/j1.needs" <("$work/needs_example" <crates/order/stdin) || fail "needs_example by $compiler"
   diff "$work/j1.needs" <("$work/needs_example" crates/order/stdin) || fail "needs_example with a file by $compiler"
+  diff "$work/waiting.reasons" <("$work/reason_example" <"$work/waiting.job") || fail "reason_example by $compiler"
+  diff /dev/null <("$work/reason_example" crates/order/stdin) || fail "reason_example where nothing waits by $compiler"
   diff "$work/j1.lines" <("$work/line_end_example" <crates/order/stdin) || fail "line_end_example by $compiler"
   diff "$work/j1.lines" <("$work/line_end_example" crates/order/stdin) || fail "line_end_example with a file by $compiler"
   diff - <("$work/guide_example") <<'TEXT' || fail "guide_example by $compiler"
@@ -175,6 +180,16 @@ TEXT
   refuses 2 "the job cannot be read" "$work/needs_example" docs
   refuses 2 "and nothing else" "$work/needs_example" crates/order/stdin crates/order/stdin
   refuses 2 "the answer cannot be written" bash -c "'$work/needs_example' crates/order/stdin >/dev/full"
+  refuses 1 "" "$work/reason_example" "$work/waiting.job"
+  refuses 0 "" "$work/reason_example" crates/order/stdin
+  refuses 1 "" "$work/reason_example"
+  grep -q '^refused with 15 on line 1: a line is malformed' "$work/out" || fail "reason_example on no bytes"
+  refuses 1 "" "$work/reason_example" <(head -c 65537 /dev/zero)
+  grep -q '^refused with 16 on line 1: the job has more' "$work/out" || fail "reason_example on 65,537 bytes"
+  refuses 2 "the job cannot be read" "$work/reason_example" "$work/nothing"
+  refuses 2 "the job cannot be read" "$work/reason_example" docs
+  refuses 2 "and nothing else" "$work/reason_example" crates/order/stdin crates/order/stdin
+  refuses 2 "the answer cannot be written" bash -c "'$work/reason_example' '$work/waiting.job' >/dev/full"
   diff /dev/null <("$work/line_end_example" </dev/null) || fail "line_end_example on no bytes"
   refuses 1 "" "$work/line_end_example" <(printf 'set=0\nfinal=1')
   diff - "$work/out" <<'TEXT' || fail "line_end_example where the last byte 10 is missing"
@@ -191,7 +206,7 @@ TEXT
 done
 gcc -g -fsanitize=address,undefined -fno-sanitize-recover -Ihosts tests/hosts/storage.c $archives -o "$work/storage"
 "$work/storage" || fail "storage with the sanitizers"
-echo "hosts: $headers headers, six examples and replay_storage's test by: ${compilers[*]%% *}; and with sanitizers"
+echo "hosts: $headers headers, seven examples and replay_storage's test by: ${compilers[*]%% *}; and with sanitizers"
 
 # A host with nothing but pkg-config from the installation, in a folder of its own: shared, static and C++.
 elsewhere=$(mktemp -d)
@@ -200,12 +215,12 @@ outside() (
   set -e
   trap 'echo "$0: line $LINENO ended with $?: $BASH_COMMAND" >&2' ERR
   listing=$PWD/crates/order/stdout job=$PWD/crates/order/stdin prints=$PWD/tests/prints.sh
-  needs=$work/j1.needs lines=$work/j1.lines
+  needs=$work/j1.needs lines=$work/j1.lines waiting=$work/waiting
   export PKG_CONFIG_PATH=$prefix/lib/pkgconfig LD_LIBRARY_PATH=$prefix/lib
   cp "$prefix"/share/order/examples/*.c "$elsewhere"
   cd "$elsewhere"
   [ "$(pkg-config --modversion order)" = "$(cat "$prefix/share/order/VERSION")" ]
-  for example in order needs line_end replay storage guide; do
+  for example in order needs reason line_end replay storage guide; do
     source=${example}_example.c
     gcc -std=c99 $(pkg-config --cflags order) $source $(pkg-config --libs order) -o $example-shared
     gcc -static $(pkg-config --cflags order) $source $(pkg-config --static --libs order) -o $example-static
@@ -214,6 +229,7 @@ outside() (
   done
   for program in order-*; do $(realpath $program) <"$job" | diff - "$listing"; done
   for program in needs-*; do $(realpath $program) <"$job" | diff - "$needs"; done
+  for program in reason-*; do { $(realpath $program) "$waiting.job" || [ $? = 1 ]; } | diff - "$waiting.reasons"; done
   for program in line_end-*; do $(realpath $program) <"$job" | diff - "$lines"; done
   for program in replay-* storage-*; do
     $(realpath $program) | grep ^order= | diff - <(grep ^order= "$listing")
@@ -233,7 +249,7 @@ if command -v pkg-config >/dev/null; then
   ended=$?
   set -e
   [ $ended -eq 0 ] || fail "a host built from the installation"
-  echo "hosts: six C programs built with pkg-config alone, shared, static and as C++; the prefix may be moved"
+  echo "hosts: seven C programs built with pkg-config alone, shared, static and as C++; the prefix may be moved"
 else
   echo "hosts: no pkg-config: NOTHING is built from the installation"
 fi
@@ -330,6 +346,9 @@ refuses 2 "--words: there is no such file" "$command" -- --words
 refuses 1 "" "$command" "$work/refused.job"
 [ ! -s "$work/said" ] || fail "order-job without --words is not silent"
 refuses 1 "     1 | (the job ends before this line)" "$command" --words /dev/null
+refuses 1 "order-job: registration 0 waits: its greatest input is 3, and place 0 is the lowest untracked one" "$command" --words "$work/waiting.job"
+diff "$work/waiting.reasons" <(for r in 0 2; do "$prefix/bin/order_reason" $r <"$work/waiting.job" | paste -sd' ' | sed "s/status=0/registration=$r/"; done) ||
+  fail "order_reason as installed"
 refuses 2 "there is no such file" "$command" "$work/nothing"
 refuses 2 "is a directory" "$command" docs
 refuses 2 "unknown option --nothing" "$command" --nothing
@@ -355,7 +374,7 @@ diff -r examples "$prefix/share/order/examples" >"$work/examples" || true
 diff crates/order/stdout <("$prefix/bin/order-large" crates/order/stdin) || fail "order-large as installed"
 [ "$("$prefix/bin/order-large" --version)" = "order-large $(cat VERSION)" ] || fail "order-large --version"
 # A refusal in words is the same by order-job and by order-large, but for the name: jobs that both refuse for the same.
-jobs=("$work/refused.job" /dev/null)
+jobs=("$work/refused.job" "$work/waiting.job" /dev/null)
 for job in examples/refused/*.job; do
   case $job in */too-many-places.job | */full-pool.job) ;; *) jobs+=("$job") ;; esac
 done
@@ -365,7 +384,8 @@ for text in 'parallelism=2' '\n' 'parallelism=2\nplaces=x\n' 'parallelism=2\npla
   "${head}in=$long," "${head}set=$long\n" "${head}set=\t\e[2J\r\0\377\\\n" "${head}final=1\nfinal=1\n" "${head}final=1" "${head}\n" \
   "${head}lane=256\nin=1\nout=2\n" "${head}lane=255\nin=6\nout=2\n" "${head}lane=1\nset=0\n" "${head}lane=1\n" "${head}lane=1" \
   "${head}lane=1\nin=1,\n" "${head}lane=1\nin=1" "${head}lane=1\nlane=1\n" "${head}lane=01\n" "${head}in=\nlane=1\nout=1\n" \
-  "lane=1\n$head" "parallelism=2\nlane=1\n"; do
+  "lane=1\n$head" "parallelism=2\nlane=1\n" "${head}in=\nout=0\nin=0\nout=\nset=5\nin=0,5,4\nout=1\nfinal=1\n" \
+  "${head}in=5\nout=5\nfinal=1\n"; do
   printf "$text" >"$work/words.${#jobs[@]}.job"
   jobs+=("$work/words.${#jobs[@]}.job")
 done
@@ -377,12 +397,13 @@ for job in "${jobs[@]}"; do
 done
 echo "hosts: ${#jobs[@]} refusals in words, the same by order-job and order-large"
 # The module for Python, as installed: J1 by the installed library.
-diff <(cat crates/order/stdout && echo "4 7 0 40 13 $prefix/lib/liborder.so") <(
+diff <(cat crates/order/stdout && echo "4 7 0 40 13 2 0 $prefix/lib/liborder.so") <(
   env -u ORDER_LIBS PYTHONDONTWRITEBYTECODE=1 PYTHONPATH="$prefix/share/order/python" python3 -c '
 import sys, witness_order, witness_order.libraries
 job = sys.stdin.read()
 print(witness_order.run_job(job), end="")
-print(*witness_order.job_needs(job), witness_order.line_end(job), witness_order.libraries.path())' <crates/order/stdin) ||
+waiting = witness_order.Calls().add([2], [1])
+print(*witness_order.job_needs(job), witness_order.line_end(job), *witness_order.reason(2, 6, waiting, 0), witness_order.libraries.path())' <crates/order/stdin) ||
   fail "the module for Python as installed"
 echo "hosts: the module for Python as installed: J1"
 echo "hosts: order-job: listings as the program prints them, refusals and failures in words with their status"

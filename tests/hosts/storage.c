@@ -125,6 +125,42 @@ static void look_at_held(void) {
     look_at_counts(&s);
 }
 
+/* Why registrations wait after each beginning of a list in which two do, one of them until its end; the blocks of memory of
+   this call and of replay_run are the same afterwards. */
+static void look_at_reasons(void) {
+    static const uint64_t list[] = {2, 1, 1, 1, 2, 2, 2, 3, 0, 0, 1, 0, 4, 1, 1};
+    static const size_t ends[5] = {5, 10, 12, 13, 15};
+    static const uint64_t first[5] = {1, 1, 1, 1, ORDER_NOT_WAITING}; /* its greatest input, or the number */
+    static const uint64_t place[5] = {0, 0, 1, 1, 3};
+    static char block[100000], other[sizeof block];
+    uint64_t answers[5], others[5];
+    struct replay_storage s = replay_storage_in(block, P, V, W), t = replay_storage_in(other, P, V, W);
+    look(replay_run_reason(&s, NULL, 0, NULL, 0, 0) == ORDER_NEVER_ACCEPTED && s.entries == 0, "nothing was accepted");
+    for (size_t made = 1; made <= 5; made++) {
+        size_t i = made - 1, count = ends[i];
+        memset(block, 0x5a, sizeof block);
+        memset(other, 0x5a, sizeof other);
+        uint64_t returned = replay_run_reason(&s, list, count, answers, made, 0);
+        look(first[i] == ORDER_NOT_WAITING ? returned == first[i]
+                                           : REASON_CODE(returned) == ORDER_ACCEPTED && REASON_INPUT(returned) == first[i] &&
+                                                 REASON_PLACE(returned) == place[i], "why the first waits, or that it does not");
+        look(replay_run(&t, list, count, others, made) % 64 == 0 && t.entries == s.entries, "the order's length");
+        look(memcmp(answers, others, made * sizeof *answers) == 0, "both calls answer the same");
+        look(memcmp(block, other, sizeof block) == 0, "both calls write the same");
+        returned = replay_run_reason(&s, list, count, answers, made, 1);
+        look(made == 1 ? returned == ORDER_NEVER_ACCEPTED
+                       : REASON_CODE(returned) == ORDER_ACCEPTED && REASON_INPUT(returned) == 3 &&
+                             REASON_PLACE(returned) == place[i], "why the second waits");
+        look(replay_run_reason(&s, list, count, answers, made, UINT64_MAX) == ORDER_NEVER_ACCEPTED, "no registration 2^64 - 1");
+    }
+    look(answers[3] == ORDER_STILL_WAITING, "final is refused while one waits");
+    look(replay_run_reason(&s, list, 4, answers, 5, 0) == ORDER_MALFORMED, "a list that is cut short is refused");
+    look(replay_run_reason(&s, list, 5, answers, 0, 0) == ORDER_TOO_SHORT, "too few answers are refused");
+    look(replay_run_reason(&s, NULL, 5, answers, 5, 0) == ORDER_MALFORMED, "null calls are refused");
+    look(replay_run_reason(&s, list, 5, NULL, 5, 0) == ORDER_TOO_SHORT && s.entries == 0, "null answers are refused");
+    look(replay_run_reason(NULL, list, 5, answers, 5, 0) == ORDER_TOO_SHORT, "no storage is refused");
+}
+
 /* Sizes that no session has, and blocks that are too short. */
 static void look_at_sizes(void) {
     static char block[100000];
@@ -223,6 +259,7 @@ int main(void) {
         look_at_runs(memory, offset);
     free(memory);
     look_at_held();
+    look_at_reasons();
     look_at_sizes();
     look_at_refused_runs(replay_run);
     look_at_refused_runs(replay_run_held);

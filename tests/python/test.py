@@ -1,5 +1,5 @@
 """Host code, not proved: the Python module against the proved libraries: J1, lists of calls beside jobs, line ends,
-refusals, bad arguments."""
+reasons, refusals, bad arguments."""
 import os
 import random
 import shutil
@@ -307,6 +307,88 @@ class Lists(unittest.TestCase):
         result = order.replay(4, 100_000, calls.final())
         self.assertEqual(result.length, 99_999)
         self.assertTrue(all(entry.parallelism == 1 for entry in result.entries()))
+
+
+def told(call, *words):
+    """The reason, or the number of a refusal and the line."""
+    try:
+        return tuple(call(*words))
+    except order.Rejected as refused:
+        return refused.refusal, refused.line
+
+
+class Reasons(unittest.TestCase):
+    def test_jobs(self):
+        head = "parallelism=4\nplaces=6\n"
+        for lines, registration, expected in [
+            ("set=2 in=2 out= final=1", 0, (2, 0)),
+            ("set=0 set=2 in=2 out= final=1", 0, (2, 1)),
+            ("set=0 set=1 set=2 in=2 out= final=1", 0, (20, None)),
+            ("set=2 in=2 out= final=1", 1, (19, None)),
+            ("set=2 in=2 out= final=1", 2**64 - 1, (19, None)),
+            ("set=0 in=5,1,5 out=1 final=1", 0, (5, 1)),
+            ("in=0 out=1 final=1 set=0", 0, (0, 0)),
+            ("set=9 final=1", 0, (5, 3)),
+        ]:
+            text = head + lines.replace(" ", "\n") + "\n"
+            self.assertEqual(told(order.job_reason, text, registration), expected, lines)
+            self.assertEqual(told(order.job_reason, text.encode(), registration), expected, lines)
+        self.assertEqual(told(order.job_reason, "", 0), (15, 1))
+        text = read("crates", "order", "stdin")
+        self.assertEqual([told(order.job_reason, text, r) for r in range(5)], [(20, None)] * 4 + [(19, None)])
+        with self.assertRaises(order.Rejected) as refused:
+            order.job_reason(text, 4)
+        self.assertEqual(str(refused.exception), "no registration of this number was accepted (number 19)")
+
+    def test_lists(self):
+        """A reason after a list is that of the job of its accepted calls and final; a set of the place is accepted, or it is taken."""
+        reasons = settable = 0
+        for seed in range(200):
+            parallelism, places, calls, lines = random_list(seed)
+            cut = random.Random(seed).randrange(len(lines))
+            calls, text = self.beginning(parallelism, places, lines[:cut])
+            count = text.count("in=")
+            for r in range(count + 2):
+                found = told(order.reason, parallelism, places, calls, r)
+                self.assertEqual(found, told(order.job_reason, text, r), (seed, r))
+                if found[1] is not None:
+                    reasons += 1
+                    number = order.replay(parallelism, places, calls.set(found[1])).numbers[-1]
+                    settable += number == 0
+                    self.assertIn(number, (0, order.Refusal.TAKEN_PLACE))
+                    break
+        self.assertGreater(reasons, 50)
+        self.assertGreater(settable, 50)
+
+    def beginning(self, parallelism, places, lines):
+        """The accepted ones of some calls, as Calls and as a job that ends with final."""
+        calls, text = order.Calls(), [f"parallelism={parallelism}", f"places={places}"]
+        for call in lines:
+            longer = self.with_call(calls, call)
+            if order.replay(parallelism, places, longer).numbers[-1] == 0:
+                calls, text = longer, text + call
+        return calls, "\n".join([*text, "final=1", ""])
+
+    def with_call(self, calls, lines):
+        longer = order.Calls()
+        longer.encoded, longer.count, longer.pooled = list(calls.encoded), calls.count, calls.pooled
+        words = dict(line.split("=") for line in lines)
+        if "set" in words:
+            return longer.set(int(words["set"]))
+        if "in" not in words:
+            return longer.flush()
+        ins, outs = ([int(place) for place in words[key].split(",") if place] for key in ("in", "out"))
+        return longer.add(ins, outs, int(words["lane"]) if "lane" in words else None)
+
+    def test_bad_arguments(self):
+        for bad in (-1, 2**64, 1.5, "1", None):
+            self.assertRaisesRegex(ValueError, "is no 64-bit number", order.job_reason, "", bad)
+            self.assertRaisesRegex(ValueError, "is no 64-bit number", order.reason, 1, 1, order.Calls(), bad)
+        self.assertRaisesRegex(TypeError, "a job is text or bytes", order.job_reason, 5, 0)
+        self.assertRaisesRegex(TypeError, "a list of calls is a Calls, not ", order.reason, 2, 6, [1, 0], 0)
+        with self.assertRaises(order.Rejected) as refused:
+            order.reason(0, 1, order.Calls(), 0)
+        self.assertEqual(refused.exception.refusal, order.Refusal.OUT_OF_RANGE)
 
 
 class Libraries(unittest.TestCase):

@@ -6,6 +6,7 @@
 //!                               returned number on a line, then the listing
 //!   reference needs             a job: what it needs by its text alone, or its refusal; and what it used,
 //!                               where it is accepted
+//!   reference reason NUMBER     a job, answered as the program that is asked for a registration's reason answers it
 //!   reference label SEED        runs, printed again with lanes of 0 to 255 on most adds; answers stay beside them
 //!   reference random KIND SEED COUNT
 //!                               random runs, KIND session, guide, session-refused, guide-refused
@@ -39,6 +40,7 @@ fn main() {
             put(&mut out, &listing);
         }
         ["needs"] => put(&mut out, needs_text(&read_input()).as_bytes()),
+        ["reason", number] => put(&mut out, model::reason_program(&read_input(), plain(number)).as_bytes()),
         ["label", seed] => {
             generate::label(input_lines(), plain(seed), &mut |line| put(&mut out, line))
         }
@@ -50,7 +52,7 @@ fn main() {
         }
         ["floors"] => floors::cases(&mut |case| put(&mut out, case)),
         ["exhaustive", kind] => generate::exhaustive(kind, &mut |run| put(&mut out, run)),
-        _ => fail("use: runs | job | host LENT | needs | label SEED | random KIND SEED COUNT | exhaustive KIND | jobs SEED COUNT | floors"),
+        _ => fail("use: runs | job | host LENT | needs | reason NUMBER | label SEED | random KIND SEED COUNT | exhaustive KIND | jobs SEED COUNT | floors"),
     }
     let _ = out.flush();
 }

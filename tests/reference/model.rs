@@ -1,8 +1,8 @@
-//! The reference model: document 01's clerk, with the floor and the lanes of document 02 (M-103, M-104), as
-//! a plain program, fed only P, V, W and the calls. It follows the papers and is meant to be read beside
-//! them, paragraph by paragraph: the records, the guide, the registrar and sorter, the checks, the summary,
-//! the job; everything is kept in growing lists. It shares no code with the Rust or with what is tested by
-//! it. All arithmetic is in 64 bits, far from any limit.
+//! The reference model: document 01's clerk, with the floor, the lanes and the reasons of document 02 (M-103 to
+//! M-105), as a plain program, fed only P, V, W and the calls. It follows the papers and is meant to be read
+//! beside them, paragraph by paragraph: the records, the guide, the registrar and sorter, the checks, the
+//! summary, the job; everything is kept in growing lists. It shares no code with the Rust or with what is tested
+//! by it. All arithmetic is in 64 bits, far from any limit.
 
 use std::collections::BTreeMap;
 
@@ -21,7 +21,7 @@ pub const UNTRACKED: u16 = 0;
 pub const WRITTEN: u16 = 32_768;
 pub const SET: u16 = 49_152;
 
-/// The number of a refusal, 1 to 18.
+/// The number of a refusal, 1 to 20.
 pub type Code = u64;
 
 /// Ordered by span, then position.
@@ -402,6 +402,12 @@ impl Session {
         Ok(Summary::of(&self.window.tally))
     }
 
+    /// The inputs and outputs of an accepted add.
+    pub fn lists(&self, number: u64) -> (&[u64], &[u64]) {
+        let registration = &self.registrations[number as usize];
+        (&registration.inputs, &registration.outputs)
+    }
+
     /// What the accepted calls came to.
     pub fn used(&self) -> Needs {
         Needs {
@@ -535,6 +541,42 @@ impl Session {
         if let Some(row) = self.rows.last_mut() {
             row.written = self.window.order.len() as u64;
         }
+    }
+}
+
+// ---- The reason for a waiting registration (document 02, M-105)
+
+/// Its greatest input, and the lowest untracked place of the session.
+#[derive(Clone, Copy, PartialEq, Eq, Debug)]
+pub struct Reason {
+    pub input: u64,
+    pub place: u64,
+}
+
+impl Reason {
+    /// As the host's calls return it.
+    pub fn returned(&self) -> u64 {
+        64 * ((1 << 24) * self.input + self.place)
+    }
+}
+
+impl Session {
+    /// Why a registration waits.
+    pub fn reason(&self, number: u64) -> Result<Reason, Code> {
+        let registration = usize::try_from(number).ok();
+        let registration = registration.and_then(|number| self.registrations.get(number));
+        let Some(registration) = registration else {
+            return Err(19);
+        };
+        if !self.waiting.values().flatten().any(|&waits| waits == number) {
+            return Err(20);
+        }
+        let inputs = registration.inputs.iter().copied();
+        let untracked = self.places.iter().position(|place| place.mark == UNTRACKED);
+        Ok(Reason {
+            input: inputs.max().expect("one without inputs does not wait"),
+            place: untracked.expect("an input of one that waits is untracked, or one below it") as u64,
+        })
     }
 }
 
@@ -858,8 +900,16 @@ pub fn run_job(job: &[u8], lent: usize) -> Result<Vec<u8>, Refusal> {
 /// Runs a job and gives the session at its end.
 pub fn finish_job(job: &[u8]) -> Result<(Session, Summary), Refusal> {
     let mut lines = Lines::of(job)?;
-    let mut session = open_job(&mut lines)?;
-    let summary = loop {
+    let (session, done) = reach_final(&mut lines)?;
+    let summary = done.map_err(|code| lines.refuse(code))?;
+    lines.end()?;
+    Ok((session, summary))
+}
+
+/// Runs a job up to its final, and gives the session and what that said.
+fn reach_final(lines: &mut Lines) -> Result<(Session, Result<Summary, Code>), Refusal> {
+    let mut session = open_job(lines)?;
+    loop {
         match lines.take_call()? {
             JobCall::Set(place) => lines.demand(session.set(place))?,
             JobCall::Add(Registration {
@@ -868,11 +918,25 @@ pub fn finish_job(job: &[u8]) -> Result<(Session, Summary), Refusal> {
                 outputs,
             }) => lines.demand(session.add(lane, &inputs, &outputs))?,
             JobCall::Flush => lines.demand(session.flush())?,
-            JobCall::Final => break session.final_flush().map_err(|code| lines.refuse(code))?,
+            JobCall::Final => {
+                let done = session.final_flush();
+                return Ok((session, done));
+            }
         }
-    };
-    lines.end()?;
-    Ok((session, summary))
+    }
+}
+
+/// Runs a job and gives the session where it stopped: at its final, accepted or refused with 12. A final that is refused
+/// ends the job, whatever follows; after an accepted one nothing may.
+pub fn stopped_job(job: &[u8]) -> Result<Session, Refusal> {
+    let mut lines = Lines::of(job)?;
+    let (session, done) = reach_final(&mut lines)?;
+    match done {
+        Ok(_) => lines.end()?,
+        Err(12) => {}
+        Err(code) => return Err(lines.refuse(code)),
+    }
+    Ok(session)
 }
 
 /// Opening is judged once both head lines are well formed.
@@ -976,5 +1040,23 @@ pub fn host(job: &[u8], lent: usize) -> (u64, Vec<u8>) {
     match run_job(job, lent) {
         Ok(listing) => (64 * listing.len() as u64, listing),
         Err(refusal) => (refusal.returned(), Vec::new()),
+    }
+}
+
+/// What the program that is asked for a reason prints.
+pub fn reason_program(job: &[u8], number: u64) -> String {
+    match stopped_job(job).map(|session| session.reason(number)) {
+        Ok(Ok(Reason { input, place })) => format!("status=0\ninput={input}\nplace={place}\n"),
+        Ok(Err(code)) => format!("status={code}\n"),
+        Err(refusal) => refusal.text(),
+    }
+}
+
+/// What the host's call that is asked for a reason returns.
+pub fn reason_host(job: &[u8], number: u64) -> u64 {
+    match stopped_job(job).map(|session| session.reason(number)) {
+        Ok(Ok(reason)) => reason.returned(),
+        Ok(Err(code)) => code,
+        Err(refusal) => refusal.returned(),
     }
 }

@@ -144,10 +144,12 @@ pub struct Lent {
     pub whole: bool,
 }
 
+/// An exported call: on the slices and the answers, with the calls, P and V.
+type Function = dyn Fn(Slices, &mut [u64], &[u64], u64, u64) -> u64;
+
 /// All that is lent, and what the replay returned.
 pub struct Buffers {
-    /// Which exported call is made: `replay_calls` or `replay_held`.
-    count: Count,
+    function: Box<Function>,
     pub spans: Buffer<u32>,
     pub order: Buffer<u32>,
     pub tally: Buffer<u32>,
@@ -157,7 +159,7 @@ pub struct Buffers {
     pub waiting: Buffer<u64>,
     pub pool: Buffer<u32>,
     pub answers: Buffer<u64>,
-    /// The count, or the number of a refusal.
+    /// The number, or that of a refusal.
     pub returned: Result<usize, u64>,
 }
 
@@ -167,10 +169,17 @@ impl Buffers {
         Self::counting(Count::Written)
     }
 
-    /// For replays that return this count.
+    /// For replays that return this count, by `replay_calls` or `replay_held`.
     pub fn counting(count: Count) -> Self {
+        Self::by(move |slices, answers, calls, p, v| {
+            sys::replay(count, slices, answers, calls, p, v)
+        })
+    }
+
+    /// For replays by an exported call that returns 64 times a number of its own.
+    pub fn by(function: impl Fn(Slices, &mut [u64], &[u64], u64, u64) -> u64 + 'static) -> Self {
         Self {
-            count,
+            function: Box::new(function),
             spans: Buffer::new("spans"),
             order: Buffer::new("order"),
             tally: Buffer::new("tally"),
@@ -237,7 +246,7 @@ impl Buffers {
             waiting: self.waiting.lend(),
             pool: self.pool.lend(),
         };
-        let returned = sys::replay(self.count, slices, self.answers.lend(), calls, p, v);
+        let returned = (self.function)(slices, self.answers.lend(), calls, p, v);
         self.returned = match returned % 64 {
             0 => Ok((returned / 64) as usize),
             _ => Err(returned),

@@ -96,8 +96,8 @@ class Replayed:
         return layout.figures_of(numbers)
 
 
-def _made(name, parallelism, places, calls, pool):
-    """The calls made by the library's function of that name: the storage, each call's number, and what it counted."""
+def made(name, parallelism, places, calls, pool, *more):
+    """The calls made by the library's function of that name, with more numbers: the storage, each call's number, what it says."""
     if not isinstance(calls, Calls):
         raise TypeError(f"a list of calls is a Calls, not {calls!r:.100}")
     parallelism, places, size = numbers_of([parallelism, places, calls.pooled if pool is None else pool])
@@ -106,8 +106,8 @@ def _made(name, parallelism, places, calls, pool):
     storage = layout.storage(parallelism, places, size)
     answers = layout.array(ctypes.c_uint64, calls.count)
     encoded = (ctypes.c_uint64 * len(calls.encoded))(*calls.encoded)
-    result = function(name)(*as_arguments(*storage.values(), answers, encoded), parallelism, places)
-    # An accepted list gives a count times the radix, a refused one its number, which is below that.
+    result = function(name)(*as_arguments(*storage.values(), answers, encoded), parallelism, places, *more)
+    # An accepted list gives a number times the radix, a refused one its own, which is below that.
     if 0 < result < REPLY_RADIX:
         raise Rejected(result)
     return storage, list(answers), result // REPLY_RADIX
@@ -118,11 +118,11 @@ def replay(parallelism, places, calls, pool=None):
 
     Raises Rejected where the parallelism or the count of places is out of range, MemoryError where there is
     no memory for so many places or so large a pool, and TypeError where `calls` is no list of calls."""
-    return Replayed(*_made("replay_calls", parallelism, places, calls, pool))
+    return Replayed(*made("replay_calls", parallelism, places, calls, pool))
 
 
 def held(parallelism, places, calls, pool=None):
     """How many entries the window's 32 spans hold after a list of calls: those placed and not yet in the order.
 
     The calls are made, and the same is raised, as by `replay`; registrations that wait are not counted."""
-    return _made("replay_held", parallelism, places, calls, pool)[-1]
+    return made("replay_held", parallelism, places, calls, pool)[-1]

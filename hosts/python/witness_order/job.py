@@ -45,10 +45,10 @@ def bytes_of(job):
 
 
 def answer_of(result):
-    """What a call that reads a job says of an accepted one. Raises Rejected where it was refused."""
+    """What a call that reads a job says of an accepted one. Raises Rejected where it was refused, with the line at fault, if any."""
     rest, number = divmod(result, REPLY_RADIX)
     if number:
-        raise Rejected(number, rest)
+        raise Rejected(number, rest or None)
     return rest
 
 

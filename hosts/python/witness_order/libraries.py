@@ -29,6 +29,8 @@ ARGUMENTS = {
     "job_line_end": slices(U8) + [ctypes.c_size_t],
     "replay_calls": REPLAY,
     "replay_held": REPLAY,
+    "replay_reason": REPLAY + [U64],
+    "order_reason": slices(U8) + [U64],
     "order_summary": slices(U32, U32),
 }
 

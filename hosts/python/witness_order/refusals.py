@@ -26,6 +26,8 @@ class Refusal(enum.IntEnum):
     LONG_JOB = 16
     LONG_LISTING = 17
     UNKNOWN_LANE = 18
+    NEVER_ACCEPTED = 19
+    NOT_WAITING = 20
 
     @property
     def when(self):
@@ -60,6 +62,8 @@ WHEN = {
     16: "the job has more than 65,536 bytes",
     17: "the listing is longer than the bytes that are lent for it",
     18: "a registration's lane is over 255",
+    19: "no registration of this number was accepted",
+    20: "the registration was accepted and does not wait",
 }
 
 ADVICE = {
@@ -81,6 +85,8 @@ ADVICE = {
     16: "run it by `order-large`, which takes jobs of any size",
     17: "lend more bytes, or run the job by `order-large`, which prints listings of any size",
     18: "number the lanes from 0 to 255",
+    19: "ask for a registration below the count of accepted ones; they are numbered from 0",
+    20: "nothing: it is placed",
 }
 
 

@@ -9,6 +9,7 @@
 //! |---|---|---|
 //! | [`mod@replay`] | `replay_calls` | a list of calls ([`calls`]) on a session of any size |
 //! | [`held`] | `replay_held` | the same, and how many entries the window holds then |
+//! | [`reason`] | `replay_reason`, `order_reason` | why a registration waits, after a list of calls or a job |
 //! | [`job`] | `order_job` | a job's text, of at most 65,536 bytes, to its listing |
 //! | [`needs`] | `job_needs` | what such a job needs, without running it |
 //! | [`mod@line_end`] | `job_line_end` | where a line of a job ends |
@@ -82,6 +83,7 @@ pub mod large;
 pub mod layout;
 pub mod line_end;
 pub mod needs;
+pub mod reason;
 pub mod refusal;
 pub mod replay;
 pub mod summary;
@@ -91,6 +93,7 @@ pub use calls::{Call, Calls};
 pub use layout::{limits, Entry, Location, Row};
 pub use line_end::line_end;
 pub use needs::Needs;
+pub use reason::Reason;
 pub use refusal::Refusal;
 pub use replay::{held, replay, Replayed, Storage, StorageError};
 pub use summary::Summary;

@@ -17,6 +17,7 @@ pub const SUMS_OF_THOUSANDS: u64 = 65;
 pub const MOST_JOB_BYTES: u64 = 65_536;
 pub const PROGRAM_LISTING_BYTES: u64 = 65_536;
 pub const REPLY_RADIX: u64 = 64;
+pub const PLACE_RADIX: u64 = 16_777_216;
 pub const JOB_PARALLELISM: u64 = 64;
 pub const JOB_PLACES: u64 = 512;
 pub const JOB_POOL: u64 = 4_096;

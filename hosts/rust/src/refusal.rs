@@ -41,11 +41,15 @@ pub enum Refusal {
     LongListing = 17,
     /// a registration's lane is over 255
     UnknownLane = 18,
+    /// no registration of this number was accepted
+    NeverAccepted = 19,
+    /// the registration was accepted and does not wait
+    NotWaiting = 20,
 }
 
 impl Refusal {
     /// Every refusal, by ascending number.
-    pub const ALL: [Refusal; 18] = [
+    pub const ALL: [Refusal; 20] = [
         Refusal::OutOfRange,
         Refusal::TooShort,
         Refusal::TooManyNumbers,
@@ -64,6 +68,8 @@ impl Refusal {
         Refusal::LongJob,
         Refusal::LongListing,
         Refusal::UnknownLane,
+        Refusal::NeverAccepted,
+        Refusal::NotWaiting,
     ];
 
     /// The refusal's number.
@@ -100,6 +106,8 @@ impl Refusal {
             Refusal::LongJob => "long_job",
             Refusal::LongListing => "long_listing",
             Refusal::UnknownLane => "unknown_lane",
+            Refusal::NeverAccepted => "never_accepted",
+            Refusal::NotWaiting => "not_waiting",
         }
     }
 
@@ -142,6 +150,8 @@ impl Refusal {
             Refusal::LongJob => "the job has more than 65,536 bytes",
             Refusal::LongListing => "the listing is longer than the bytes that are lent for it",
             Refusal::UnknownLane => "a registration's lane is over 255",
+            Refusal::NeverAccepted => "no registration of this number was accepted",
+            Refusal::NotWaiting => "the registration was accepted and does not wait",
         }
     }
 
@@ -174,6 +184,10 @@ impl Refusal {
                 "lend more bytes, or run the job by `order-large`, which prints listings of any size"
             }
             Refusal::UnknownLane => "number the lanes from 0 to 255",
+            Refusal::NeverAccepted => {
+                "ask for a registration below the count of accepted ones; they are numbered from 0"
+            }
+            Refusal::NotWaiting => "nothing: it is placed",
         }
     }
 }

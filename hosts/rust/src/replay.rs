@@ -180,6 +180,18 @@ pub fn held(storage: &mut Storage, calls: &Calls) -> Result<usize, Refusal> {
 
 /// Makes all calls and gives what is counted of the session then.
 fn count(count: Count, storage: &mut Storage, calls: &Calls) -> Result<usize, Refusal> {
+    let counted = made(storage, calls, |slices, answers, numbers, p, v| {
+        sys::replay(count, slices, answers, numbers, p, v)
+    });
+    counted.map(|counted| counted as usize)
+}
+
+/// Makes all calls by one of the exported ones and gives what it says of the session then.
+pub(crate) fn made(
+    storage: &mut Storage,
+    calls: &Calls,
+    function: impl FnOnce(sys::Slices, &mut [u64], &[u64], u64, u64) -> u64,
+) -> Result<u64, Refusal> {
     if storage.answers.len() < calls.len() {
         storage.answers.resize(calls.len(), 0);
     }
@@ -195,9 +207,9 @@ fn count(count: Count, storage: &mut Storage, calls: &Calls) -> Result<usize, Re
         pool: &mut storage.pool,
     };
     let answers = &mut storage.answers[..calls.len()];
-    let returned = sys::replay(count, slices, answers, calls.numbers(), p, v);
+    let returned = function(slices, answers, calls.numbers(), p, v);
     match returned % REPLY_RADIX {
-        0 => Ok((returned / REPLY_RADIX) as usize),
+        0 => Ok(returned / REPLY_RADIX),
         number => Err(crate::refusal(number)),
     }
 }
@@ -314,6 +326,18 @@ impl<'a> Replayed<'a> {
             .unwrap_or(marks.len())
     }
 
+    /// The first registration that waits: it has an input that is not among the leading places.
+    /// [`crate::Reason::after`] says why it does.
+    pub fn first_waiting(&self) -> Option<u64> {
+        let leading = self.leading_places() as u64;
+        let accepted = self.calls.iter().zip(self.numbers());
+        let mut inputs = accepted
+            .filter(|(_, number)| **number == 0)
+            .filter_map(|(call, _)| call.lists().map(|(inputs, _)| *inputs));
+        let waits = |inputs: &[u64]| inputs.iter().any(|input| *input >= leading);
+        inputs.position(waits).map(|index| index as u64)
+    }
+
     /// A place as the calls left it.
     ///
     /// # Panics
@@ -339,6 +363,7 @@ impl<'a> Replayed<'a> {
 #[cfg(test)]
 mod tests {
     use super::*;
+    use crate::Reason;
 
     /// Storage is as long as the proved call asks, and no longer: one number less is refused.
     #[test]
@@ -364,6 +389,8 @@ mod tests {
             );
             let refused = held(&mut storage, &calls);
             assert_eq!(refused, Err(Refusal::TooShort), "slice {i}");
+            let refused = Reason::after(&mut storage, &calls, 0);
+            assert_eq!(refused, Err(Refusal::TooShort), "slice {i}");
         }
     }
 
@@ -379,6 +406,8 @@ mod tests {
             };
             assert_eq!(replay(&mut storage, &calls).err(), Some(Refusal::Malformed));
             assert_eq!(held(&mut storage, &calls), Err(Refusal::Malformed));
+            let refused = Reason::after(&mut storage, &calls, 0);
+            assert_eq!(refused, Err(Refusal::Malformed));
         }
     }
 }

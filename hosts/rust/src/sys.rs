@@ -8,6 +8,8 @@ extern "C" {
 
     fn job_needs(job: *const u8, job_length: usize, needs: *mut [u64; 4]) -> u64;
 
+    fn order_reason(job: *const u8, job_length: usize, registration: u64) -> u64;
+
     fn job_line_end(job: *const u8, job_length: usize, from: usize) -> usize;
 
     fn guide_replay(
@@ -42,9 +44,9 @@ extern "C" {
     ) -> u64;
 }
 
-/// Declares exported calls that all have the arguments of `replay_calls`.
+/// Declares exported calls that all have the arguments of `replay_calls`, and after them their own.
 macro_rules! replay_functions {
-    ($($name:ident),*) => {
+    ($($name:ident($($own:ident),*)),*) => {
         extern "C" {
             $(fn $name(
                 spans: *mut u32,
@@ -69,12 +71,13 @@ macro_rules! replay_functions {
                 calls_length: usize,
                 p: u64,
                 v: u64,
+                $($own: u64),*
             ) -> u64;)*
         }
     };
 }
 
-replay_functions!(replay_calls, replay_held);
+replay_functions!(replay_calls(), replay_held(), replay_reason(registration));
 
 // SAFETY, for every call below: each pointer and length is a whole slice, and the needs are a whole array,
 // borrowed for the call, exclusively where it is written, so that no two overlap and none is null. The
@@ -116,6 +119,35 @@ pub enum Count {
     Held,
 }
 
+/// Calls one of them on whole slices, with the numbers after these.
+macro_rules! call_replay {
+    ($function:expr, $slices:expr, $answers:expr, $calls:expr, $($number:expr),*) => {
+        $function(
+            $slices.spans.as_mut_ptr(),
+            $slices.spans.len(),
+            $slices.order.as_mut_ptr(),
+            $slices.order.len(),
+            $slices.tally.as_mut_ptr(),
+            $slices.tally.len(),
+            $slices.rows.as_mut_ptr(),
+            $slices.rows.len(),
+            $slices.marks.as_mut_ptr(),
+            $slices.marks.len(),
+            $slices.locations.as_mut_ptr(),
+            $slices.locations.len(),
+            $slices.waiting.as_mut_ptr(),
+            $slices.waiting.len(),
+            $slices.pool.as_mut_ptr(),
+            $slices.pool.len(),
+            $answers.as_mut_ptr(),
+            $answers.len(),
+            $calls.as_ptr(),
+            $calls.len(),
+            $($number),*
+        )
+    };
+}
+
 /// Makes all calls on a fresh session: 64 times the count, or the number of a refusal.
 pub fn replay(
     count: Count,
@@ -129,32 +161,25 @@ pub fn replay(
         Count::Written => replay_calls,
         Count::Held => replay_held,
     };
-    unsafe {
-        function(
-            slices.spans.as_mut_ptr(),
-            slices.spans.len(),
-            slices.order.as_mut_ptr(),
-            slices.order.len(),
-            slices.tally.as_mut_ptr(),
-            slices.tally.len(),
-            slices.rows.as_mut_ptr(),
-            slices.rows.len(),
-            slices.marks.as_mut_ptr(),
-            slices.marks.len(),
-            slices.locations.as_mut_ptr(),
-            slices.locations.len(),
-            slices.waiting.as_mut_ptr(),
-            slices.waiting.len(),
-            slices.pool.as_mut_ptr(),
-            slices.pool.len(),
-            answers.as_mut_ptr(),
-            answers.len(),
-            calls.as_ptr(),
-            calls.len(),
-            p,
-            v,
-        )
-    }
+    unsafe { call_replay!(function, slices, answers, calls, p, v) }
+}
+
+/// Makes them too, and says why a registration waits then: 64 times (2^24 times its greatest input plus the
+/// lowest untracked place), or the number of a refusal.
+pub fn reason(
+    slices: Slices,
+    answers: &mut [u64],
+    calls: &[u64],
+    p: u64,
+    v: u64,
+    registration: u64,
+) -> u64 {
+    unsafe { call_replay!(replay_reason, slices, answers, calls, p, v, registration) }
+}
+
+/// The same after a job: for one that is refused otherwise than with 12, 64 times the line plus its number.
+pub fn job_reason(job: &[u8], registration: u64) -> u64 {
+    unsafe { order_reason(job.as_ptr(), job.len(), registration) }
 }
 
 /// What a guide alone works on.

@@ -107,6 +107,34 @@ fn a_lane_is_quoted_with_its_registration() {
 }
 
 #[test]
+fn who_waits_at_the_final_is_said() {
+    let head = "parallelism=2\nplaces=900\nin=\nout=0\nflush=1\n";
+    for (calls, r, input, place) in [
+        (
+            "in=0\nout=1\nin=700,2\nout=3\nin=2\nout=4\nset=700\n",
+            2,
+            700,
+            2,
+        ),
+        ("in=1\nout=1\n", 1, 1, 1),
+    ] {
+        let job = format!("{head}{calls}final=1\n");
+        let (status, listing, words) = run(&["--words"], &job);
+        let line = job.lines().count();
+        assert_eq!((status, listing), (1, format!("status=12\nline={line}\n")));
+        let words: Vec<&str> = words.lines().collect();
+        assert_eq!(words.len(), 4, "{words:?}");
+        assert_eq!(words[1], format!("{line:>6} | final=1"));
+        let said =
+            format!("registration {r} waits: its greatest input is {input}, and place {place} is");
+        assert!(
+            words[2].starts_with(&format!("order-large: {said}")),
+            "{words:?}"
+        );
+    }
+}
+
+#[test]
 fn words_quote_the_line() {
     for (job, quoted) in [
         ("", "     1 | (the job ends before this line)"),

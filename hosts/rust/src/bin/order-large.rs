@@ -11,6 +11,7 @@ use std::time::{Duration, Instant};
 use witness_order::large::{
     self, text::Quoted, Failure, Job, Memory, Options, Progress, Rejection,
 };
+use witness_order::Reason;
 
 const HELP: &str = "\
 usage: order-large [OPTION..] [FILE]
@@ -296,6 +297,7 @@ fn say_words(rejection: &Rejection) {
         line,
         expected,
         quoted,
+        waiting,
     } = rejection;
     let (number, name) = (refusal.number(), refusal.name());
     say(format_args!(
@@ -303,6 +305,11 @@ fn say_words(rejection: &Rejection) {
     ));
     for (line, quoted) in quoted {
         say(format_args!("{line:>6} | {}", quote(quoted)));
+    }
+    if let Some((r, Reason { input, place })) = waiting {
+        say(format_args!(
+            "order-large: registration {r} waits: its greatest input is {input}, and place {place} is the lowest untracked one"
+        ));
     }
     match expected {
         Some(expected) => say(format_args!("order-large: expected: {expected}")),

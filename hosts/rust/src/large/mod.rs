@@ -1,4 +1,4 @@
-//! Host code, not proved: jobs of any size, by the proved `replay_calls`.
+//! Host code, not proved: jobs of any size, by the proved `replay_calls`, and by `replay_reason` who waits at a final.
 //!
 //! The same text as for [`crate::job`] gives the same listing, or the same two lines for a refused
 //! job; but the parallelism goes to 64,999, the places to 16,777,216, the pool has room for all lists
@@ -20,6 +20,7 @@ use std::fmt;
 use std::io::{self, BufRead, Write};
 
 use crate::calls::Calls;
+use crate::reason::Reason;
 use crate::refusal::Refusal;
 use crate::replay::{replay, Replayed, Storage, StorageError};
 use listing::{Head, Listed, Listing};
@@ -78,6 +79,8 @@ pub struct Rejection {
     pub expected: Option<&'static str>,
     /// The lines that it is about, with their numbers.
     pub quoted: Vec<(u64, Quoted)>,
+    /// The first registration that waits at a final that is refused for that, and why it does.
+    pub waiting: Option<(u64, Reason)>,
 }
 
 impl From<Malformed> for Rejection {
@@ -87,6 +90,7 @@ impl From<Malformed> for Rejection {
             line: malformed.line,
             expected: Some(malformed.expected),
             quoted: vec![(malformed.line, malformed.quoted)],
+            waiting: None,
         }
     }
 }
@@ -152,6 +156,7 @@ fn opening(refusal: Refusal, p: u64, v: u64) -> Rejection {
             (1, line(format!("parallelism={p}"))),
             (2, line(format!("places={v}"))),
         ],
+        waiting: None,
     }
 }
 
@@ -195,11 +200,20 @@ impl Job {
         // A refused call comes before the malformed line: the lines go one after another.
         if let Some((index, refusal)) = done.first_refused() {
             let quoted = call_lines(&self.calls, index);
+            let asked = done
+                .first_waiting()
+                .filter(|_| refusal == Refusal::StillWaiting);
+            // The calls are made once more: final is the last of them.
+            let waiting = asked.and_then(|r| {
+                let reason = Reason::after(&mut storage, &self.calls, r);
+                reason.ok().map(|reason| (r, reason))
+            });
             return Ok(Err(Rejection {
                 refusal,
                 line: quoted.last().map_or(0, |(line, _)| *line),
                 expected: None,
                 quoted,
+                waiting,
             }));
         }
         if let Err(malformed) = self.ended {
