@@ -1,7 +1,7 @@
 #!/usr/bin/env python3
 """Holds the reading list of README.md to the crates: its files and single definitions are all that the exported calls'
-contracts and the claims about every list of calls and every job's needs are made of, and its last column counts their
-lines. With --write the counts are put right instead, and with --list everything that must be read is printed, with where
+contracts and the claims about every list of calls, every job's needs, lanes and reasons are made of, and its last column
+counts their lines. With --write the counts are put right instead, and with --list everything that must be read is printed, with where
 it stands."""
 import pathlib
 import re
@@ -11,12 +11,14 @@ sys.path.insert(0, str(pathlib.Path(__file__).resolve().parent.parent / "tools")
 import sources
 
 ROW = re.compile(r"^(\| [^|]+ \| )((?:[a-z_]+/[A-Z]\w*(?:\.[\w-]+)?(?:, )?)+)( \| )([\d,]+)( \|)$")
-# What a user is promised: the contracts of the exported functions and of what the program answers, and these records.
+# What a user is promised: the contracts of the exported functions and of what the programs answer, and these records.
 PROMISED = re.compile(r'^pub extern "C" fn \w+\(.*?\n\{', re.S | re.M)
-ANSWER = ("job_reply", re.compile(r"^pub fn answer\(.*?\n\{", re.S | re.M))
+ANSWER = re.compile(r"^pub fn answer\(.*?\n\{", re.S | re.M)
+ANSWERING = ["job_reply", "job_reason"]
 CLAIMS = [
     ("laws", "Demand", "Demand"),
     ("laws", "Needs", "Needed"),
+    ("laws", "Reason", "Holds"),
     ("lanes", "Claims", "SameLists"),
     ("lanes", "Claims", "SameRuns"),
     ("lanes", "Claims", "SameJobs"),
@@ -73,7 +75,8 @@ class Reading:
         todo = [(self.spec(crate, module), name) for crate, module, name in CLAIMS]
         for path in sorted((root / "crates").glob("*/src/lib.rt")):
             todo += self.contracts(path, PROMISED)
-        todo += self.contracts(root / "crates" / ANSWER[0] / "src" / "lib.rt", ANSWER[1])
+        for crate in ANSWERING:
+            todo += self.contracts(root / "crates" / crate / "src" / "lib.rt", ANSWER)
         while todo:
             path, name = todo.pop()
             file = self.file(path)
