@@ -109,7 +109,7 @@ def in_rust(rows):
     return f"""//! {NOTICE}.
 //! The numbers of refusals as an enum, with what they mean in words.
 
-/// Why a call, a list of calls or a job was refused.
+/// Why a call, a list of calls or a job was refused, or no reason given.
 #[derive(Clone, Copy, Debug, PartialEq, Eq, Hash, PartialOrd, Ord)]
 #[repr(u64)]
 pub enum Refusal {{
@@ -185,7 +185,7 @@ import enum
 
 
 class Refusal(enum.IntEnum):
-    """Why a call, a list of calls or a job was refused."""
+    """Why a call, a list of calls or a job was refused, or no reason given."""
 
 {members}
     @property

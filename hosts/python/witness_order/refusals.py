@@ -6,7 +6,7 @@ import enum
 
 
 class Refusal(enum.IntEnum):
-    """Why a call, a list of calls or a job was refused."""
+    """Why a call, a list of calls or a job was refused, or no reason given."""
 
     OUT_OF_RANGE = 1
     TOO_SHORT = 2

@@ -1,7 +1,7 @@
 //! Host code, not proved. Written by tools/refusals.py from hosts/refusals.txt.
 //! The numbers of refusals as an enum, with what they mean in words.
 
-/// Why a call, a list of calls or a job was refused.
+/// Why a call, a list of calls or a job was refused, or no reason given.
 #[derive(Clone, Copy, Debug, PartialEq, Eq, Hash, PartialOrd, Ord)]
 #[repr(u64)]
 pub enum Refusal {

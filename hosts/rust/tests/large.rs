@@ -46,7 +46,10 @@ fn compare(job: &[u8], seen: &mut BTreeMap<u64, u64>) {
                 // Other storage is lent; 10 comes with the same pool.
                 Refusal::TooShort => assert!(wide(job), "{}", shown(job)),
                 Refusal::FullPool => {
-                    let same = Options { pool: Some(4096) };
+                    let same = Options {
+                        pool: Some(4096),
+                        ..Options::default()
+                    };
                     assert_eq!(run(job, &same).0, told.as_bytes(), "{}", shown(job));
                 }
                 Refusal::LongJob => assert!(job.len() > 65_536),
@@ -171,7 +174,13 @@ fn lines_of_every_length() {
 // ---- What only `large` runs
 
 fn status(job: &str, pool: Option<u64>) -> String {
-    let (listing, _) = run(job.as_bytes(), &Options { pool });
+    let (listing, _) = run(
+        job.as_bytes(),
+        &Options {
+            pool,
+            ..Options::default()
+        },
+    );
     let text = String::from_utf8(listing).expect("ASCII");
     text.lines().take(2).collect::<Vec<_>>().join(" ")
 }

@@ -139,7 +139,10 @@ fn command(words: &[String]) -> Result<Command, Stop> {
                     witness_order::VERSION
                 )))
             }
-            "--words" => asked.words = true,
+            "--words" => {
+                asked.words = true;
+                asked.options.reasons = true;
+            }
             "--dry-run" => asked.dry_run = true,
             "--pool" => match words.next() {
                 Some(number) => asked.options.pool = Some(pool(number)?),

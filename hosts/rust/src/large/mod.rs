@@ -31,6 +31,8 @@ use text::{call_lines, Malformed, Part, Quoted, Reader};
 pub struct Options {
     /// The pool's length W; else as many numbers as the lists of the job have.
     pub pool: Option<u64>,
+    /// Whether a final that is refused because registrations wait gives a reason, for which the calls are made again.
+    pub reasons: bool,
 }
 
 /// What keeps a job from being run to its end, apart from its own refusals.
@@ -79,7 +81,7 @@ pub struct Rejection {
     pub expected: Option<&'static str>,
     /// The lines that it is about, with their numbers.
     pub quoted: Vec<(u64, Quoted)>,
-    /// The first registration that waits at a final that is refused for that, and why it does.
+    /// The first registration that waits at a final that is refused for that, and why it does; if reasons are wanted.
     pub waiting: Option<(u64, Reason)>,
 }
 
@@ -200,9 +202,8 @@ impl Job {
         // A refused call comes before the malformed line: the lines go one after another.
         if let Some((index, refusal)) = done.first_refused() {
             let quoted = call_lines(&self.calls, index);
-            let asked = done
-                .first_waiting()
-                .filter(|_| refusal == Refusal::StillWaiting);
+            let wanted = options.reasons && refusal == Refusal::StillWaiting;
+            let asked = done.first_waiting().filter(|_| wanted);
             // The calls are made once more: final is the last of them.
             let waiting = asked.and_then(|r| {
                 let reason = Reason::after(&mut storage, &self.calls, r);
