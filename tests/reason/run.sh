@@ -4,7 +4,7 @@
 # leaves, the answers of jobs to those of crate `host`; and what a reason says of later calls to what later calls do.
 #
 #   tests/reason/run.sh                  the short form
-#   tests/reason/run.sh --long           ten times as many random lists and jobs
+#   tests/reason/run.sh --long           ten times as many random lists and jobs, and all short lists beside the Rust
 #   tests/reason/run.sh --time PLACES    no test: how long replay_reason takes beside replay_calls
 #
 # REASON_SEED chooses the random lists and jobs (default 1). REASON_LIBRARY names a library to link instead of the one that
@@ -43,12 +43,12 @@ $work/reason worked
 $work/reason openings
 $work/reason lists "$seed" $((900 * times))
 
-# What the Rust keeps of who waits: in the kept sample, and where it is at hand in all short lists and in random ones.
+# What the Rust keeps of who waits: in the kept sample, and where it is at hand in random lists, and with --long in all short ones.
 cat oracle/sample/placements.txt oracle/sample/sessions.txt | $work/reason rust
 if [ "$(oracle/at_hand.sh)" = yes ]; then
   oracle/build.sh
   tests/reference/build.sh
-  target/reference/reference exhaustive session | target/oracle/oracle | $work/reason rust
+  [ $times = 1 ] || target/reference/reference exhaustive session | target/oracle/oracle | $work/reason rust
   target/reference/reference random session "$seed" $((1000 * times)) | target/oracle/oracle | $work/reason rust
 else
   echo "reason: beside the kept sample NOT compared with the Rust"
