@@ -26,10 +26,10 @@ use Rattle.session.specs.Rep.{Rep}
 use Rattle.session.specs.Shows.{Shows}
 use Rattle.session.specs.Showing.{shows}
 use Rattle.opening.specs.Opened.{sizes, first-session, Opens, enough-of}
-use Rattle.call_runs.specs.Progress.{Running, running-start}
-use Rattle.call_runs.specs.Continuing.{MayContinue, Onward, onward-may, Continues, Going, going-begins, going-past}
+use Rattle.call_runs.specs.Continuing.{MayContinue, Onward, then, onward-upto, Continues, Going, going-begins, going-on}
 use Rattle.call_runs.specs.Made.{ends-run, Made}
 use Rattle.call_list.specs.Replay.{replay-number, Ran, Replays}
+use Rattle.call_list.specs.Progress.{Running, running-start, running-may, running-on}
 
 -- a flush or a final stands at `at`, up to which all calls are made
 pub record MayPass (l : List ℕ) (s : Session) (σ : Storage) (out : List ℕ) (at n : ℕ) : Type 0 where
@@ -50,8 +50,8 @@ module _ {l : List ℕ} {s : Session} {σ : Storage} {out : List ℕ} {at n : �
       → Passes l s σ out at n s″ σ″ out″ at″ n″
   passes E C =
       record {
-        continues = record { onward = going-past pass-begins (M .inside) E (C .onward) .onward; stops = C .stops };
-        past = omega (arith, C .onward .upto);
+        continues = record { onward = then (M .inside) E (C .onward); stops = C .stops };
+        past = omega (arith, onward-upto (C .onward));
       }
 
 -- a fresh session, and numbers that are the calls `all`, for whose own numbers there is room
@@ -99,16 +99,16 @@ module _ {l : List ℕ} {s₀ : Session} {σ₀ : Storage} {out₀ : List ℕ} w
       (subst (λ (n : ℕ). Frame P N 0 n σ₀ σ₀) (sym (S .first)) (frame-refl P N 0 σ₀))
 
   pub run-may : MayRun l s₀ σ₀ out₀ → MayContinue l s₀ σ₀ out₀ 0 0
-  run-may ask = record { P = ask .P; N = ask .N; all = ask .all; σ₀ = σ₀; out₀ = out₀; running = begun (ask .P) (ask .N) (ask .all) (ask .starts) }
+  run-may ask = running-may (begun (ask .P) (ask .N) (ask .all) (ask .starts))
 
   module _ {s : Session} {σ : Storage} {out : List ℕ} {at n : ℕ} (O : Onward l s₀ σ₀ out₀ 0 0 s σ out at n) where
     -- from the first flush or final on, to the end
     pub run-begins : MayRun l s₀ σ₀ out₀ → Going l s σ out at n s σ out at n
-    run-begins ask = going-begins (onward-may O (run-may ask))
+    run-begins ask = going-begins (going-on (going-begins (run-may ask)) O .may)
 
     pub run-ends : {s′ : Session} {σ′ : Storage} {out′ : List ℕ} {at′ n′ : ℕ} → Going l s σ out at n s′ σ′ out′ at′ n′ → length l ≤ at′ → Runs l s₀ σ₀ out₀ s′ σ′ out′
     run-ends {s′} {σ′} {out′} {at′} {n′} G h =
-        record { ran = λ P N all S. running-end (G .onward .running P N all σ₀ out₀ (O .running P N all σ₀ out₀ (begun P N all S))) h }
+        record { ran = λ P N all S. running-end (running-on (running-on (begun P N all S) O) (G .onward)) h }
 
 -- the same from the storage before it was opened
 moved : (P N : ℕ) (cs : List Call) (s : Session) (σ τ υ : Storage) (out out′ : List ℕ) → τ .pool ≡ σ .pool → Frame P N 0 0 σ τ → Ran P N cs s τ υ out out′ → Ran P N cs s σ υ out out′

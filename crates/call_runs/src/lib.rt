@@ -5,9 +5,11 @@ ghost use lib.ListN.{getD};
 ghost use Rattle.rules.specs.Encoding.{set-tag};
 ghost use Rattle.session.specs.Storage.{given, across};
 ghost use Rattle.call_runs.specs.Made.{ends-run, Readable, AddAt, AsksCall, AdmitsCall};
-ghost use Rattle.call_runs.specs.Continuing.{MayContinue, Continues};
+ghost use Rattle.admitting.specs.Promise.{Asks};
+ghost use Rattle.call_runs.specs.Continuing.{MayContinue, Continues, OneCall, MadeOne};
 use admitting::Admitted;
 use session::Session;
+use sorter::Answer;
 
 // A set or an add admitted, and the index past it.
 pub struct Admission {
@@ -154,5 +156,44 @@ pub fn run_open(
         session: z,
         at: at,
         made: n,
+    }
+}
+
+// Makes the one set or add that the numbers are.
+pub fn make_one(
+    s: Session,
+    spans: &mut [u32],
+    order: &mut [u32],
+    tally: &mut [u32],
+    rows: &mut [u32],
+    marks: &mut [u16],
+    locations: &mut [u64],
+    waiting: &mut [u64],
+    pool: &mut [u32],
+    calls: &[u64],
+) -> Answer
+    requires { ⌜ (Asks s (given spans order tally rows marks locations waiting pool)) × (OneCall (now calls)) ⌝ }
+    ensures { λ r. ⌜ across spans order tally rows marks locations waiting pool (λ σ τ. MadeOne (now (calls .entry)) (r .number) s (r .session) σ τ) ⌝ }
+{
+    let mut answers = [0u64; 1];
+    let r = run_open(
+        s,
+        spans,
+        order,
+        tally,
+        rows,
+        marks,
+        locations,
+        waiting,
+        pool,
+        &mut answers,
+        calls,
+        0,
+        0,
+    );
+    let session = r.session;
+    Answer {
+        number: answers[0],
+        session: session,
     }
 }

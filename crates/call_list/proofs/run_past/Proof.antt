@@ -74,7 +74,7 @@ add-run-open-2 c = let s = start (passed c) in
     omega (arith, going-room (pass-begins (s .pre)) (s .pre .inside), s .good .1 .1 .1 .1 .1 .1 .1 .1 .1 .0)
 
 run-open-requires : tie.Need-run-open-requires
-run-open-requires c κs = let M = start (passed c) .pre in going-next (pass-begins M) (M .inside) (passed c .make-end .ensures)
+run-open-requires c κs = let M = start (passed c) .pre in going-next (pass-begins M) (M .inside) (passed c .make-end .ensures) .may
 
 same-length : tie.Need-same-length
 same-length c = let r = ran c in r .run-open .kept .1 .0 ∙ ended r .make-end .kept .1 .0
