@@ -1,3 +1,4 @@
--- A list of calls encoded as numbers: where its calls end.
+-- Calls encoded as numbers: where those of a list end, and how one is put.
 pub mod Decode
 pub mod Ends
+pub mod Put

@@ -1,10 +1,12 @@
-// A list of calls encoded as numbers: where a call ends, and how many calls there are. Nothing is written.
+// Calls encoded as numbers: where a call of a list ends, how many calls there are, and a set or an add put down as numbers.
 ghost use mathlib.Core.Path.{_≡_};
 ghost use mathlib.Core.Option.{none};
-ghost use Prim.Native.Nat.{_+_, _<_};
-ghost use lib.ListN.{length, drop};
+ghost use Prim.Native.Nat.{_+_, _≤_, _<_};
+ghost use lib.ListN.{length, take, drop};
+ghost use Rattle.rules.specs.Calls.{set as set-call, add as add-call};
 ghost use Rattle.rules.specs.Encoding.{front, counted};
 ghost use Rattle.encoding.specs.Ends.{ListEnds, AddEnds, Ends, Counts};
+ghost use Rattle.encoding.specs.Put.{Put};
 
 // The tags that calls begin with.
 pub const SET: u64 = 1;
@@ -111,4 +113,31 @@ pub fn count_calls(calls: &[u64]) -> Count
         well: true,
         calls: n,
     }
+}
+
+// How many numbers stand before the inputs of an add whose lane is told: its tag, the lane, the count of inputs.
+pub const BEFORE_INPUTS: usize = 3;
+
+// Puts a set of place x at the start of `into`; how many numbers it takes.
+pub fn put_set(into: &mut [u64], x: u64) -> usize
+    requires { ⌜ 2 ≤ length (now into) ⌝ }
+    ensures { λ r. ⌜ Put (set-call x) (now (into .entry)) (now (into .exit)) r ⌝ }
+{
+    into[0] = SET;
+    into[1] = x;
+    2
+}
+
+// Puts the rest of an add around its lists, which stand in `into`: the inputs from BEFORE_INPUTS on, one number left free, the outputs.
+// How many numbers it takes.
+pub fn put_add(into: &mut [u64], lane: u64, inputs: usize, outputs: usize) -> usize
+    requires { ⌜ inputs + outputs + 4 ≤ length (now into) ⌝ }
+    ensures { λ r. ⌜ Put (add-call lane (take inputs (drop 3 (now (into .entry)))) (take outputs (drop (inputs + 4) (now (into .entry))))) (now (into .entry)) (now (into .exit)) r ⌝ }
+{
+    let middle = BEFORE_INPUTS + inputs;
+    into[0] = LANE_ADD;
+    into[1] = lane;
+    into[2] = inputs as u64;
+    into[middle] = outputs as u64;
+    middle + 1 + outputs
 }
