@@ -9,7 +9,7 @@ use native.Mathlib.Decide.{decLt}
 use native.Mathlib.Numerals.{add-one}
 use native.Mathlib.Omega.{arith}
 use lib.ListN.{length, take, drop, length-take, length-drop}
-use lib.Seq.{drop-drop}
+use lib.Seq.{take-take, drop-drop}
 use Rattle.rules.specs.Calls as calls
 use Rattle.rules.specs.Job as rule
 use Rattle.rules.specs.Job.{lines, ragged}
@@ -84,8 +84,14 @@ module _ {s entry read : List ℕ} {at after : ℕ} where
   starts-with n {l} a =
       ap (λ (x : rule.Line). started n x (other-lines (lines (drop at s)))) (sym (a .reads)) ∙ ap (started n (line-as l read)) (sym (a .others))
 
-  beyond : {l : Line} → LineAt s at entry read 0 l after → drop (length s / 2) read ≡ drop (length s / 2) entry
-  beyond a = drop-past (0 + (length s - at) / 2) (length s / 2) read entry (omega arith) (a .into-beyond)
+  beyond : (j : ℕ) → length s / 2 ≤ j → {l : Line} → LineAt s at entry read 0 l after → drop j read ≡ drop j entry
+  beyond j h a = drop-past (0 + (length s - at) / 2) j read entry (omega arith) (a .into-beyond)
+
+  call-beyond : {l : Line} → LineAt s at entry read 0 l after → drop (length s / 2 + 1) read ≡ drop (length s / 2 + 1) entry
+  call-beyond a = beyond (length s / 2 + 1) (omega arith) a
+
+  head-beyond : {l : Line} → LineAt s at entry read 0 l after → drop (length s / 2) read ≡ drop (length s / 2) entry
+  head-beyond a = beyond (length s / 2) (omega arith) a
 
   -- a call of one line, whose line has no list
   module _ (n : ℕ) {l : Line} (a : LineAt s at entry read 0 l after) (well : l ≡ line.Malformed → ⊥) (bare : listed l ≡ 0) where
@@ -99,24 +105,24 @@ module _ {s entry read : List ℕ} {at after : ℕ} where
   unfolding started
   a-set n x a =
       let well : line.Set x ≡ line.Malformed → ⊥ = λ e. let z : _≡_ {A = ℕ} 0 1 = cc in omega arith in
-      record { is = starts-with n a; next = one-follows n a well refl; into = (omega arith, one-keeps n a well refl); into-beyond = beyond a }
+      record { is = starts-with n a; next = one-follows n a well refl; into = (omega arith, one-keeps n a well refl); into-beyond = call-beyond a }
 
   pub a-flush : (n : ℕ) → LineAt s at entry read 0 line.Flush after → NextCall s at n entry read (next.Call call.Flush n after)
   unfolding started
   a-flush n a =
       let well : line.Flush ≡ line.Malformed → ⊥ = λ e. let z : _≡_ {A = ℕ} 0 1 = cc in omega arith in
-      record { is = starts-with n a; next = one-follows n a well refl; into = (omega arith, one-keeps n a well refl); into-beyond = beyond a }
+      record { is = starts-with n a; next = one-follows n a well refl; into = (omega arith, one-keeps n a well refl); into-beyond = call-beyond a }
 
   pub a-final : (n : ℕ) → LineAt s at entry read 0 line.Final after → NextCall s at n entry read (next.Final n after)
   unfolding started
   a-final n a =
       let well : line.Final ≡ line.Malformed → ⊥ = λ e. let z : _≡_ {A = ℕ} 0 1 = cc in omega arith in
-      record { is = starts-with n a; next = one-follows n a well refl; into = one-keeps n a well refl; into-beyond = beyond a }
+      record { is = starts-with n a; next = one-follows n a well refl; into = one-keeps n a well refl; into-beyond = call-beyond a }
 
   -- a line with which no call starts
   pub no-start : (n : ℕ) {l : Line} → ((r : List ℕ) → rule.start-of (line-as l r) ≡ none) → LineAt s at entry read 0 l after → NextCall s at n entry read (next.Malformed n)
   unfolding started
-  no-start n e a = record { is = starts-with n a ∙ rw (started, e read); next = tt; into = tt; into-beyond = beyond a }
+  no-start n e a = record { is = starts-with n a ∙ rw (started, e read); next = tt; into = tt; into-beyond = call-beyond a }
 
 -- an add begins with its i inputs
 module _ {s entry mid : List ℕ} {at after : ℕ} (i : ℕ) (a : LineAt s at entry mid 0 (line.Inputs i) after) where
@@ -155,7 +161,7 @@ module _ {s entry mid : List ℕ} {at after : ℕ} (lane : ℕ) (a : LineAt s at
 
     pub no-inputs : ((r : List ℕ) → rule.inputs-of (line-as m r) ≡ none) → NextCall s at n entry read (next.Malformed (n + 1))
     unfolding after-lane
-    no-inputs e = record { is = goes-with ∙ rw (after-lane, e read); next = tt; into = tt; into-beyond = beyond b ∙ ap (drop (length s / 2)) lane-keeps }
+    no-inputs e = record { is = goes-with ∙ rw (after-lane, e read); next = tt; into = tt; into-beyond = call-beyond b ∙ ap (drop (length s / 2 + 1)) lane-keeps }
 
   pub with-lane : (n : ℕ) {read : List ℕ} {end : ℕ} (i : ℕ) → LineAt s after mid read 0 (line.Inputs i) end → Begins s at n entry read lane i (n + 2) end
   unfolding after-lane
@@ -168,32 +174,37 @@ module _ {s entry mid : List ℕ} {at after : ℕ} (lane : ℕ) (a : LineAt s at
         into-past = keeps-past b (well-in i b) i (omega arith) ∙ ap (drop i) lane-keeps;
       }
 
--- the last line of an add: its outputs go behind its i inputs
+-- the last line of an add: its outputs go behind its i inputs and a free number
 module _ {s mid read : List ℕ} {after end : ℕ} (m lane i : ℕ) (low : 2 * i ≤ after) (inside : after ≤ length s) where
-  module _ {l : Line} (b : LineAt s after mid read i l end) {at n : ℕ} {entry : List ℕ} (a : Begins s at n entry mid lane i m after) where
-    ends-with : first-call n (lines (drop at s)) ≡ added m lane (take i mid) (line-as l (drop i read)) (lines (drop end s))
+  module _ {l : Line} (b : LineAt s after mid read (i + 1) l end) {at n : ℕ} {entry : List ℕ} (a : Begins s at n entry mid lane i m after) where
+    ends-with : first-call n (lines (drop at s)) ≡ added m lane (take i mid) (line-as l (drop (i + 1) read)) (lines (drop end s))
     ends-with =
         a .is ∙ ap (λ (x : rule.Line). added m lane (take i mid) x (other-lines (lines (drop after s)))) (sym (b .reads))
-        ∙ ap (added m lane (take i mid) (line-as l (drop i read))) (sym (b .others))
+        ∙ ap (added m lane (take i mid) (line-as l (drop (i + 1) read))) (sym (b .others))
 
     begun-past : (j : ℕ) → i ≤ j → drop j mid ≡ drop j entry
     begun-past j h = drop-past i j mid entry h (a .into-past)
 
-    both-beyond : drop (length s / 2) read ≡ drop (length s / 2) entry
-    both-beyond = drop-past (i + (length s - after) / 2) (length s / 2) read mid (omega arith) (b .into-beyond) ∙ begun-past (length s / 2) (omega arith)
+    -- the inputs were left alone
+    inputs-stay : take i mid ≡ take i read
+    inputs-stay = sym (take-take i (i + 1) mid (omega arith)) ∙ ap (take i) (sym (b .kept)) ∙ take-take i (i + 1) read (omega arith)
 
-  pub no-outputs : {l : Line} → LineAt s after mid read i l end → ((r : List ℕ) → rule.outputs-of (line-as l r) ≡ none) → AddRead s after m lane i mid read (next.Malformed m)
+    both-beyond : drop (length s / 2 + 1) read ≡ drop (length s / 2 + 1) entry
+    both-beyond =
+        drop-past (i + 1 + (length s - after) / 2) (length s / 2 + 1) read mid (omega arith) (b .into-beyond) ∙ begun-past (length s / 2 + 1) (omega arith)
+
+  pub no-outputs : {l : Line} → LineAt s after mid read (i + 1) l end → ((r : List ℕ) → rule.outputs-of (line-as l r) ≡ none) → AddRead s after m lane i mid read (next.Malformed m)
   unfolding added
-  no-outputs b e at n entry a = record { is = ends-with b a ∙ rw (added, e (drop i read)); next = tt; into = tt; into-beyond = both-beyond b a }
+  no-outputs b e at n entry a = record { is = ends-with b a ∙ rw (added, e (drop (i + 1) read)); next = tt; into = tt; into-beyond = both-beyond b a }
 
-  pub an-add : (o : ℕ) → LineAt s after mid read i (line.Outputs o) end → AddRead s after m lane i mid read (next.Call (call.Add lane i o) m end)
+  pub an-add : (o : ℕ) → LineAt s after mid read (i + 1) (line.Outputs o) end → AddRead s after m lane i mid read (next.Call (call.Add lane i o) m end)
   unfolding added
   an-add o b at n entry a =
       let well : line.Outputs o ≡ line.Malformed → ⊥ = λ e. let z : _≡_ {A = ℕ} 0 1 = cc in omega arith in
       record {
-        is = ends-with b a ∙ ap (λ (y : List ℕ). found (calls.add lane y (take o (drop i read))) m (lines (drop end s))) (sym (b .kept));
+        is = ends-with b a ∙ ap (λ (y : List ℕ). found (calls.add lane y (take o (drop (i + 1) read))) m (lines (drop end s))) (inputs-stay b a);
         next = record { end = b .end ∙ a .end; within = b .within; past = omega (arith, a .past, reaches b well) };
-        into = (b .room, keeps-past b well (i + o) (omega arith) ∙ begun-past b a (i + o) (omega arith));
+        into = (b .room, keeps-past b well (i + 1 + o) (omega arith) ∙ begun-past b a (i + 1 + o) (omega arith));
         into-beyond = both-beyond b a;
       }
 
@@ -265,7 +276,7 @@ module _ {s entry mid : List ℕ} {after : ℕ} where
 
   pub no-line-1 : {l : Line} → ((r : List ℕ) → rule.parallelism-of (line-as l r) ≡ none) → LineAt s 0 entry mid 0 l after → HeadRead s (head.Malformed 1) entry mid
   unfolding heading-1
-  no-line-1 e a = record { is = heads-with a ∙ rw (heading-1, e mid); starts = omega arith; into = beyond a }
+  no-line-1 e a = record { is = heads-with a ∙ rw (heading-1, e mid); starts = omega arith; into = head-beyond a }
 
   module _ (P : ℕ) (a : LineAt s 0 entry mid 0 (line.Parallelism P) after) where
     well-1 : line.Parallelism P ≡ line.Malformed → ⊥
@@ -281,7 +292,7 @@ module _ {s entry mid : List ℕ} {after : ℕ} where
 
     pub no-line-2 : {exit : List ℕ} {end : ℕ} {m : Line} → ((r : List ℕ) → rule.places-of (line-as m r) ≡ none) → LineAt s after mid exit 0 m end → HeadRead s (head.Malformed 2) entry exit
     unfolding heading-2
-    no-line-2 {exit} e b = record { is = heads-on b ∙ rw (heading-2, e exit); starts = omega arith; into = beyond b ∙ ap (drop (length s / 2)) first-keeps }
+    no-line-2 {exit} e b = record { is = heads-on b ∙ rw (heading-2, e exit); starts = omega arith; into = head-beyond b ∙ ap (drop (length s / 2)) first-keeps }
 
     pub the-head : {exit : List ℕ} {end : ℕ} (N : ℕ) → LineAt s after mid exit 0 (line.Places N) end → HeadRead s (head.Sizes P N end) entry exit
     unfolding heading-2

@@ -69,15 +69,16 @@ started n l rest =
 unfoldable pub first-call : ℕ → List (List ℕ) → FirstCall
 first-call n ls = started n (first-line ls) (other-lines ls)
 
--- the call that the code's tells, the numbers of its lists standing at the start of `read`, and how many they are
+-- the call that the code's tells, the numbers of its lists standing at the start of `read` with one number free between them, and how many
+-- they take with that one
 abbrev pub call-of : Call → List ℕ → calls.Call
 call-of (call.Set x) read = calls.set x
-call-of (call.Add lane i o) read = calls.add lane (take i read) (take o (drop i read))
+call-of (call.Add lane i o) read = calls.add lane (take i read) (take o (drop (i + 1) read))
 call-of call.Flush read = calls.flush
 
 abbrev pub taken-by : Call → ℕ
 taken-by (call.Set x) = 0
-taken-by (call.Add lane i o) = i + o
+taken-by (call.Add lane i o) = i + 1 + o
 taken-by call.Flush = 0
 
 -- the first call that an answer tells
@@ -105,12 +106,12 @@ keeps (next.Final m after) entry read = read ≡ entry
 keeps (next.Malformed m) entry read = Unit {0}
 
 -- the call of the job s at `at`, its first line having number n, was read; at most half as many numbers have changed as the job has bytes,
--- also where it is malformed
+-- and the free one more, also where it is malformed
 pub record NextCall (s : List ℕ) (at n : ℕ) (entry read : List ℕ) (r : Next) : Type 0 where
   pub is : first-call n (lines (drop at s)) ≡ first-as s read r
   pub next : follows s at n r
   pub into : keeps r entry read
-  pub into-beyond : drop (length s / 2) read ≡ drop (length s / 2) entry
+  pub into-beyond : drop (length s / 2 + 1) read ≡ drop (length s / 2 + 1) entry
 
 -- the lines at `at`, from line n on, begin an add: its lane is read, and its i inputs, which stand at the start of storage; its `out=` line
 -- must be line m, at `after`; each line has a byte, and each number of a list two

@@ -29,7 +29,8 @@ pub fn line_at(job: &[u8], at: usize, into: &mut [u64], off: usize) -> Got
     }
 }
 
-// A call that others may follow. The numbers of an add's lists stand in storage, the inputs first, the outputs behind them.
+// A call that others may follow. The numbers of an add's lists stand in storage, the inputs first, the outputs behind them, with one number
+// between that is left free, for the outputs' count.
 pub enum Call {
     Set {
         place: u64,
@@ -50,7 +51,8 @@ pub enum Next {
     Malformed { line: u64 },
 }
 
-// Reads the last line of an add, which is `line`, at `at`. Its lane is known, and its inputs stand at the start of `into`.
+// Reads the last line of an add, which is `line`, at `at`. Its lane is known, and its inputs stand at the start of `into`; the number behind
+// them is left free.
 fn read_outputs(
     job: &[u8],
     at: usize,
@@ -59,10 +61,10 @@ fn read_outputs(
     inputs: usize,
     into: &mut [u64],
 ) -> Next
-    requires { ⌜ (at ≤ length (now job)) × ((2 * inputs ≤ at) × (length (now job) ≤ 2 * length (now into))) ⌝ }
+    requires { ⌜ (at ≤ length (now job)) × ((2 * inputs ≤ at) × (length (now job) + 2 ≤ 2 * length (now into))) ⌝ }
     ensures { λ r. ⌜ AddRead (now (job .entry)) at line lane inputs (now (into .entry)) (now (into .exit)) r ⌝ }
 {
-    let a = line_at(job, at, into, inputs);
+    let a = line_at(job, at, into, inputs + 1);
     let l = a.line;
     let next = a.next;
     let Line::Outputs(outputs) = l else {
@@ -78,7 +80,7 @@ fn read_outputs(
 
 // Reads the call whose first line is `line`, at `at`.
 pub fn next_call(job: &[u8], at: usize, line: u64, into: &mut [u64]) -> Next
-    requires { ⌜ (at ≤ length (now job)) × ((length (now job) ≤ 2 * length (now into)) × (line ≤ 4294967296)) ⌝ }
+    requires { ⌜ (at ≤ length (now job)) × ((length (now job) + 2 ≤ 2 * length (now into)) × (line ≤ 4294967296)) ⌝ }
     ensures { λ r. ⌜ NextCall (now (job .entry)) at line (now (into .entry)) (now (into .exit)) r ⌝ }
 {
     let a = line_at(job, at, into, 0);

@@ -1,4 +1,4 @@
--- The `out=` line behind the inputs that were read. Assumes nothing.
+-- The `out=` line behind the inputs that were read and a free number. Assumes nothing.
 use Rattle.jobcalls.specs.Laws.{told-as, an-add, no-outputs}
 use Rattle.jobcalls.proofs.Others.{no-outputs-of}
 use borrow.Author.Needs.{needs}
@@ -11,6 +11,9 @@ start c = c .before .before .before .before
 
 abbrev read : tie.After-slice-known2 → tie.After-line-at
 read c = c .before .before
+
+add-line-at : tie.Need-add-line-at
+add-line-at c = search needs
 
 line-at-requires : tie.Need-line-at-requires
 line-at-requires c κs = search needs
@@ -38,4 +41,4 @@ returns-2 c =
     an-add (start .args .line) (start .args .lane) _ (start .pre .1 .0) (start .pre .0) _ (told-as (read .line-at .ensures) (told .l .given .1))
 
 pub read-outputs-spec : {M : Type 1} → statement M
-read-outputs-spec = tie.close (tie.spec line-at-requires enum-known-l same-length returns same-length-2 returns-2)
+read-outputs-spec = tie.close (tie.spec add-line-at line-at-requires enum-known-l same-length returns same-length-2 returns-2)
