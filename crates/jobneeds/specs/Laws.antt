@@ -95,7 +95,7 @@ pub record Counting (job : List ℕ) (start at n : ℕ) (c : Needs) : Type 0 whe
   pub inside : at ≤ length job
   pub low : n ≤ at + 3
   pub few : c .registrations + c .flushes ≤ at
-  pub small : c .pool ≤ most-job-bytes / 2 * at
+  pub small : c .pool ≤ (most-job-bytes / 2 + 1) * at
   pub is : remains job start 3 no-needs ≡ remains job at n (needs-of c)
 
 pub counting-begins : {job : List ℕ} {room start : ℕ} → MayRead job room start → Counting job start start 3 (record { registrations = 0; pool = 0; flushes = 0 })
@@ -126,7 +126,7 @@ module _ (c : Needs) {x : Call} where
       added-is : Counts c (call.Add lane i o) (record { registrations = c .registrations + 1; pool = c .pool + (i + o); flushes = c .flushes })
       added-is read h =
           let p : length (take i read) ≡ i = rw (length-take i read) (omega arith) in
-          let q : length (take o (drop i read)) ≡ o = rw (length-take o (drop i read), length-drop i read) (omega arith) in
+          let q : length (take o (drop (i + 1) read)) ≡ o = rw (length-take o (drop (i + 1) read), length-drop (i + 1) read) (omega arith) in
           let r : c .pool + (i + o) ≡ c .pool + i + o = omega arith in
           rw (p, q, r, add-one (c .registrations))
 
@@ -146,7 +146,7 @@ raised-few calls.final c = omega arith
 raised-small : (x : Call) (read : List ℕ) (c : rule.Needs) → with-call (call-of x read) c .pool ≤ c .pool + taken-by x
 unfolding with-call
 raised-small (call.Set x) read c = omega arith
-raised-small (call.Add lane i o) read c = omega (arith, length-take i read, length-take o (drop i read))
+raised-small (call.Add lane i o) read c = omega (arith, length-take i read, length-take o (drop (i + 1) read))
 raised-small call.Flush read c = omega arith
 
 module _ {job entry read : List ℕ} {start room at n : ℕ} {c : Needs} (M : MayRead job room start) (C : Counting job start at n c) where
@@ -247,7 +247,7 @@ module _ {job entry exit : List ℕ} (short : length job ≤ most-job-bytes) {h 
     sized-head : HeadRead job (head.Sizes P N start) entry exit
     sized-head = subst (λ (x : Head). HeadRead job x entry exit) e r
 
-    pub may-read : (room : ℕ) → room ≡ most-job-bytes / 2 → MayRead job room start
+    pub may-read : (room : ℕ) → room ≡ most-job-bytes / 2 + 1 → MayRead job room start
     may-read room q = record { inside = sized-head .starts .1 .0; short = short; room-is = q }
 
     pub told-read : (x : Reading) → reading-as x ≡ remains job start 3 no-needs → reading-as x ≡ needs job

@@ -38,8 +38,8 @@ Few c = c .registrations + c .flushes ≤ most-job-bytes
 unfoldable pub remains : List ℕ → ℕ → ℕ → rule.Needs → rule.Reading
 remains job at n c = rule.need-lines n nothing (lines (drop at job)) (ragged (drop at job)) c
 
--- the calls can be read from `start` on, with room for the numbers of a list
+-- the calls can be read from `start` on, with room for the numbers of a call's lists and the free one between them
 pub record MayRead (job : List ℕ) (room start : ℕ) : Type 0 where
   pub inside : start ≤ length job
   pub short : length job ≤ most-job-bytes
-  pub room-is : room ≡ most-job-bytes / 2
+  pub room-is : room ≡ most-job-bytes / 2 + 1

@@ -93,7 +93,8 @@ fn read_calls(job: &[u8], start: usize, into: &mut [u64]) -> Reading
     }
 }
 
-// What a job of any length needs. The lists of one that is not too long have at most half as many numbers as it has bytes.
+// What a job of any length needs. The lists of one that is not too long have at most half as many numbers as it has bytes, and between those of
+// an add one number is left free.
 pub fn read_needs(job: &[u8]) -> Reading
     ensures { λ r. ⌜ reading-as r ≡ rules.needs (now (job .entry)) ⌝ }
 {
@@ -101,7 +102,7 @@ pub fn read_needs(job: &[u8]) -> Reading
         let code = rules::LONG_JOB;
         return Reading::Unread { line: 1, code };
     }
-    let mut into = [0u64; rules::MOST_JOB_BYTES / 2];
+    let mut into = [0u64; rules::MOST_JOB_BYTES / 2 + 1];
     let head = jobcalls::read_head(job, &mut into);
     match head {
         Head::Sizes { next, .. } => read_calls(job, next, &mut into),
