@@ -13,6 +13,10 @@ use borrow.Author.Tests.{le-leb}
 use Rattle.rules.specs.Calls.{Call, set as set-call, add as add-call}
 use Rattle.rules.specs.Encoding.{set-tag, lane-add-tag, counted, set-front, add-outs, add-front, lane-front, front}
 
+-- how many numbers stand before the inputs of an add whose lane is told: its tag, the lane, the count of inputs
+abbrev pub before-inputs : ℕ
+before-inputs = 3
+
 -- the call c stands alone in the first r numbers, and what lies past them is as it was
 pub record Put (c : Call) (entry exit : List ℕ) (r : ℕ) : Type 0 where
   pub is : front (take r exit) ≡ some (record { call = c; rest = [] })

@@ -6,7 +6,7 @@ ghost use lib.ListN.{length, take, drop};
 ghost use Rattle.rules.specs.Calls.{set as set-call, add as add-call};
 ghost use Rattle.rules.specs.Encoding.{front, counted};
 ghost use Rattle.encoding.specs.Ends.{ListEnds, AddEnds, Ends, Counts};
-ghost use Rattle.encoding.specs.Put.{Put};
+ghost use Rattle.encoding.specs.Put.{before-inputs, Put};
 
 // The tags that calls begin with.
 pub const SET: u64 = 1;
@@ -121,7 +121,8 @@ pub const BEFORE_INPUTS: usize = 3;
 // Puts a set of place x at the start of `into`; how many numbers it takes.
 pub fn put_set(into: &mut [u64], x: u64) -> usize
     requires { ⌜ 2 ≤ length (now into) ⌝ }
-    ensures { λ r. ⌜ Put (set-call x) (now (into .entry)) (now (into .exit)) r ⌝ }
+    ensures put { λ r. ⌜ Put (set-call x) (now (into .entry)) (now (into .exit)) r ⌝ }
+    ensures takes { λ r. ⌜ r ≡ 2 ⌝ }
 {
     into[0] = SET;
     into[1] = x;
@@ -132,7 +133,9 @@ pub fn put_set(into: &mut [u64], x: u64) -> usize
 // How many numbers it takes.
 pub fn put_add(into: &mut [u64], lane: u64, inputs: usize, outputs: usize) -> usize
     requires { ⌜ inputs + outputs + 4 ≤ length (now into) ⌝ }
-    ensures { λ r. ⌜ Put (add-call lane (take inputs (drop 3 (now (into .entry)))) (take outputs (drop (inputs + 4) (now (into .entry))))) (now (into .entry)) (now (into .exit)) r ⌝ }
+    ensures put { λ r. ⌜ Put (add-call lane (take inputs (drop before-inputs (now (into .entry)))) (take outputs (drop (inputs + 4) (now (into .entry)))))
+        (now (into .entry)) (now (into .exit)) r ⌝ }
+    ensures takes { λ r. ⌜ r ≡ inputs + outputs + 4 ⌝ }
 {
     let middle = BEFORE_INPUTS + inputs;
     into[0] = LANE_ADD;

@@ -105,24 +105,24 @@ module _ {s entry read : List ℕ} {at after : ℕ} where
   unfolding started
   a-set n x a =
       let well : line.Set x ≡ line.Malformed → ⊥ = λ e. let z : _≡_ {A = ℕ} 0 1 = cc in omega arith in
-      record { is = starts-with n a; next = one-follows n a well refl; into = (omega arith, one-keeps n a well refl); into-beyond = call-beyond a }
+      record { is = starts-with n a; next = one-follows n a well refl; into = (omega arith, one-keeps n a well refl); listed = omega arith; into-beyond = call-beyond a }
 
   pub a-flush : (n : ℕ) → LineAt s at entry read 0 line.Flush after → NextCall s at n entry read (next.Call call.Flush n after)
   unfolding started
   a-flush n a =
       let well : line.Flush ≡ line.Malformed → ⊥ = λ e. let z : _≡_ {A = ℕ} 0 1 = cc in omega arith in
-      record { is = starts-with n a; next = one-follows n a well refl; into = (omega arith, one-keeps n a well refl); into-beyond = call-beyond a }
+      record { is = starts-with n a; next = one-follows n a well refl; into = (omega arith, one-keeps n a well refl); listed = omega arith; into-beyond = call-beyond a }
 
   pub a-final : (n : ℕ) → LineAt s at entry read 0 line.Final after → NextCall s at n entry read (next.Final n after)
   unfolding started
   a-final n a =
       let well : line.Final ≡ line.Malformed → ⊥ = λ e. let z : _≡_ {A = ℕ} 0 1 = cc in omega arith in
-      record { is = starts-with n a; next = one-follows n a well refl; into = one-keeps n a well refl; into-beyond = call-beyond a }
+      record { is = starts-with n a; next = one-follows n a well refl; into = one-keeps n a well refl; listed = tt; into-beyond = call-beyond a }
 
   -- a line with which no call starts
   pub no-start : (n : ℕ) {l : Line} → ((r : List ℕ) → rule.start-of (line-as l r) ≡ none) → LineAt s at entry read 0 l after → NextCall s at n entry read (next.Malformed n)
   unfolding started
-  no-start n e a = record { is = starts-with n a ∙ rw (started, e read); next = tt; into = tt; into-beyond = call-beyond a }
+  no-start n e a = record { is = starts-with n a ∙ rw (started, e read); next = tt; into = tt; listed = tt; into-beyond = call-beyond a }
 
 -- an add begins with its i inputs
 module _ {s entry mid : List ℕ} {at after : ℕ} (i : ℕ) (a : LineAt s at entry mid 0 (line.Inputs i) after) where
@@ -161,7 +161,7 @@ module _ {s entry mid : List ℕ} {at after : ℕ} (lane : ℕ) (a : LineAt s at
 
     pub no-inputs : ((r : List ℕ) → rule.inputs-of (line-as m r) ≡ none) → NextCall s at n entry read (next.Malformed (n + 1))
     unfolding after-lane
-    no-inputs e = record { is = goes-with ∙ rw (after-lane, e read); next = tt; into = tt; into-beyond = call-beyond b ∙ ap (drop (length s / 2 + 1)) lane-keeps }
+    no-inputs e = record { is = goes-with ∙ rw (after-lane, e read); next = tt; into = tt; listed = tt; into-beyond = call-beyond b ∙ ap (drop (length s / 2 + 1)) lane-keeps }
 
   pub with-lane : (n : ℕ) {read : List ℕ} {end : ℕ} (i : ℕ) → LineAt s after mid read 0 (line.Inputs i) end → Begins s at n entry read lane i (n + 2) end
   unfolding after-lane
@@ -195,7 +195,7 @@ module _ {s mid read : List ℕ} {after end : ℕ} (m lane i : ℕ) (low : 2 * i
 
   pub no-outputs : {l : Line} → LineAt s after mid read (i + 1) l end → ((r : List ℕ) → rule.outputs-of (line-as l r) ≡ none) → AddRead s after m lane i mid read (next.Malformed m)
   unfolding added
-  no-outputs b e at n entry a = record { is = ends-with b a ∙ rw (added, e (drop (i + 1) read)); next = tt; into = tt; into-beyond = both-beyond b a }
+  no-outputs b e at n entry a = record { is = ends-with b a ∙ rw (added, e (drop (i + 1) read)); next = tt; into = tt; listed = tt; into-beyond = both-beyond b a }
 
   pub an-add : (o : ℕ) → LineAt s after mid read (i + 1) (line.Outputs o) end → AddRead s after m lane i mid read (next.Call (call.Add lane i o) m end)
   unfolding added
@@ -205,6 +205,7 @@ module _ {s mid read : List ℕ} {after end : ℕ} (m lane i : ℕ) (low : 2 * i
         is = ends-with b a ∙ ap (λ (y : List ℕ). found (calls.add lane y (take o (drop (i + 1) read))) m (lines (drop end s))) (inputs-stay b a);
         next = record { end = b .end ∙ a .end; within = b .within; past = omega (arith, a .past, reaches b well) };
         into = (b .room, keeps-past b well (i + 1 + o) (omega arith) ∙ begun-past b a (i + 1 + o) (omega arith));
+        listed = omega (arith, low, reaches b well, b .within);
         into-beyond = both-beyond b a;
       }
 

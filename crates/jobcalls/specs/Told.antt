@@ -105,12 +105,19 @@ keeps (next.Call c m after) entry read = (taken-by c ≤ length read) × (drop (
 keeps (next.Final m after) entry read = read ≡ entry
 keeps (next.Malformed m) entry read = Unit {0}
 
+-- the lists of a call have at most half as many numbers as the job has bytes, and one is free between them
+abbrev pub few : List ℕ → Next → Type 0
+few s (next.Call c m after) = 2 * taken-by c ≤ length s + 2
+few s (next.Final m after) = Unit {0}
+few s (next.Malformed m) = Unit {0}
+
 -- the call of the job s at `at`, its first line having number n, was read; at most half as many numbers have changed as the job has bytes,
 -- and the free one more, also where it is malformed
 pub record NextCall (s : List ℕ) (at n : ℕ) (entry read : List ℕ) (r : Next) : Type 0 where
   pub is : first-call n (lines (drop at s)) ≡ first-as s read r
   pub next : follows s at n r
   pub into : keeps r entry read
+  pub listed : few s r
   pub into-beyond : drop (length s / 2 + 1) read ≡ drop (length s / 2 + 1) entry
 
 -- the lines at `at`, from line n on, begin an add: its lane is read, and its i inputs, which stand at the start of storage; its `out=` line

@@ -9,6 +9,7 @@ use native.Mathlib.Nat.{suc-ne-zero}
 use native.Mathlib.Numerals.{add-one}
 use native.Mathlib.Omega.{arith}
 use lib.ListN.{length, take, drop, length-drop}
+use lib.Seq.{drop-drop}
 use borrow.Author.Tests.{eq-eqb, ne-eqb}
 use Rattle.rules.specs.Model.{Model}
 use Rattle.rules.specs.Calls as calls
@@ -18,8 +19,9 @@ use Rattle.rules.specs.Record.{summary}
 use Rattle.rules.specs.Refusals as refusal
 use Rattle.rules.specs.Summary as rule
 use Rattle.laws.specs.Accepted.{call-code}
+use Rattle.encoding.specs.Put.{before-inputs}
 use Rattle.session.specs.declared.Session.{Session}
-use Rattle.session.specs.Storage.{Storage, Beyond, beyond-drop, frame-refl}
+use Rattle.session.specs.Storage.{Storage, Beyond, beyond-drop, beyond-trans, frame-refl}
 use Rattle.session.specs.Showing.{shows}
 use Rattle.admitting.specs.Promise.{Asks, Called, step-refused}
 use Rattle.sorter.specs.Chain.{follows-step}
@@ -34,6 +36,7 @@ use Rattle.jobcalls.specs.Runs.{reads, makes, goes, call-runs}
 use Rattle.jobturn.specs.declared.End.the-variants as end
 use Rattle.jobturn.specs.declared.Step.{Step}
 use Rattle.jobturn.specs.declared.Step.the-variants as step′
+use Rattle.jobturn.specs.Putting.{Puts}
 use Rattle.jobturn.specs.Turned.{AfterCall, AfterFinal, remains, StandsFor, Accepts, end-figures, FiguresOf, Turned}
 
 -- the end of a job: nothing may follow final
@@ -70,7 +73,7 @@ module _ (P N W m : ℕ) (rest : List (List ℕ)) (rag : Bool) (k : Model) where
       → goes P N W (found (call-of c read) m rest) rag k ≡ reads P N W (suc m) nothing rest rag (step P N W (call-of c read) k)
   unfolding goes
   goes-on (call.Set x) read h = makes-on (calls.set x) h
-  goes-on (call.Add l i o) read h = makes-on (calls.add l (take i read) (take o (drop i read))) h
+  goes-on (call.Add l i o) read h = makes-on (calls.add l (take i read) (take o (drop (i + 1) read))) h
   goes-on call.Flush read h = makes-on calls.flush h
 
   goes-final : answer N W calls.final k ≡ 0
@@ -88,12 +91,25 @@ module _ {job entry read : List ℕ} {at n : ℕ} {r : Next} (c : NextCall job a
   unfolding remains
   begins P N W k = call-runs c P N W (ragged (drop at job)) k
 
-  numbers : length read ≡ length entry → Beyond (length job / 2) entry read
-  numbers same = beyond-drop (length job / 2) (length job / 2) entry read (omega arith) same (c .into-beyond)
-
   -- its line is the first, or one of the two after it
   pub near : Near n (first-as job read r)
   near = subst (λ (f : FirstCall). Near n f) (c .is) (line-near n (lines (drop at job)))
+
+-- what reading a call leaves of the storage for numbers, and then putting it down
+module _ {job a mid : List ℕ} {at n : ℕ} {r : Next} (c : NextCall job at n (drop before-inputs a) (drop before-inputs mid) r) (same : length mid ≡ length a) where
+  pub numbers-read : Beyond (length job / 2 + 4) a mid
+  numbers-read =
+      let k : before-inputs + (length job / 2 + 1) ≡ length job / 2 + 4 = omega arith in
+      let far : (l : List ℕ) → drop (length job / 2 + 1) (drop before-inputs l) ≡ drop (length job / 2 + 4) l =
+      λ l. drop-drop (length job / 2 + 1) before-inputs l ∙ ap (λ (j : ℕ). drop j l) k
+      in
+      beyond-drop (length job / 2 + 4) (length job / 2 + 4) a mid (omega arith) same (sym (far mid) ∙ c .into-beyond ∙ far a)
+
+pub numbers-put : {job a mid b : List ℕ} {at n m after i : ℕ} {x : Call} → NextCall job at n (drop before-inputs a) (drop before-inputs mid) (next.Call x m after)
+    → length mid ≡ length a → length b ≡ length mid → Puts x mid b i → Beyond (length job / 2 + 4) a b
+numbers-put {job} {a} {mid} {b} {x = x} c same long p =
+    beyond-trans (length job / 2 + 4) (length job / 2 + 4) a mid b (omega arith) (numbers-read c same)
+    (beyond-drop (before-inputs + taken-by x) (length job / 2 + 4) mid b (omega (arith, c .listed)) long (p .past))
 
 -- a call that was made leads from the model before it to the one after it
 stepped : {d : calls.Call} {num : ℕ} {s s′ : Session} {σ σ′ : Storage} → Called d num s s′ σ σ′ → (P N W : ℕ) (k : Model) → 1 ≤ P → StandsFor P N W s σ k
@@ -102,22 +118,22 @@ stepped {d} {num} {s} {s′} {σ} {σ′} made P N W k hP h =
     let f = follows-step P N W hP d k num s s′ σ σ′ (h .pool) (h .rep) (h .between) made in
     (f .0, record { rep = f .1; between = f .2; pool = f .3 })
 
-module _ {job entry read : List ℕ} {at n : ℕ} (s : Session) (σ : Storage) (same : length read ≡ length entry) where
-  pub turn-malformed : (m : ℕ) → NextCall job at n entry read (next.Malformed m) → Turned job at n s (step′.Ended (end.Rejected m refusal.malformed)) s σ σ entry read
+module _ {job entry read a b : List ℕ} {at n : ℕ} (s : Session) (σ : Storage) (far : Beyond (length job / 2 + 4) a b) where
+  pub turn-malformed : (m : ℕ) → NextCall job at n entry read (next.Malformed m) → Turned job at n s (step′.Ended (end.Rejected m refusal.malformed)) s σ σ a b
   unfolding goes
   turn-malformed m c =
       record {
         tells = λ P N W k hP h. inl (record { session = refl; storage = refl; is = begins c P N W k });
         further = (omega (arith, near c), omega arith);
         frame = frame-refl _ _ _ σ;
-        into = numbers c same;
+        into = far;
       }
 
   -- a call that was made, or final
   module _ (d : calls.Call) {num : ℕ} {s′ : Session} {σ′ : Storage} (made : Called d num s s′ σ σ′) where
     -- refused on line m
     stopped : (m : ℕ) {r : Next} (c : NextCall job at n entry read r) (after : ℕ) → first-as job read r ≡ found d m (lines (drop after job)) → Asks s σ → (num ≡ 0 → ⊥)
-        → Turned job at n s (step′.Ended (end.Rejected m num)) s′ σ σ′ entry read
+        → Turned job at n s (step′.Ended (end.Rejected m num)) s′ σ σ′ a b
     stopped m {r} c after e q z =
         let x = made .keeps (q .parallelism) (q .places) (q .model) (q .rep) (q .between) in
         let at-m : line-of (first-as job read r) ≡ m = ap line-of e in
@@ -133,16 +149,16 @@ module _ {job entry read : List ℕ} {at n : ℕ} (s : Session) (σ : Storage) (
               });
           further = (omega (arith, near c, at-m), rw (x .0) (call-code (q .places) (length (σ .pool)) d (q .model) .0));
           frame = made .frame;
-          into = numbers c same;
+          into = far;
         }
 
   pub turn-call : (x : Call) (m after : ℕ) → NextCall job at n entry read (next.Call x m after)
       → {num : ℕ} {s′ : Session} {σ′ : Storage} → Called (call-of x read) num s s′ σ σ′ → Asks s σ
-      → {r : Step} → AfterCall num m after r → Turned job at n s r s′ σ σ′ entry read
+      → {r : Step} → AfterCall num m after r → Turned job at n s r s′ σ σ′ a b
   unfolding remains
   turn-call x m after c {num} {s′} {σ′} made q {r} told = go (by-number num)
     where
-      accepted : num ≡ 0 → Turned job at n s (step′.On after (m + 1)) s′ σ σ′ entry read
+      accepted : num ≡ 0 → Turned job at n s (step′.On after (m + 1)) s′ σ σ′ a b
       accepted z =
           record {
             tells = λ P N W k hP h.
@@ -158,10 +174,10 @@ module _ {job entry read : List ℕ} {at n : ℕ} (s : Session) (σ : Storage) (
                 );
             further = (omega (arith, near c, c .next .past), (c .next .within, omega (arith, c .next .past)));
             frame = made .frame;
-            into = numbers c same;
+            into = far;
           }
 
-      go : (num ≡ 0) ⊎ (num ≡ 0 → ⊥) → Turned job at n s r s′ σ σ′ entry read
+      go : (num ≡ 0) ⊎ (num ≡ 0 → ⊥) → Turned job at n s r s′ σ σ′ a b
       go (inl z) = rw (told .accepted z) (accepted z)
       go (inr z) = rw (told .refused z) (stopped (call-of x read) made m c after refl q z)
 
@@ -193,7 +209,7 @@ module _ {job entry read : List ℕ} {at n : ℕ} (s : Session) (σ : Storage) (
             median-is = ap (λ (y : rule.Figures). y .median) (rw (h .pool) at e);
           }
 
-    finished-turn : num ≡ 0 → after ≡ length job → Turned job at n s (step′.Ended (end.Finished (end-figures s′ f))) s′ σ σ′ entry read
+    finished-turn : num ≡ 0 → after ≡ length job → Turned job at n s (step′.Ended (end.Finished (end-figures s′ f))) s′ σ σ′ a b
     finished-turn z e =
         record {
           tells = λ P N W k hP h.
@@ -205,10 +221,10 @@ module _ {job entry read : List ℕ} {at n : ℕ} (s : Session) (σ : Storage) (
               };
           further = tt;
           frame = done .called .frame;
-          into = numbers c same;
+          into = far;
         }
 
-    surplus-turn : num ≡ 0 → (after ≡ length job → ⊥) → Turned job at n s (step′.Ended (end.Rejected (m + 1) refusal.malformed)) s′ σ σ′ entry read
+    surplus-turn : num ≡ 0 → (after ≡ length job → ⊥) → Turned job at n s (step′.Ended (end.Rejected (m + 1) refusal.malformed)) s′ σ σ′ a b
     surplus-turn z e =
         record {
           tells = λ P N W k hP h.
@@ -221,38 +237,22 @@ module _ {job entry read : List ℕ} {at n : ℕ} (s : Session) (σ : Storage) (
               });
           further = (omega (arith, near c), omega arith);
           frame = done .called .frame;
-          into = numbers c same;
+          into = far;
         }
 
-    pub turn-final : {r : Step} → AfterFinal num m after (length job) (end-figures s′ f) r → Turned job at n s r s′ σ σ′ entry read
+    pub turn-final : {r : Step} → AfterFinal num m after (length job) (end-figures s′ f) r → Turned job at n s r s′ σ σ′ a b
     turn-final {r} told = go (by-number num)
       where
-        ended : num ≡ 0 → (after ≡ length job) ⊎ (after ≡ length job → ⊥) → Turned job at n s r s′ σ σ′ entry read
+        ended : num ≡ 0 → (after ≡ length job) ⊎ (after ≡ length job → ⊥) → Turned job at n s r s′ σ σ′ a b
         ended z (inl e) = rw (told .last z e) (finished-turn z e)
         ended z (inr e) = rw (told .surplus z e) (surplus-turn z e)
 
         same? : (after ≡ length job) ⊎ (after ≡ length job → ⊥)
         same? = elim (decLt after (length job)) [ yes lt ↦ inr (λ e. omega arith) | no ge ↦ inl (omega (arith, c .next .within)) ]
 
-        go : (num ≡ 0) ⊎ (num ≡ 0 → ⊥) → Turned job at n s r s′ σ σ′ entry read
+        go : (num ≡ 0) ⊎ (num ≡ 0 → ⊥) → Turned job at n s r s′ σ σ′ a b
         go (inl z) = ended z same?
         go (inr z) = rw (told .refused z) (stopped calls.final (done .called) m c after refl q z)
-
--- a call by what is told of it
-pub called-as : (numbers : List ℕ) {x y : Call} {n : ℕ} {s s′ : Session} {σ σ′ : Storage} → x ≡ y → Called (call-of y numbers) n s s′ σ σ′
-    → Called (call-of x numbers) n s s′ σ σ′
-called-as numbers {n = n} {s} {s′} {σ} {σ′} e h = subst (λ (c : Call). Called (call-of c numbers) n s s′ σ σ′) (sym e) h
-
--- the lists of an add lie within the numbers
-pub lists-in : {x : Call} {l i o n : ℕ} → x ≡ call.Add l i o → taken-by x ≤ n → i + o ≤ n
-lists-in e h = omega (arith, ap taken-by e)
-
--- the lists of an add are its call's
-pub made-add : (l i o : ℕ) (numbers : List ℕ) {n : ℕ} {s s′ : Session} {σ σ′ : Storage}
-    → Called (calls.add l (take i numbers) (take (i + o - i) (drop i numbers))) n s s′ σ σ′ → Called (call-of (call.Add l i o) numbers) n s s′ σ σ′
-made-add l i o numbers {n} {s} {s′} {σ} {σ′} h =
-    let q : i + o - i ≡ o = omega arith in
-    subst (λ (j : ℕ). Called (calls.add l (take i numbers) (take j (drop i numbers))) n s s′ σ σ′) q h
 
 -- a wrong program shut out: a call refused by its own number, not for text after final, that changes session or storage
 pub refused-changes-none : {P N W m code at n : ℕ} {k : Model} {job a b : List ℕ} {s s′ : Session} {σ σ′ : Storage} → (code ≡ refusal.malformed → ⊥) → 1 ≤ P

@@ -104,12 +104,13 @@ Further job at n (step′.On next m) = (at < next) × ((next ≤ length job) × 
 pub record MayTurn (s : Session) (σ : Storage) (job : List ℕ) (room at n : ℕ) : Type 0 where
   pub asks : Asks s σ
   pub inside : at ≤ length job
-  pub half : length job ≤ 2 * room
+  pub half : length job + 8 ≤ 2 * room
   pub low : n < 2 ^ 32
 
--- a and b are the storage for numbers before and after: the job's lists have at most half as many numbers as it has bytes
+-- a and b are the storage for numbers before and after: the job's lists have at most half as many numbers as it has bytes, and an encoded add
+-- has four beside them
 pub record Turned (job : List ℕ) (at n : ℕ) (s : Session) (r : Step) (s′ : Session) (σ σ′ : Storage) (a b : List ℕ) : Type 0 where
   pub tells : (P N W : ℕ) (k : Model) → 1 ≤ P → StandsFor P N W s σ k → Tells P N W job k s s′ σ σ′ r (remains P N W job at n k)
   pub further : Further job at n r
   pub frame : Frame (s .guide .p) (s .guide .v) (s .guide .written) (s′ .guide .written) σ σ′
-  pub into : Beyond (length job / 2) a b
+  pub into : Beyond (length job / 2 + 4) a b

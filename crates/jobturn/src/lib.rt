@@ -1,16 +1,44 @@
 // One turn of a job: its next call is read and made.
-ghost use Prim.Native.Nat.{_+_, _≤_, _<_, _^_};
-ghost use lib.ListN.{length};
+ghost use Prim.Native.Nat.{_+_, _*_, _≤_, _<_, _^_};
+ghost use lib.ListN.{length, drop};
+ghost use Rattle.encoding.specs.Put.{before-inputs};
 ghost use Rattle.session.specs.Storage.{given, across};
-ghost use Rattle.admitting.specs.Promise.{Asks, Called};
-ghost use Rattle.jobcalls.specs.Told.{call-of, taken-by};
+ghost use Rattle.admitting.specs.Promise.{Asks};
+ghost use Rattle.call_runs.specs.Continuing.{OneCall};
+ghost use Rattle.jobcalls.specs.Told.{taken-by, NextCall};
 ghost use Rattle.jobturn.specs.Turned.{AfterCall, AfterFinal, FinalMade, MayTurn, Turned};
+ghost use Rattle.jobturn.specs.Putting.{Puts, Makes};
 use jobcalls::Call;
 use jobcalls::Next;
 use session::Session;
 use sorter::Answer;
 
-// Makes a call of a job on the session. The numbers of an add's lists stand at the start of `into`.
+// Reads the call at `at`, whose first line is `line`; the lists of an add go where they stand in an encoded one.
+fn read_call(job: &[u8], at: usize, line: u64, into: &mut [u64]) -> Next
+    requires { ⌜ (at ≤ length (now job)) × ((length (now job) + 8 ≤ 2 * length (now into)) × (line ≤ 4294967296)) ⌝ }
+    ensures { λ r. ⌜ NextCall (now (job .entry)) at line (drop before-inputs (now (into .entry))) (drop before-inputs (now (into .exit))) r ⌝ }
+{
+    let from = encoding::BEFORE_INPUTS;
+    jobcalls::next_call(job, at, line, &mut into[from..])
+}
+
+// Puts a set or an add down as numbers, at the start of `into`; how many they are, 0 for a flush.
+fn put(into: &mut [u64], call: Call) -> usize
+    requires { ⌜ before-inputs + taken-by call ≤ length (now into) ⌝ }
+    ensures { λ r. ⌜ Puts call (now (into .entry)) (now (into .exit)) r ⌝ }
+{
+    match call {
+        Call::Set { place } => encoding::put_set(into, place),
+        Call::Add {
+            lane,
+            inputs,
+            outputs,
+        } => encoding::put_add(into, lane, inputs, outputs),
+        Call::Flush => 0,
+    }
+}
+
+// Makes the set or add that the numbers are, or where there are none a flush.
 fn make(
     s: Session,
     spans: &mut [u32],
@@ -21,14 +49,13 @@ fn make(
     locations: &mut [u64],
     waiting: &mut [u64],
     pool: &mut [u32],
-    into: &[u64],
-    call: Call,
+    calls: &[u64],
 ) -> Answer
-    requires { ⌜ (Asks s (given spans order tally rows marks locations waiting pool)) × (taken-by call ≤ length (now into)) ⌝ }
-    ensures { λ r. ⌜ across spans order tally rows marks locations waiting pool (λ σ τ. Called (call-of call (now (into .entry))) (r .number) s (r .session) σ τ) ⌝ }
+    requires { ⌜ (Asks s (given spans order tally rows marks locations waiting pool)) × ((0 < length (now calls)) → OneCall (now calls)) ⌝ }
+    ensures { λ r. ⌜ across spans order tally rows marks locations waiting pool (λ σ τ. Makes (now (calls .entry)) (r .number) s (r .session) σ τ) ⌝ }
 {
-    match call {
-        Call::Set { place } => sorter::set(
+    if calls.len() == 0 {
+        return sorter::flush(
             s,
             spans,
             order,
@@ -38,41 +65,20 @@ fn make(
             locations,
             waiting,
             pool,
-            place,
-        ),
-        Call::Add {
-            lane,
-            inputs,
-            outputs,
-        } => {
-            let end = inputs + outputs;
-            sorter::add(
-                s,
-                spans,
-                order,
-                tally,
-                rows,
-                marks,
-                locations,
-                waiting,
-                pool,
-                &into[..inputs],
-                &into[inputs..end],
-                lane,
-            )
-        }
-        Call::Flush => sorter::flush(
-            s,
-            spans,
-            order,
-            tally,
-            rows,
-            marks,
-            locations,
-            waiting,
-            pool,
-        ),
+        );
     }
+    call_runs::make_one(
+        s,
+        spans,
+        order,
+        tally,
+        rows,
+        marks,
+        locations,
+        waiting,
+        pool,
+        calls,
+    )
 }
 
 // The numbers of a finished job that the head of its listing is made from: P, the order's length, the places that final fixed and the
@@ -193,9 +199,10 @@ pub fn run_call(
     requires { ⌜ MayTurn s (given spans order tally rows marks locations waiting pool) (now job) (length (now into)) at line ⌝ }
     ensures { λ r. ⌜ across spans order tally rows marks locations waiting pool (λ σ τ. Turned (now (job .entry)) at line s (r .step) (r .session) σ τ (now (into .entry)) (now (into .exit))) ⌝ }
 {
-    let read = jobcalls::next_call(job, at, line, into);
+    let read = read_call(job, at, line, into);
     match read {
         Next::Call { call, line, next } => {
+            let numbers = put(into, call);
             let a = make(
                 s,
                 spans,
@@ -206,8 +213,7 @@ pub fn run_call(
                 locations,
                 waiting,
                 pool,
-                into,
-                call,
+                &into[..numbers],
             );
             let step = after_call(a.number, line, next);
             let session = a.session;

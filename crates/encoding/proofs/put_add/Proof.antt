@@ -34,7 +34,7 @@ same-length : tie.Need-same-length
 same-length c = search needs
 
 returns : tie.Need-returns
-returns c = put-add (c .args .lane) (c .args .inputs) (c .args .outputs) _ (c .pre)
+returns c = (put-add (c .args .lane) (c .args .inputs) (c .args .outputs) _ (c .pre), omega arith)
 
 pub put-add-spec : {M : Type 1} → statement M
 put-add-spec =
