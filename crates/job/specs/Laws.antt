@@ -48,7 +48,7 @@ pub record Running (s : Session) (σ : Storage) (job : List ℕ) (start : ℕ) (
   pub inside : at ≤ length job
   pub low : n ≤ at + 3
   pub stands : (P N : ℕ) → 1 ≤ P → Rep P N initial s σ → Going P N (length (σ .pool)) s σ job start s′ σ′ at n
-  pub into : Beyond (length job / 2) a b
+  pub into : Beyond (length job / 2 + 4) a b
 
 -- a turn's frame, for the P and V for which the session before it stands
 module _ {P N W : ℕ} {s : Session} {σ : Storage} {job : List ℕ} {start : ℕ} {s′ : Session} {σ′ : Storage} {at n : ℕ} (g : Going P N W s σ job start s′ σ′ at n) where
@@ -88,8 +88,8 @@ module _ {s : Session} {σ : Storage} {job : List ℕ} {room start : ℕ} (m : M
         }
 
     module _ {t : Session} {τ : Storage} {x : Step} {b′ : List ℕ} (d : Turned job at n s′ x t σ′ τ b b′) where
-      numbers : Beyond (length job / 2) a b′
-      numbers = beyond-trans (length job / 2) (length job / 2) a b b′ (omega arith) (r .into) (d .into)
+      numbers : Beyond (length job / 2 + 4) a b′
+      numbers = beyond-trans (length job / 2 + 4) (length job / 2 + 4) a b b′ (omega arith) (r .into) (d .into)
 
       pub runs-on : (next i : ℕ) → x ≡ step′.On next i → Running s σ job start t τ next i a b′
       runs-on next i e =
@@ -230,7 +230,7 @@ module _ (job : List ℕ) (short : length job ≤ most-job-bytes) where
       (record {
         tells = unopened (first-session 0 0) refl σ n refusal.malformed (not-long ∙ head-runs r′ (ragged job));
         low = (omega (arith, r′ .starts), omega arith);
-        into = beyond-drop (length job / 2) (length job / 2) a b (omega arith) l (r′ .into);
+        into = beyond-drop (length job / 2) (length job / 2 + 4) a b (omega arith) l (r′ .into);
       })
 
   module _ (P N start : ℕ) (h : Head) (a b : List ℕ) (r : HeadRead job h a b) (e : h ≡ head.Sizes P N start) where
@@ -264,7 +264,7 @@ module _ (job : List ℕ) (short : length job ≤ most-job-bytes) where
             tells = subst (λ (x : Storage). Refused job s σ x 2 number) (sym (o .refused z))
                 (unopened s (o .unopened z) σ 2 number (opening-next ∙ ap opened (sym number-is) ∙ q));
             low = (omega arith, rw number-is (open-code P N job-sizes .0));
-            into = subst (λ (x : List ℕ). Beyond (length job / 2) a x) (sym (sized .into)) (beyond-refl _ a);
+            into = subst (λ (x : List ℕ). Beyond (length job / 2 + 4) a x) (sym (sized .into)) (beyond-refl _ a);
           }
 
       module _ (z : number ≡ 0) where
@@ -336,7 +336,7 @@ module _ (job : List ℕ) (short : length job ≤ most-job-bytes) where
             record {
               tells = told x t υ (subst (λ (y : ℕ). Stopped P N y s t τ υ x (remains P N y job start 3 initial)) w (u .tells P N positive (o .rep z)));
               low = u .low;
-              into = subst (λ (y : List ℕ). Beyond (length job / 2) y b′) (sized .into) (u .into);
+              into = subst (λ (y : List ℕ). Beyond (length job / 2 + 4) y b′) (sized .into) (u .into);
             }
 
 -- so a job that is too long, whose head is malformed or that opening refuses has written nothing

@@ -59,14 +59,14 @@ abbrev pub Low : End → Type 0
 Low (end.Rejected n code) = (n ≤ most-lines) × Code code
 Low (end.Finished f) = Unit {0}
 
--- calls may be run from `start` on: the session is fresh, and there is room for the numbers of lists
+-- calls may be run from `start` on: the session is fresh, and there is room for the numbers of a call
 pub record MayRun (s : Session) (σ : Storage) (job : List ℕ) (room start : ℕ) : Type 0 where
   pub parallelism : ℕ
   pub places : ℕ
   pub positive : 1 ≤ parallelism
   pub rep : Rep parallelism places initial s σ
   pub inside : start ≤ length job
-  pub half : length job ≤ 2 * room
+  pub half : length job + 8 ≤ 2 * room
   pub short : length job ≤ most-job-bytes
 
 -- the outcome that an end tells, the model being k, and that its numbers are P and the model's
@@ -86,17 +86,18 @@ pub record Stopped (P N W : ℕ) (s s′ : Session) (σ σ′ : Storage) (e : En
   pub frame : Frame P N (s .guide .written) (s′ .guide .written) σ σ′
   pub figures : figures-of e P model
 
--- a and b are the storage for numbers before and after: the job's lists have at most half as many numbers as it has bytes
+-- a and b are the storage for numbers before and after: the job's lists have at most half as many numbers as it has bytes, and an encoded add
+-- has four beside them
 pub record Runs (s : Session) (σ : Storage) (job : List ℕ) (start : ℕ) (e : End) (s′ : Session) (σ′ : Storage) (a b : List ℕ) : Type 0 where
   pub tells : (P N : ℕ) → 1 ≤ P → Rep P N initial s σ → Stopped P N (length (σ .pool)) s s′ σ σ′ e (remains P N (length (σ .pool)) job start 3 initial)
   pub low : Low e
-  pub into : Beyond (length job / 2) a b
+  pub into : Beyond (length job / 2 + 4) a b
 
 -- refused on line n before a session was opened
 abbrev pub unopened-at : ℕ → ℕ → Ended
 unopened-at n code = record { end = end.Rejected n code; session = first-session 0 0 }
 
--- storage for the greatest P and V and the W of a job (rules/Limits), and room for the numbers of a job's lists
+-- storage for the greatest P and V and the W of a job (rules/Limits), and room for the numbers of a job's calls
 pub record Room (σ : Storage) (numbers : ℕ) : Type 0 where
   pub spans : length (σ .spans) ≡ extent (spans-needed job-parallelism)
   pub order : length (σ .order) ≡ extent job-places
@@ -106,10 +107,10 @@ pub record Room (σ : Storage) (numbers : ℕ) : Type 0 where
   pub locations : length (σ .locations) ≡ job-places
   pub waiting : length (σ .waiting) ≡ waiting-needed job-places
   pub pool : length (σ .pool) ≡ job-pool
-  pub into : numbers ≡ most-job-bytes / 2
+  pub into : numbers ≡ most-job-bytes / 2 + 4
 
 -- the whole job was run on storage σ, which is then σ′, to the end e with session s, its lists read into a, which is then b
 pub record Ran (job : List ℕ) (e : End) (s : Session) (σ σ′ : Storage) (a b : List ℕ) : Type 0 where
   pub tells : Tells job s σ σ′ e
   pub low : Low e
-  pub into : Beyond (length job / 2) a b
+  pub into : Beyond (length job / 2 + 4) a b

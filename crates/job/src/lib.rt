@@ -8,6 +8,10 @@ use jobturn::End;
 use jobturn::Step;
 use session::Session;
 
+// The most numbers that a call of a job takes: its lists have at most half as many as the job has bytes, and an encoded add has four beside
+// them.
+pub const CALL_NUMBERS: usize = rules::MOST_JOB_BYTES / 2 + 4;
+
 // How a job ended, and the session where it stopped; where none was opened, one of parallelism 0 and 0 places.
 pub struct Ended {
     pub end: End,

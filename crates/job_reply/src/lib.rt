@@ -24,7 +24,7 @@ pub fn reply_to(text: &[u8], listing: &mut [u8]) -> Reply
     let mut locations = [0u64; rules::JOB_PLACES];
     let mut waiting = [0u64; waiting::SIZE * rules::JOB_PLACES];
     let mut pool = [0u32; rules::JOB_POOL];
-    let mut into = [0u64; rules::MOST_JOB_BYTES / 2];
+    let mut into = [0u64; job::CALL_NUMBERS];
     let ended = job::run(
         &mut spans,
         &mut order,
