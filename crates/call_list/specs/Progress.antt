@@ -6,7 +6,7 @@ use mathlib.Core.Option.{some}
 use Prim.Native.Nat.{ℕ, _+_, _≤_, _<_}
 use native.Mathlib.Omega.{arith}
 use native.Mathlib.Numerals.{add-one}
-use lib.ListN.{length, take, drop, set, length-append, length-set, length-drop}
+use lib.ListN.{length, take, drop, set, length-append, length-set}
 use lib.Seq.{take-suc-set, drop-set-lt}
 use Rattle.rules.specs.Model.{Model, initial}
 use Rattle.rules.specs.Calls.{Call, answer, step, run, answers}

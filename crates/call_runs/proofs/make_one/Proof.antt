@@ -1,5 +1,4 @@
 -- `call_runs::make_one` meets its contract: the loop makes the call, its number is the one answer, and nothing is left.
-use native.Mathlib.Omega.{arith}
 use borrow.Author.Needs.{needs}
 use Rattle.call_runs.specs.Continuing.{one-may, one-made}
 use Rattle.call_runs.proofs.make_one.Statement.{statement}

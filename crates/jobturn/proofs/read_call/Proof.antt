@@ -1,11 +1,11 @@
 -- `jobturn::read_call` meets its contract: the call is read behind the numbers that come before an encoded add's inputs. Assumes nothing.
-use mathlib.Core.List.{List, [], _++_, append-nil}
+use mathlib.Core.List.{List, _++_, append-nil}
 use mathlib.Core.Path.{_≡_, ap, _∙_, subst}
 use Prim.Native.Nat.{ℕ, _-_, _≤_}
 use native.Mathlib.Omega.{arith}
 use lib.ListN.{length, take, drop, length-drop, drop-of-length-le}
 use lib.Seq.{length-take-le, take-all, drop-at}
-use borrow.Rule.Slice.PartMut.{putMid, postOf, same-len-mid}
+use borrow.Rule.Slice.PartMut.{putMid, postOf}
 use borrow.Author.Needs.{needs}
 use Rattle.encoding.specs.Put.{before-inputs}
 use Rattle.jobcalls.specs.Told.{NextCall}
