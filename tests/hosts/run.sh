@@ -47,8 +47,8 @@ for expected in 1 2 2; do
 done
 # Two at a time, each by a toolchain with notes of its own, once what they use is proved; one that fails stops no other.
 toys=$work/toys
-mkdir -p "$toys"/{tools,bin,crates/{one,two}/src} && cp tools/archives "$toys/tools/"
-printf '%s\n' 'one: base    # of two' 'two: base' >"$toys/crates.txt"
+mkdir -p "$toys"/{tools,bin,crates/{base,one,two}/src} && cp tools/archives "$toys/tools/"
+printf '%s\n' 'base:' 'one: base kits    # of two' 'two: base' >"$toys/crates.txt"
 for name in one two; do echo 'pub extern "C" fn toy() {}' >"$toys/crates/$name/src/lib.rt"; done
 printf '%s\n' '#!/bin/bash' 'echo "$@" >>'"$toys"'/said; [ $1 != check ] || exit 0' \
   'mkdir -p target/log && mkdir target/log/busy && sleep 0.2 && [ $2 != $(cat '"$toys"'/wrong) ] && echo archive >target/staticlib/lib$2.a' >"$toys/bin/rt"
@@ -57,7 +57,7 @@ PATH=$toys/bin:$PATH refuses 1 "rt staticlib one failed" "$toys/tools/archives"
 [ "$(cd "$toys/target/staticlib" && echo *.a)" = libtwo.a ] || fail "tools/archives: the archive that was made is not there"
 echo none >"$toys/wrong"
 PATH=$toys/bin:$PATH "$toys/tools/archives" || fail "tools/archives after one that failed"
-sort "$toys/said" | tests/same.sh - <(printf '%s\n' 'check base base' 'staticlib one' 'staticlib one' 'staticlib two') ||
+sort "$toys/said" | tests/same.sh - <(printf '%s\n' 'check base' 'staticlib one' 'staticlib one' 'staticlib two') ||
   fail "tools/archives asks for something else"
 echo "hosts: tools/archives: a source edited meanwhile is seen, three misuses refused; two at a time"
 

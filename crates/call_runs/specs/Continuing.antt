@@ -193,7 +193,7 @@ module _ {l : List ℕ} {s₁ : Session} {σ₁ : Storage} {out₁ : List ℕ} {
           → Going l s₁ σ₁ out₁ at₁ n₁ z (storage sp o t rs m lo w (υ .pool)) (set out n (a .number)) next (n + 1)
       going-placed x Q = made-as (made-placed E x Q)
 
--- a list of one call, a set or an add: it is made
+-- numbers that are one call, a set or an add; and that it was made
 pub record OneCall (l : List ℕ) : Type 0 where
   pub call : Call
   pub is : front l ≡ some (record { call = call; rest = [] })
@@ -211,9 +211,9 @@ same-front : {f g : Front} {o : Option Front} → o ≡ some f → o ≡ some g 
 same-front d e = cc
 
 module _ {l : List ℕ} (one : OneCall l) where
-  pub one-may : {s : Session} {σ : Storage} (out : List ℕ) → Asks s σ → length out ≡ 1 → MayContinue l s σ out 0 0
+  pub one-may : {s : Session} {σ : Storage} (out : List ℕ) → Asks s σ → 1 ≤ length out → MayContinue l s σ out 0 0
   unfolding decode decode-from unless-empty before-all
-  one-may out q e = record { asks = q; left = one .call ∷ []; is = decode-some l (record { call = one .call; rest = [] }) (one .is); room = omega (arith, e) }
+  one-may out q h = record { asks = q; left = one .call ∷ []; is = decode-some l (record { call = one .call; rest = [] }) (one .is); room = omega (arith, h) }
 
   pub one-made : {s s′ : Session} {σ σ′ : Storage} {out out′ : List ℕ} {at n : ℕ} → 1 ≤ length out → Continues l s σ out 0 0 s′ σ′ out′ at n → MadeOne l (getD out′ 0 0) s s′ σ σ′
   one-made {s} {s′} {σ} {σ′} {out} {out′} h C c e = go (C .onward) (C .stops)
