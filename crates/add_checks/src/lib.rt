@@ -21,7 +21,7 @@ fn place_number(ins: &[u64], outs: &[u64]) -> u64
 }
 
 // The first checks, which look at the lane and the lists alone: 7, 18, 3, 4, 5. Lists of places below v, which is small, pass 4 and 5.
-fn check_lists(ins: &[u64], outs: &[u64], lane: u64, closed: bool, v: usize) -> u64
+pub fn check_lists(ins: &[u64], outs: &[u64], lane: u64, closed: bool, v: usize) -> u64
     requires { ⌜ v ≤ least-flagged ⌝ }
     ensures { λ r. ⌜ r ≡ verdict (list-checks closed v lane (now (ins .entry)) (now (outs .entry))) ⌝ }
 {

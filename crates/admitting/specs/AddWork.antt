@@ -29,7 +29,8 @@ use Rattle.session.specs.Noting.{noted-one}
 use Rattle.admitting.specs.declared.Admitted.{Admitted}
 use Rattle.admitting.specs.Promise.{Asks, MayDo, Does, may-do, framed}
 use Rattle.admitting.specs.Numbers.{Number}
-use Rattle.admitting.specs.Noting.{rep-noted, frame-noted}
+use Rattle.session.specs.Recording.{frame-noted}
+use Rattle.admitting.specs.Noting.{rep-noted}
 use Rattle.admitting.specs.Admitted.{Places, Admits}
 use Rattle.admitting.specs.Begun.{Begun, goal-reached, goal-frame, admits}
 use Rattle.admitting.specs.Adding.{Unplaced, with-added, may-enter, entered-rep, frame-entered}

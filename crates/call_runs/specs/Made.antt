@@ -31,6 +31,12 @@ pub record AddAt (l : List ℕ) (at lane lists : ℕ) : Type 0 where
   pub past : at < lists
   pub within : lists ≤ length l
 
+-- the numbers at `at` say the call, and those that follow it start at `next`
+pub record Says (l : List ℕ) (at : ℕ) (call : Call) (next : ℕ) : Type 0 where
+  pub is : front (drop at l) ≡ some (record { call = call; rest = drop next l })
+  pub past : at < next
+  pub within : next ≤ length l
+
 -- one call read at `at` was made: the numbers that follow it start at `next`
 pub record Made (l : List ℕ) (at n next : ℕ) (s s′ : Session) (σ σ′ : Storage) : Type 0 where
   pub call : Call

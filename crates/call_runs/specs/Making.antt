@@ -19,7 +19,7 @@ use Rattle.session.specs.Storage.{Storage}
 use Rattle.admitting.specs.declared.Admitted.{Admitted}
 use Rattle.admitting.specs.Promise.{Called}
 use Rattle.admitting.specs.Admitted.{Admits, Places, admitted-refused, admitted-placed}
-use Rattle.call_runs.specs.Made.{ends-run, Made, AddAt, AdmitsAt, Readable}
+use Rattle.call_runs.specs.Made.{ends-run, Says, Made, AddAt, AdmitsAt, Readable}
 
 never : (f : Front) (o : Option Front) → o ≡ some f → o ≡ none → ⊥
 never f o e d = let z : _≡_ {A = ℕ} 0 1 = cc in omega arith
@@ -51,34 +51,29 @@ module _ {l : List ℕ} {at : ℕ} (R : Readable l at) where
       go (yes y) = absurd (never (R .read) (front (drop at l)) (R .is) (front-set-short l at (R .inside) e (omega arith)))
       go (no n) = omega (arith, R .inside, n)
 
+  pub says-set : getD l at 0 ≡ set-tag → Says l at (set (getD l (at + 1) 0)) (at + 2)
+  says-set e = record { is = front-set l at (R .inside) e (set-inside e); past = omega arith; within = omega (arith, set-inside e) }
+
+  pub says-flush : getD l at 0 ≡ flush-tag → Says l at flush (at + 1)
+  says-flush e = record { is = front-flush l at (R .inside) e; past = omega arith; within = omega (arith, R .inside) }
+
+  -- no other tag is left
+  pub says-final : (getD l at 0 ≡ set-tag → ⊥) → (getD l at 0 ≡ add-tag → ⊥) → (getD l at 0 ≡ lane-add-tag → ⊥) → (getD l at 0 ≡ flush-tag → ⊥) → Says l at final (at + 1)
+  says-final x y a z = record { is = front-final l at (R .inside) tag; past = omega arith; within = omega (arith, R .inside) }
+    where
+      tag : getD l at 0 ≡ final-tag
+      tag = elim (ℕ-discrete (getD l at 0) final-tag) [ yes e ↦ e | no w ↦ absurd (never (R .read) (front (drop at l)) (R .is) (front-other l at (R .inside) x y z w a)) ]
+
   pub admits-set : {a : Admitted} {s : Session} {σ τ : Storage} → getD l at 0 ≡ set-tag → Admits (set (getD l (at + 1) 0)) s a σ τ → AdmitsAt l at a (at + 2) s σ τ
-  admits-set e A =
-      record {
-        call = set (getD l (at + 1) 0);
-        is = front-set l at (R .inside) e (set-inside e);
-        past = omega arith;
-        within = omega (arith, set-inside e);
-        admits = A;
-      }
+  admits-set e A = let r = says-set e in record { call = set (getD l (at + 1) 0); is = r .is; past = r .past; within = r .within; admits = A }
 
   module _ {n : ℕ} {s s′ : Session} {σ σ′ : Storage} where
     pub made-flush : getD l at 0 ≡ flush-tag → Called flush n s s′ σ σ′ → Made l at n (at + 1) s s′ σ σ′
-    made-flush e c = record { call = flush; is = front-flush l at (R .inside) e; past = omega arith; within = omega (arith, R .inside); called = c }
+    made-flush e c = let r = says-flush e in record { call = flush; is = r .is; past = r .past; within = r .within; called = c }
 
-    -- no other tag is left
     pub made-final : (getD l at 0 ≡ set-tag → ⊥) → (getD l at 0 ≡ add-tag → ⊥) → (getD l at 0 ≡ lane-add-tag → ⊥) →
         (getD l at 0 ≡ flush-tag → ⊥) → Called final n s s′ σ σ′ → Made l at n (at + 1) s s′ σ σ′
-    made-final x y a z c =
-        record {
-          call = final;
-          is = front-final l at (R .inside) tag;
-          past = omega arith;
-          within = omega (arith, R .inside);
-          called = c;
-        }
-      where
-        tag : getD l at 0 ≡ final-tag
-        tag = elim (ℕ-discrete (getD l at 0) final-tag) [ yes e ↦ e | no w ↦ absurd (never (R .read) (front (drop at l)) (R .is) (front-other l at (R .inside) x y z w a)) ]
+    made-final x y a z c = let r = says-final x y a z in record { call = final; is = r .is; past = r .past; within = r .within; called = c }
 
   -- a call that ends no run and is no set is an add: one with a lane, or one in lane 0
   module _ (h : ends-run (getD l at 0) ≡ false) (x : getD l at 0 ≡ set-tag → ⊥) where
@@ -141,18 +136,19 @@ module _ {l : List ℕ} {at : ℕ} (R : Readable l at) where
         pub add-inside : (lists + 1 ≤ middle) × ((middle + 1 ≤ next) × (next ≤ length l))
         add-inside = let w = whole in (omega (arith, w .ordered), (omega (arith, w .between), w .inside))
 
-        pub admits-add : {a : Admitted} {s : Session} {σ τ : Storage} →
-            Admits (add lane (take (middle - (lists + 1)) (drop (lists + 1) l)) (take (next - (middle + 1)) (drop (middle + 1) l))) s a σ τ →
-            AdmitsAt l at a next s σ τ
-        admits-add x =
+        pub says-add : Says l at (add lane (take (middle - (lists + 1)) (drop (lists + 1) l)) (take (next - (middle + 1)) (drop (middle + 1) l))) next
+        says-add =
             let w = whole in
             record {
-              call = add lane (take (middle - (lists + 1)) (drop (lists + 1) l)) (take (next - (middle + 1)) (drop (middle + 1) l));
               is = A .is ∙ add-whole l lists middle next lane (w .first) (w .second);
               past = omega (arith, A .past, w .ordered, w .between);
               within = w .inside;
-              admits = x;
             }
+
+        pub admits-add : {a : Admitted} {s : Session} {σ τ : Storage} →
+            Admits (add lane (take (middle - (lists + 1)) (drop (lists + 1) l)) (take (next - (middle + 1)) (drop (middle + 1) l))) s a σ τ →
+            AdmitsAt l at a next s σ τ
+        admits-add x = let r = says-add in record { call = _; is = r .is; past = r .past; within = r .within; admits = x }
 
 -- refused or placed, what was admitted is made
 module _ {l : List ℕ} {at next : ℕ} {a : Admitted} {s : Session} {σ τ : Storage} (E : AdmitsAt l at a next s σ τ) where

@@ -25,7 +25,7 @@ pub struct Run {
 }
 
 // Whether a tag ends a run of sets and adds: their tags are the lowest, but for that of an add with a lane.
-fn ends_run(tag: u64) -> bool
+pub fn ends_run(tag: u64) -> bool
     ensures { λ r. ⌜ r ≡ ends-run tag ⌝ }
 {
     if tag == encoding::LANE_ADD {
@@ -41,7 +41,7 @@ pub struct AddStart {
 }
 
 // Those of the add that starts at `at`: after its tag come its lists, or its lane and then they.
-fn add_start(calls: &[u64], at: usize) -> AddStart
+pub fn add_start(calls: &[u64], at: usize) -> AddStart
     requires { ⌜ (Readable (now calls) at) × (ends-run (getD (now calls) at 0) ≡ false) × (getD (now calls) at 0 ≡ set-tag → ⊥) ⌝ }
     ensures { λ r. ⌜ AddAt (now (calls .entry)) at (r .lane) (r .lists) ⌝ }
 {

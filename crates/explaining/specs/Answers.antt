@@ -20,7 +20,7 @@ use Rattle.pool.specs.ListLaws.{parts-of}
 use Rattle.session.specs.declared.Session.{Session}
 use Rattle.session.specs.Storage.{Storage, with-lists}
 use Rattle.session.specs.Rep.{Rep}
-use Rattle.session.specs.Placing.{all-below}
+use Rattle.session.specs.Placed.{all-below}
 use Rattle.explaining.specs.declared.Reason.the-variants as answer
 use Rattle.explaining.specs.Explaining.{MayExplain, Explains}
 

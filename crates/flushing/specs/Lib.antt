@@ -1,2 +1,3 @@
--- What a flush does to a session and its storage.
+-- What a flush does to a session and its storage (Released), and that it fits (Fitting).
 pub mod Released
+pub mod Fitting

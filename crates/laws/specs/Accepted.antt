@@ -35,6 +35,24 @@ verdict-first (c ∷ cs) ds h = go (bool-cases (c .fails)) (λ z. verdict-first 
     go (inl e) f = rw (e, verdict)
     go (inr e) f = rw (e, verdict) (f (λ z. h (rw (e, verdict) z)))
 
+-- where `a || b` is false, both are
+pub or-false : (a b : Bool) → (a || b) ≡ false → (a ≡ false) × (b ≡ false)
+or-false true b h = absurd (false≢true (sym h))
+or-false false b h = (refl, h)
+
+-- a list of checks does not give a number that none of them has
+pub verdict-other : (m : ℕ) (cs : List Check) → m ≢ 0 → any (λ (c : Check). eqb (c .number) m) cs ≡ false → verdict cs ≢ m
+unfolding verdict any
+verdict-other m [] h n = λ e. h (sym e)
+verdict-other m (c ∷ cs) h n = go (c .fails) (verdict-other m cs h (others .1))
+  where
+    others : (eqb (c .number) m ≡ false) × (any (λ (d : Check). eqb (d .number) m) cs ≡ false)
+    others = or-false (eqb (c .number) m) (any (λ (d : Check). eqb (d .number) m) cs) n
+
+    go : (t : Bool) → verdict cs ≢ m → elim t [ true ↦ c .number | false ↦ verdict cs ] ≢ m
+    go true f = eqb-false (c .number) m (others .0)
+    go false f = f
+
 -- the state after an accepted and after a refused call
 pub accepted-is : {A : Type 0} (n : ℕ) (x y : A) → n ≡ 0 → unless-refused n x y ≡ y
 unfolding unless-refused
@@ -54,11 +72,6 @@ any-false t (x ∷ l) i h y = go (bool-cases (t x)) (List·Memᴰ·cases-cons y)
     go (inl e) y f = absurd (false≢true (sym (rw e at h)))
     go (inr e) (inl y) f = rw y e
     go (inr e) (inr y) f = f (rw e at h) y
-
--- where `a || b` is false, both are
-pub or-false : (a b : Bool) → (a || b) ≡ false → (a ≡ false) × (b ≡ false)
-or-false true b h = absurd (false≢true (sym h))
-or-false false b h = (refl, h)
 
 -- what each call has passed where its number is 0
 pub record SetPassed (N x : ℕ) (k : Model) : Type 0 where

@@ -1,9 +1,9 @@
 -- A place is set once or written by one registration: sets and the outputs of accepted adds never meet, nor do the outputs of two.
 -- Checks 6 and 8 keep it so.
 use mathlib.Core.Path.{_≡_, refl, sym, _∙_}
-use mathlib.Core.List.{List, [], _∷_, List·Memᴰ·not-nil, List·Memᴰ·cases-cons}
+use mathlib.Core.List.{List, [], _∷_, _++_, List·Memᴰ·not-nil, List·Memᴰ·cases-cons}
 use mathlib.Core.Logic.{_⊎_, inl, inr, _≢_}
-use mathlib.Core.Bool.{true, false, or-true, false≢true}
+use mathlib.Core.Bool.{Bool, true, false, _||_, or-true, false≢true}
 use Prim.Native.Nat.{ℕ, zero, suc, _≤_, _<_}
 use native.Mathlib.Omega.{arith}
 use lib.ListN.{length, getD}
@@ -15,6 +15,15 @@ use Rattle.laws.specs.History.{lt-or-le}
 use Rattle.laws.specs.GuideInv.{eq-or-ne}
 use Rattle.laws.specs.CallInv.{reg-of-old, reg-of-new, reg-of-beyond}
 use Rattle.laws.specs.Kept.{Kept}
+
+pub written-append : (x : ℕ) (as′ bs : List Reg) → written-by x (as′ ++ bs) ≡ (written-by x as′ || written-by x bs)
+unfolding written-by
+written-append x [] bs = refl
+written-append x (a ∷ as′) bs = go (member x (a .outs)) (written-append x as′ bs)
+  where
+    go : (c : Bool) → written-by x (as′ ++ bs) ≡ (written-by x as′ || written-by x bs) → (c || written-by x (as′ ++ bs)) ≡ ((c || written-by x as′) || written-by x bs)
+    go true e = refl
+    go false e = e
 
 written-in : (i : ℕ) (l : List Reg) (r : ℕ) (d : Reg) → d .outs ≡ [] → In i ((getD l r d) .outs) → written-by i l ≡ true
 unfolding written-by

@@ -1,6 +1,6 @@
 -- Where a job's session ends: it is one that calls reach; an accepted job has reached the model of its outcome, which is closed; and a job
 -- that 12 refuses has opened a session.
-use mathlib.Core.Path.{_≡_, refl, sym}
+use mathlib.Core.Path.{_≡_, refl}
 use mathlib.Core.List.{List, [], _∷_}
 use mathlib.Core.Logic.{_≢_}
 use mathlib.Core.Bool.{Bool, true, false}
@@ -9,15 +9,15 @@ use Prim.Native.Nat.{ℕ, suc, _≤_}
 use native.Mathlib.Omega.{arith}
 use lib.ListN.{length}
 use lib.Dec.{ltb, eqb}
-use borrow.Author.Tests.{eqb-true, eqb-false}
+use borrow.Author.Tests.{eqb-true}
 use Rattle.rules.specs.Limits.{most-job-bytes, job-pool}
 use Rattle.rules.specs.Refusals as refusal
 use Rattle.rules.specs.Model.{Model, initial}
-use Rattle.rules.specs.Checks.{Check, verdict, any, check-range, check-open}
+use Rattle.rules.specs.Checks.{verdict, any, check-range, check-open}
 use Rattle.rules.specs.Calls.{Call, add, final, answer, step}
 use Rattle.rules.specs.Job.{Start, single, label, inputs, last, line-of, start-of, inputs-of, outputs-of, parallelism-of, places-of, Begun, nothing, labelled, reading, lines, ragged}
 use Rattle.rules.specs.Job.{Outcome, finished, rejected, on-line, closing, run-lines, job-sizes, run-places, run-job, outcome, Reached, reached-lines, reached-places, reached-job, reached}
-use Rattle.laws.specs.Accepted.{or-false}
+use Rattle.laws.specs.Accepted.{verdict-other}
 use Rattle.laws.specs.Closed.{accepted-closes}
 use Rattle.laws.specs.Sound.{Between, between-initial, between-step}
 use Rattle.laws.specs.NeedsProof.{opened-positive}
@@ -123,19 +123,6 @@ module _ (P N : ℕ) (hP : 1 ≤ P) where
   lines-session (l ∷ ls) rag n (reading x ins) k b = outputs-session l ls rag (lines-session ls rag) n k b x ins
 
 -- ---- the head
-
--- a list of checks does not give a number that none of them has
-verdict-other : (m : ℕ) (cs : List Check) → m ≢ 0 → any (λ (c : Check). eqb (c .number) m) cs ≡ false → verdict cs ≢ m
-unfolding verdict any
-verdict-other m [] h n = λ e. h (sym e)
-verdict-other m (c ∷ cs) h n = go (c .fails) (verdict-other m cs h (others .1))
-  where
-    others : (eqb (c .number) m ≡ false) × (any (λ (d : Check). eqb (d .number) m) cs ≡ false)
-    others = or-false (eqb (c .number) m) (any (λ (d : Check). eqb (d .number) m) cs) n
-
-    go : (t : Bool) → verdict cs ≢ m → elim t [ true ↦ c .number | false ↦ verdict cs ] ≢ m
-    go true f = eqb-false (c .number) m (others .0)
-    go false f = f
 
 opening-number : (P N : ℕ) → verdict (check-open P N job-sizes) ≢ refusal.still-waiting
 unfolding check-open check-range any

@@ -1,5 +1,5 @@
 -- Laws of the model's lists: membership, the watermark, locations and their order, and a history with one entry more.
-use mathlib.Core.Path.{_≡_, refl, sym}
+use mathlib.Core.Path.{_≡_, refl, sym, ap}
 use mathlib.Core.List.{List, [], _∷_, _++_, List·Memᴰ, List·Memᴰ·head, List·Memᴰ·tail}
 use mathlib.Core.List.{List·Memᴰ·not-nil}
 use mathlib.Core.Logic.{_⊎_, inl, inr, _≢_}
@@ -207,6 +207,11 @@ spotted-in l (y ∷ xs) x h = go (bool-cases (eqb x y)) (λ k. spotted-in l xs x
     go : (eqb x y ≡ true) ⊎ (eqb x y ≡ false) → (marked x (spotted l xs) ≡ true → In x xs × (loc-of (spotted l xs) x ≡ l)) → In x (y ∷ xs) × (loc-of (spotted l (y ∷ xs)) x ≡ l)
     go (inl e) r = (List·Memᴰ·head (eqb-true x y e), rw (e, loc-of))
     go (inr e) r = let z = r (rw e at h) in (List·Memᴰ·tail (z .0), rw (e, loc-of) (z .1))
+
+pub spotted-marked : (l : Loc) (xs : List ℕ) (x : ℕ) → marked x (spotted l xs) ≡ member x xs
+unfolding marked spotted member
+spotted-marked l [] x = refl
+spotted-marked l (y ∷ xs) x = ap (λ (b : Bool). eqb x y || b) (spotted-marked l xs x)
 
 -- the history
 abbrev pub no-entry : Item

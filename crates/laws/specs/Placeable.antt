@@ -70,7 +70,7 @@ pub record Placeable (P N r : ℕ) (k : Model) : Type 0 where
   pub unset : (x : ℕ) → In x ((reg-of k r) .outs) → member x (k .sets) ≡ false
   pub unplaced : (x : ℕ) → In x ((reg-of k r) .outs) → marked x (k .located) ≡ false
 
-greatest-below : (N : ℕ) (l : List ℕ) → 0 < N → AllBelow N l → greatest l < N
+pub greatest-below : (N : ℕ) (l : List ℕ) → 0 < N → AllBelow N l → greatest l < N
 unfolding greatest
 greatest-below N [] h b = h
 greatest-below N (x ∷ l) h b = omega (arith, b x (List·Memᴰ·head refl), greatest-below N l h (λ i y. b i (List·Memᴰ·tail y)))

@@ -1,3 +1,4 @@
--- Opening: its checks, and the fresh session.
+-- Opening: its checks, the parts of a fresh session, and the whole.
 pub mod Refusal
+pub mod Parts
 pub mod Opened

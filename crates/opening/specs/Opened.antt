@@ -1,34 +1,30 @@
--- A fresh session over storage that was cleared where it must be: it stands for the model at the start. What opening promises, and the
--- promise from the zeros. Assumes nothing.
-use mathlib.Core.Path.{_≡_, refl, sym, ap, _∙_, subst}
+-- A fresh session over storage that was cleared where it must be: it stands for the model at the start (by Parts). What opening promises,
+-- and the promise from the zeros. Assumes nothing.
+use mathlib.Core.Path.{_≡_, refl, sym, ap, subst}
 use mathlib.Core.List.{List}
 use mathlib.Core.Bool.{false}
-use Prim.Native.Nat.{ℕ, zero, suc, _+_, _/_, _≤_, _<_}
+use Prim.Native.Nat.{ℕ, _+_, _/_, _≤_, _<_}
 use native.Mathlib.Omega.{arith}
 use lib.Dec.{ltb}
-use lib.ListN.{length, getD, take, replicate, length-take, length-replicate, getD-replicate}
-use lib.Seq.{getD-take, ext-getD}
+use lib.ListN.{length}
 use borrow.Author.Tests.{ltb-false}
-use Rattle.rules.specs.Guide.{fresh}
 use Rattle.rules.specs.Limits.{most-parallelism, most-places}
 use Rattle.rules.specs.Checks.{pooled, verdict, any, Sizes, spans-needed, waiting-needed, check-open, check-range, too-short}
-use Rattle.rules.specs.Model.{initial, watermark as watermark-of, run-from, tracked, member, marked}
+use Rattle.rules.specs.Model.{initial}
 use Rattle.laws.specs.Accepted.{verdict-head, or-false}
-use Rattle.tracking.specs.Places.{places-open}
 use Rattle.pool.specs.ListLaws.{lists-open}
 use Rattle.taken.specs.FlagLaws.{flags-open}
 use Rattle.registrar.specs.Keeps.{delayed-open}
-use Rattle.guide.specs.Fresh.{first-guide, fresh-stands, fresh-view}
-use Rattle.rules.specs.Record.{row-of}
+use Rattle.guide.specs.Fresh.{first-guide}
 use Rattle.entries.specs.Entries.{entry-size, capacity, fits}
 use Rattle.records.specs.Filling.{row-size, row-extent, row-capacity, rows-fit}
-use Rattle.records.specs.Filled.{blank-rows}
 use Rattle.zeros.specs.Zeros.{Cleared}
 use Rattle.waiting.specs.Cleared.{Emptied}
 use Rattle.session.specs.declared.Session.{Session}
 use Rattle.placing.specs.Slices.{Borrowed}
-use Rattle.session.specs.Storage.{Storage, storage, Frame, beyond-refl, beyond-drop}
+use Rattle.session.specs.Storage.{Storage, storage, Frame, beyond-refl}
 use Rattle.session.specs.Rep.{Rep}
+use Rattle.opening.specs.Parts.{fresh-guided, fresh-rowed, fresh-tracked, cleared-beyond}
 
 -- lengths of storage, in entries and rows where it holds those
 abbrev pub sizes-of : ℕ → ℕ → ℕ → ℕ → ℕ → ℕ → ℕ → Sizes
@@ -109,45 +105,16 @@ enough-of P N σ e =
       waiting = ltb-false (length (σ .waiting)) (waiting-needed N) (j .0);
     }
 
-zero-run : (N : ℕ) → watermark-of N initial ≡ 0
-unfolding watermark-of run-from initial tracked member marked
-zero-run zero = refl
-zero-run (suc N) = refl
-
-tally-zeros : (P : ℕ) (t : List ℕ) → P < length t → ((i : ℕ) → i < P + 1 → getD t i 0 ≡ 0) → take (P + 1) t ≡ replicate (P + 1) 0
-tally-zeros P t h z =
-    ext-getD 0 (take (P + 1) t) (replicate (P + 1) 0) (len ∙ sym (length-replicate (P + 1) 0))
-    (λ i q. let k : i < P + 1 = omega (arith, len) in getD-take (P + 1) t i 0 k ∙ z i k ∙ sym (getD-replicate (P + 1) i 0 0 k))
-  where
-    len : length (take (P + 1) t) ≡ P + 1
-    len = simp length-take (omega arith)
-
 module _ (P N : ℕ) (σ τ : Storage) (E : Enough P N σ) (F : Fresh P N σ τ) where
   pub fresh-rep : Rep P N initial (first-session P N) τ
-  unfolding initial first-guide fresh pooled row-of
+  unfolding initial pooled
   fresh-rep =
       record {
         core = record {
-          guided = record {
-            p-is = refl;
-            v-is = refl;
-            places = E .places;
-            stands =
-                fresh-stands P N (τ .spans) (τ .order) (τ .tally) (E .one) (omega (arith, E .few)) (E .small) (rw (F .spans) (E .spans)) (rw (F .order) (E .order))
-                (omega (arith, F .tally .long, E .tally))
-                (tally-zeros P (τ .tally) (omega (arith, F .tally .long, E .tally)) (λ i h. F .tally .zero i (omega arith) h));
-            view-is = fresh-view P N (τ .spans) (τ .order);
-          };
-          rowed = record {
-            long = omega (arith, F .rows .long, E .rows);
-            rows = blank-rows N (τ .rows) (λ j h. F .rows .zero j (omega arith) h);
-          };
-          tracked = record {
-            places =
-                places-open N (τ .marks) (τ .locations) (omega (arith, F .marks .long, E .marks)) (omega (arith, F .locations .long, E .locations))
-                (λ x h. F .marks .zero x (omega arith) h) (λ x h. F .locations .zero x (omega arith) h);
-            watermark-is = sym (zero-run N);
-          };
+          guided =
+              fresh-guided P N (σ .tally) τ (E .one) (E .few) (E .places) (E .small) (rw (F .spans) (E .spans)) (rw (F .order) (E .order)) (E .tally) (F .tally);
+          rowed = fresh-rowed N (σ .rows) τ (E .rows) (F .rows);
+          tracked = fresh-tracked N (σ .marks) (σ .locations) τ (E .marks) (E .locations) (F .marks) (F .locations);
           stored = record { lists = lists-open N (τ .waiting) (τ .pool) long; flags = flags-open N (τ .waiting) long (F .waiting .flags) };
         };
         counted = record { added-is = refl; used-is = refl; flushes-is = refl; closed-is = refl; registrations-is = refl; places-is = refl };
@@ -165,10 +132,10 @@ module _ (P N : ℕ) (σ τ : Storage) (E : Enough P N σ) (F : Fresh P N σ τ)
         spans = rw (F .spans) (beyond-refl _ (σ .spans));
         order = rw (F .order) (beyond-refl _ (σ .order));
         before = λ j h. absurd (omega arith);
-        tally = beyond-drop (P + 1) (P + 1) (σ .tally) (τ .tally) (omega arith) (F .tally .long) (F .tally .beyond);
-        rows = beyond-drop (row-extent N) (row-extent N) (σ .rows) (τ .rows) (omega arith) (F .rows .long) (F .rows .beyond);
-        marks = beyond-drop N N (σ .marks) (τ .marks) (omega arith) (F .marks .long) (F .marks .beyond);
-        locations = beyond-drop N N (σ .locations) (τ .locations) (omega arith) (F .locations .long) (F .locations .beyond);
+        tally = cleared-beyond (P + 1) (σ .tally) (τ .tally) (F .tally);
+        rows = cleared-beyond (row-extent N) (σ .rows) (τ .rows) (F .rows);
+        marks = cleared-beyond N (σ .marks) (τ .marks) (F .marks);
+        locations = cleared-beyond N (σ .locations) (τ .locations) (F .locations);
         waiting = record { long = F .waiting .long; same = F .waiting .beyond };
         pool = ap length (F .pool);
       }

@@ -46,11 +46,13 @@ module _ (l w pool : List ℕ) (v added used r u i m start n end : ℕ) (eu : u 
     found = λ k L h ea.
         let p = read k L h ea in
         record {
-          has-is = ap (λ (x : ℕ). ltb 0 x) (sym (part-length pool start n (omega (arith, p .ordered, p .inside))) ∙ ap length (p .ins-are));
-          peak-is = unpacked-packs top .0 ∙ et ∙ ap (λ (x : List ℕ). peak l x) (p .ins-are);
-          low = unpacked-packs top .1;
+          led = record {
+            has-is = ap (λ (x : ℕ). ltb 0 x) (sym (part-length pool start n (omega (arith, p .ordered, p .inside))) ∙ ap length (p .ins-are));
+            peak-is = unpacked-packs top .0 ∙ et ∙ ap (λ (x : List ℕ). peak l x) (p .ins-are);
+            low = unpacked-packs top .1;
+            lane-is = el ∙ parts-here k L h ea .lane-is;
+          };
           inside = omega (arith, p .ordered, p .inside);
           outs-are = p .outs-are;
-          lane-is = el ∙ parts-here k L h ea .lane-is;
         };
   })

@@ -7,10 +7,10 @@ use Rattle.rules.specs.Model.{Model}
 use Rattle.session.specs.declared.Session.{Session}
 use Rattle.session.specs.Storage.{Storage}
 use Rattle.session.specs.Rep.{Rep}
-use Rattle.session.specs.Showing.{held-are}
+use Rattle.session.specs.Showing.{held-shown}
 
 abbrev pub Polls : Session → ℕ → Type 0
 Polls s n = (P N : ℕ) (k : Model) (σ : Storage) → Rep P N k s σ → n ≡ held (k .guide .spans)
 
 pub polled : (s : Session) → Polls s (s .guide .held)
-polled s P N k σ R = held-are P N k s σ R
+polled s P N k σ R = held-shown (R .core .guided)

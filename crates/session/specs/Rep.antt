@@ -51,6 +51,12 @@ pub record Counted (k : Model) (s : Session) : Type 0 where
   pub registrations-is : s .registrations ≡ registrations k
   pub places-is : s .places ≡ k .recorded .places
 
+-- what a placing changes: all but the lists that are kept, and who waits
+pub record Base (P N : ℕ) (k : Model) (g : Guide) (watermark : ℕ) (σ : Storage) : Type 0 where
+  pub guided : Guided P N k g σ
+  pub rowed : Rowed N k σ
+  pub tracked : Tracked N k watermark σ
+
 -- all but who waits: what a single placing changes or reads
 pub record Core (P N : ℕ) (k : Model) (g : Guide) (watermark : ℕ) (σ : Storage) : Type 0 where
   pub guided : Guided P N k g σ

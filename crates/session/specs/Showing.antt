@@ -1,4 +1,4 @@
--- A session and storage that stand for a model show it. Assumes nothing.
+-- A session and storage that stand for a model show it: first the guide with its window and order, then the rest. Assumes nothing.
 use mathlib.Core.Path.{_≡_, refl, sym, ap, _∙_}
 use mathlib.Core.List.{List, [], _∷_, map}
 use Prim.Native.Nat.{ℕ, _+_, _<_}
@@ -10,6 +10,7 @@ use Rattle.rules.specs.Model.{Model, reg-of}
 use Rattle.rules.specs.Checks.{pooled}
 use Rattle.rules.specs.Record.{location-of}
 use Rattle.entries.specs.Entries.{entry-at}
+use Rattle.buffer.specs.declared.Guide.{Guide}
 use Rattle.buffer.specs.View.{row-start, view, order-of, spans-of, upto}
 use Rattle.buffer.specs.Rows.{spans-lengths, spans-at}
 use Rattle.buffer.specs.Order.{order-count}
@@ -17,7 +18,7 @@ use Rattle.registrar.specs.Unique.{pending-read}
 use Rattle.pool.specs.ListLaws.{Parts, parts-of}
 use Rattle.session.specs.declared.Session.{Session}
 use Rattle.session.specs.Storage.{Storage}
-use Rattle.session.specs.Rep.{Rep}
+use Rattle.session.specs.Rep.{Guided, Rep}
 use Rattle.session.specs.Parts.{tally-is}
 use Rattle.session.specs.Shows.{span-in, lists-in, Shows}
 
@@ -26,31 +27,40 @@ unfolding sum held
 held-sum [] = refl
 held-sum (s ∷ ss) = ap (λ n. length s + n) (held-sum ss)
 
+module _ {P N : ℕ} {k : Model} {g : Guide} {σ : Storage} (G : Guided P N k g σ) where
+  pub order-shown : order-of (σ .order) (g .written) ≡ k .guide .order
+  unfolding view
+  order-shown = ap (λ (b : GuideModel). b .order) (G .view-is)
+
+  pub written-shown : g .written ≡ length (k .guide .order)
+  written-shown = sym (order-count (σ .order) (g .written)) ∙ ap length order-shown
+
+  pub numbers-shown : g .window .ids ≡ upto (k .guide .first) 32
+  unfolding view
+  numbers-shown = G .stands .laid .numbered ∙ ap (λ (b : GuideModel). upto (b .first) 32) (G .view-is)
+
+  spans-are : spans-of P (σ .spans) (g .window .rows) (g .window .lens) ≡ k .guide .spans
+  unfolding view
+  spans-are = rw (← G .p-is) (ap (λ (b : GuideModel). b .spans) (G .view-is))
+
+  same-many : length (g .window .rows) ≡ length (g .window .lens)
+  same-many = G .stands .laid .rows-many ∙ sym (G .stands .laid .lens-many)
+
+  pub lengths-shown : g .window .lens ≡ map length (k .guide .spans)
+  lengths-shown = sym (spans-lengths P (σ .spans) (g .window .rows) (g .window .lens) same-many) ∙ ap (λ (x : List (List Item)). map length x) spans-are
+
+  pub held-shown : g .held ≡ held (k .guide .spans)
+  held-shown = G .stands .laid .held-is ∙ ap sum lengths-shown ∙ held-sum (k .guide .spans)
+
+  pub spans-shown : (i : ℕ) → i < 32 → span-in P (g .window) (σ .spans) i ≡ getD (k .guide .spans) i []
+  unfolding span-in
+  spans-shown i h =
+      sym (spans-at P (σ .spans) (g .window .rows) (g .window .lens) i same-many) ∙ ap (λ (x : List (List Item)). getD x i []) spans-are
+
+  pub unassigned-shown : (i j : ℕ) → i < 32 → j < getD (g .window .lens) i 0 → (entry-at (σ .spans) (row-start (getD (g .window .rows) i 0) P + j)) .parallelism ≡ 0
+  unassigned-shown = rw (← G .p-is) (G .stands .laid .unassigned)
+
 module _ (P N : ℕ) (k : Model) (s : Session) (σ : Storage) (R : Rep P N k s σ) where
-  guide-is : view (s .guide) (σ .spans) (σ .order) ≡ k .guide
-  guide-is = R .core .guided .view-is
-
-  order-is : order-of (σ .order) (s .guide .written) ≡ k .guide .order
-  unfolding view
-  order-is = ap (λ (g : GuideModel). g .order) guide-is
-
-  first-is : getD (s .guide .window .ids) 0 0 ≡ k .guide .first
-  unfolding view
-  first-is = ap (λ (g : GuideModel). g .first) guide-is
-
-  spans-are : spans-of P (σ .spans) (s .guide .window .rows) (s .guide .window .lens) ≡ k .guide .spans
-  unfolding view
-  spans-are = rw (← R .core .guided .p-is) (ap (λ (g : GuideModel). g .spans) guide-is)
-
-  same-many : length (s .guide .window .rows) ≡ length (s .guide .window .lens)
-  same-many = R .core .guided .stands .laid .rows-many ∙ sym (R .core .guided .stands .laid .lens-many)
-
-  lengths-are : s .guide .window .lens ≡ map length (k .guide .spans)
-  lengths-are = sym (spans-lengths P (σ .spans) (s .guide .window .rows) (s .guide .window .lens) same-many) ∙ ap (λ (x : List (List Item)). map length x) spans-are
-
-  pub held-are : s .guide .held ≡ held (k .guide .spans)
-  held-are = R .core .guided .stands .laid .held-is ∙ ap sum lengths-are ∙ held-sum (k .guide .spans)
-
   lists-are : (r : ℕ) → r < length (k .adds) → lists-in (σ .waiting) (σ .pool) N (s .added) (s .used) r ≡ reg-of k r
   unfolding lists-in
   lists-are r h = rw (R .counted .added-is, R .counted .used-is) (whole (parts-of N k (pooled (k .adds)) (σ .waiting) (σ .pool) (R .core .stored .lists) r h))
@@ -58,27 +68,24 @@ module _ (P N : ℕ) (k : Model) (s : Session) (σ : Storage) (R : Rep P N k s �
       whole : Parts (σ .waiting) N r (length (k .adds)) (pooled (k .adds)) (σ .pool) (reg-of k r) → lists-in (σ .waiting) (σ .pool) N (length (k .adds)) (pooled (k .adds)) r ≡ reg-of k r
       whole p = rw (p .lane-is, p .ins-are, p .outs-are)
 
-  none-assigned : (i j : ℕ) → i < 32 → j < getD (s .guide .window .lens) i 0 → (entry-at (σ .spans) (row-start (getD (s .guide .window .rows) i 0) P + j)) .parallelism ≡ 0
-  none-assigned = rw (← R .core .guided .p-is) (R .core .guided .stands .laid .unassigned)
-
   pub shows : Shows P N k s σ
-  unfolding span-in location-of
+  unfolding location-of
   shows =
+      let G = R .core .guided in
       record {
-        parallelism = R .core .guided .p-is;
-        many = R .core .guided .v-is;
-        written = sym (order-count (σ .order) (s .guide .written)) ∙ ap length order-is;
-        order = order-is;
-        tally = tally-is (R .core .guided);
+        parallelism = G .p-is;
+        many = G .v-is;
+        written = written-shown G;
+        order = order-shown G;
+        tally = tally-is G;
         rows = R .core .rowed .rows;
         marks = R .core .tracked .places .at;
         locations = R .core .tracked .places .place-of;
-        numbers = R .core .guided .stands .laid .numbered ∙ ap (λ (n : ℕ). upto n 32) first-is;
-        lengths = lengths-are;
-        held = held-are;
-        spans = λ i h.
-            sym (spans-at P (σ .spans) (s .guide .window .rows) (s .guide .window .lens) i same-many) ∙ ap (λ (x : List (List Item)). getD x i []) spans-are;
-        unassigned = none-assigned;
+        numbers = numbers-shown G;
+        lengths = lengths-shown G;
+        held = held-shown G;
+        spans = spans-shown G;
+        unassigned = unassigned-shown G;
         watermark = R .core .tracked .watermark-is;
         waiting = pending-read (σ .waiting) N (s .watermark) (k .pending) 0 [] (R .delayed);
         delayed = omega (arith, R .delayed-is);

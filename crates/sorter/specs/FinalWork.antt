@@ -4,7 +4,6 @@ use mathlib.Core.List.{[]}
 use Prim.Native.Nat.{ℕ, _+_, _≤_}
 use native.Mathlib.Omega.{arith}
 use lib.ListN.{length, take}
-use Rattle.rules.specs.Limits.{most-places}
 use Rattle.rules.specs.Model.{Model}
 use Rattle.rules.specs.Calls.{final as final-call, step}
 use Rattle.rules.specs.Summary.{sum, Figures, figures}
@@ -12,11 +11,12 @@ use Rattle.rules.specs.Record.{summary as summary-of}
 use Rattle.laws.specs.Placeable.{fits-of}
 use Rattle.laws.specs.Sound.{Between, between-step}
 use Rattle.laws.specs.Tally.{tally-sum}
+use Rattle.buffer.specs.declared.Guide.{Guide}
 use Rattle.summary.specs.Figured.{Tallied}
 use Rattle.session.specs.declared.Session.{Session}
 use Rattle.session.specs.Storage.{Storage}
-use Rattle.session.specs.Parts.{tally-is}
-use Rattle.session.specs.Rep.{Rep}
+use Rattle.session.specs.Parts.{tally-is, few-places}
+use Rattle.session.specs.Rep.{Guided, Rep}
 use Rattle.admitting.specs.Promise.{Asks, Called, positive}
 
 -- final's promise: a call's, and the summary is the model's, or that of an empty tally where it was refused
@@ -26,16 +26,15 @@ pub record Concludes (n : ℕ) (s s′ : Session) (σ σ′ : Storage) (f : Figu
   pub zeros : (n ≡ 0 → ⊥) → f ≡ figures []
 
 -- the tally of a session can be summed up
-tallied-of : (P N W : ℕ) (k : Model) (s : Session) (σ : Storage) → Rep P N k s σ → Between P N W k → Tallied (σ .tally) (s .guide .p)
-tallied-of P N W k s σ R B =
-    let h : N ≤ most-places = omega (arith, R .core .guided .stands .small, R .core .guided .v-is) in
-    let F = fits-of P N W (positive P N k s σ R) k [] (B .sound) h in
+pub tallied-of : (P N W : ℕ) (k : Model) (g : Guide) (σ : Storage) → 1 ≤ P → Guided P N k g σ → Between P N W k → Tallied (σ .tally) (g .p)
+tallied-of P N W k g σ hP d B =
+    let F = fits-of P N W hP k [] (B .sound) (few-places d) in
     let e = tally-sum P (k .guide .order) (λ j q. F .parallelisms j q .1) in
-    let t = ap sum (tally-is (R .core .guided)) in
-    rw (R .core .guided .p-is) (record {
-      stored = omega (arith, R .core .guided .stands .tally-long, R .core .guided .p-is);
-      most = omega (arith, R .core .guided .stands .laid .few, R .core .guided .p-is);
-      total = omega (arith, e, t, F .room, F .many);
+    let t = ap sum (tally-is d) in
+    rw (d .p-is) (record {
+      stored = omega (arith, d .stands .tally-long, d .p-is);
+      most = omega (arith, d .stands .laid .few, d .p-is);
+      total = omega (arith, e, t, F .room, F .many, few-places d);
     })
 
 -- final was made with number n
@@ -47,7 +46,8 @@ module _ (n : ℕ) (s t : Session) (σ τ : Storage) (C : Called final-call n s 
   pub final-tallied : Asks s σ → Tallied (τ .tally) (t .guide .p)
   final-tallied a =
       let x = stepped (a .parallelism) (a .places) (a .model) (a .rep) (a .between) in
-      tallied-of (a .parallelism) (a .places) (length (σ .pool)) (step (a .parallelism) (a .places) (length (σ .pool)) final-call (a .model)) t τ (x .0) (x .1)
+      tallied-of (a .parallelism) (a .places) (length (σ .pool)) (step (a .parallelism) (a .places) (length (σ .pool)) final-call (a .model)) (t .guide) τ
+      (positive (a .parallelism) (a .places) (a .model) s σ (a .rep)) (x .0 .core .guided) (x .1)
 
   pub concluded : n ≡ 0 → (f : Figures) → f ≡ figures (take (t .guide .p + 1) (τ .tally)) → Concludes n s t σ τ f
   unfolding summary-of

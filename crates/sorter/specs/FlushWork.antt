@@ -1,23 +1,24 @@
 -- The work of flush and of final: what releasing all spans asks, and what is done in the end. Assumes nothing.
 use mathlib.Core.Path.{_≡_, refl}
-use mathlib.Core.List.{List, []}
+use mathlib.Core.List.{List}
 use mathlib.Core.Bool.{Bool, true}
 use Prim.Native.Nat.{ℕ, suc, _+_, _^_, _≤_, _<_}
 use native.Mathlib.Omega.{arith}
 use lib.ListN.{length}
-use Rattle.rules.specs.Limits.{most-places}
 use Rattle.rules.specs.Record.{row-of}
 use Rattle.rules.specs.Model.{Model, tracked, watermark as watermark-of, with-record, with-flush, note-flush, note-final, do-flush, do-final}
 use Rattle.rules.specs.Checks.{taken}
 use Rattle.rules.specs.Calls.{Call, flush as flush-call, final as final-call, answer, apply-call}
 use Rattle.laws.specs.Accepted.{flush-passed}
-use Rattle.laws.specs.Placeable.{Fits, fits-of}
-use Rattle.laws.specs.Sound.{Between, sound-kept}
+use Rattle.laws.specs.Placeable.{Fits}
+use Rattle.laws.specs.Sound.{Between}
 use Rattle.buffer.specs.declared.Guide.{Guide}
 use Rattle.flushing.specs.Released.{MayRelease, Releases}
+use Rattle.flushing.specs.Fitting.{fits-now, fits-flush, fits-final}
 use Rattle.session.specs.declared.Session.{Session}
 use Rattle.session.specs.Storage.{Storage, with-order}
 use Rattle.session.specs.Rep.{Core, Rep}
+use Rattle.session.specs.Parts.{base, few-places}
 use Rattle.admitting.specs.Promise.{MayDo, Does, positive}
 
 -- what the work of flush or final, the call c, may presume and what it does, of the slices that it touches: asked of some storage with these
@@ -55,43 +56,18 @@ abbrev pub final-session : Session → Guide → Session
 final-session s h =
     record { guide = h; watermark = s .watermark; added = s .added; used = s .used; delayed = s .delayed; flushes = s .flushes; closed = true; registrations = s .added; places = s .watermark }
 
--- what fits does not depend on the count of flushes, nor on whether closed
-fits-flushed : (P N f g : ℕ) (b c : Bool) (k : Model) → Fits P N (with-flush P f b k) → Fits P N (with-flush P g c k)
-unfolding with-flush watermark-of tracked
-fits-flushed P N f g b c k F =
-    record {
-      many = F .many;
-      window = F .window;
-      later = F .later;
-      capped = F .capped;
-      room = F .room;
-      low = F .low;
-      held-known = F .held-known;
-      order-known = F .order-known;
-      parallelisms = F .parallelisms;
-      watermark-low = F .watermark-low;
-      located-below = F .located-below;
-      sets-below = F .sets-below;
-    }
-
 module _ (P N : ℕ) (k : Model) (s : Session) (σ : Storage) (R : Rep P N k s σ) (B : Between P N (length (σ .pool)) k) where
-  small : N ≤ most-places
-  small = omega (arith, R .core .guided .stands .small, R .core .guided .v-is)
+  one : 1 ≤ P
+  one = positive P N k s σ R
 
-  fits-now : Fits P N k
-  fits-now = fits-of P N (length (σ .pool)) (positive P N k s σ R) k [] (B .sound) small
+  rep-fits : Fits P N k
+  rep-fits = fits-now P N (length (σ .pool)) k one (few-places (R .core .guided)) B
 
-  fits-flush : answer N (length (σ .pool)) flush-call k ≡ 0 → Fits P N (with-flush P (k .flushes) (k .closed) k)
-  fits-flush e =
-      fits-flushed P N (suc (k .flushes)) (k .flushes) (k .closed) (k .closed) k
-      (fits-of P N (length (σ .pool)) (positive P N k s σ R) (with-flush P (suc (k .flushes)) (k .closed) k) []
-      (sound-kept P N (length (σ .pool)) (positive P N k s σ R) .flushing k (B .sound .inv) e (B .sound)) small)
+  flush-fits : answer N (length (σ .pool)) flush-call k ≡ 0 → Fits P N (with-flush P (k .flushes) (k .closed) k)
+  flush-fits = fits-flush P N (length (σ .pool)) k one (few-places (R .core .guided)) B
 
-  fits-final : answer N (length (σ .pool)) final-call k ≡ 0 → Fits P N (with-flush P (k .flushes) (k .closed) k)
-  fits-final e =
-      fits-flushed P N (k .flushes) (k .flushes) true (k .closed) k
-      (fits-of P N (length (σ .pool)) (positive P N k s σ R) (with-flush P (k .flushes) true k) []
-      (sound-kept P N (length (σ .pool)) (positive P N k s σ R) .closing k (B .sound .inv) e (B .sound)) small)
+  final-fits : answer N (length (σ .pool)) final-call k ≡ 0 → Fits P N (with-flush P (k .flushes) (k .closed) k)
+  final-fits = fits-final P N (length (σ .pool)) k one (few-places (R .core .guided)) B
 
   may-release : Fits P N (with-flush P (k .flushes) (k .closed) k) → MayRelease (s .guide) (s .added) (σ .spans) (σ .order) (σ .tally) (σ .rows)
   may-release F =
@@ -104,15 +80,18 @@ module _ (P N : ℕ) (k : Model) (s : Session) (σ : Storage) (R : Rep P N k s �
         l = σ .locations;
         w = σ .waiting;
         pool = σ .pool;
-        core = R .core;
-        fits = fits-now;
+        base = base (R .core);
+        fits = rep-fits;
         flushed = F;
         added-is = R .counted .added-is;
       }
 
   module _ (F : Fits P N (with-flush P (k .flushes) (k .closed) k)) (h : Guide) (o t rs : List ℕ) (Z : Releases (s .guide) h (s .added) (σ .spans) (σ .order) (σ .tally) (σ .rows) o t rs) where
     core-flushed : (f : ℕ) (b : Bool) → Core P N (note-flush (with-flush P f b k)) h (s .watermark) (with-order σ (σ .spans) o t rs)
-    core-flushed f b = Z .core P N k (s .watermark) f b (σ .marks) (σ .locations) (σ .waiting) (σ .pool) (R .core) F (B .noted) (R .counted .added-is)
+    unfolding note-flush with-record with-flush taken
+    core-flushed f b =
+        let x = Z .base P N k (s .watermark) f b (σ .marks) (σ .locations) (σ .waiting) (σ .pool) (base (R .core)) F (B .noted) (R .counted .added-is) in
+        record { guided = x .guided; rowed = x .rowed; tracked = x .tracked; stored = record { lists = R .core .stored .lists; flags = R .core .stored .flags } }
 
     rep-flush : Rep P N (do-flush P k) (flushed-session s h) (with-order σ (σ .spans) o t rs)
     unfolding do-flush note-flush with-record with-flush
@@ -157,10 +136,10 @@ module _ (P N : ℕ) (k : Model) (s : Session) (σ : Storage) (R : Rep P N k s �
 -- what releasing asks, for flush and for final
 module _ (s : Session) (σ : Storage) where
   pub flush-releases : MayDo flush-call s σ → MayRelease (s .guide) (s .added) (σ .spans) (σ .order) (σ .tally) (σ .rows)
-  flush-releases a = may-release (a .parallelism) (a .places) (a .model) s σ (a .rep) (a .between) (fits-flush (a .parallelism) (a .places) (a .model) s σ (a .rep) (a .between) (a .accepted))
+  flush-releases a = may-release (a .parallelism) (a .places) (a .model) s σ (a .rep) (a .between) (flush-fits (a .parallelism) (a .places) (a .model) s σ (a .rep) (a .between) (a .accepted))
 
   pub final-releases : MayDo final-call s σ → MayRelease (s .guide) (s .added) (σ .spans) (σ .order) (σ .tally) (σ .rows)
-  final-releases a = may-release (a .parallelism) (a .places) (a .model) s σ (a .rep) (a .between) (fits-final (a .parallelism) (a .places) (a .model) s σ (a .rep) (a .between) (a .accepted))
+  final-releases a = may-release (a .parallelism) (a .places) (a .model) s σ (a .rep) (a .between) (final-fits (a .parallelism) (a .places) (a .model) s σ (a .rep) (a .between) (a .accepted))
 
   -- the counts that change fit
   pub flush-counts : MayDo flush-call s σ → s .flushes + 1 < 2 ^ 32
@@ -171,17 +150,17 @@ module _ (s : Session) (σ : Storage) where
       omega (
         arith,
         a .rep .core .tracked .watermark-is,
-        fits-now (a .parallelism) (a .places) (a .model) s σ (a .rep) (a .between) .watermark-low,
-        small (a .parallelism) (a .places) (a .model) s σ (a .rep) (a .between),
+        rep-fits (a .parallelism) (a .places) (a .model) s σ (a .rep) (a .between) .watermark-low,
+        few-places (a .rep .core .guided),
       )
 
   module _ (h : Guide) (o t rs : List ℕ) (Z : Releases (s .guide) h (s .added) (σ .spans) (σ .order) (σ .tally) (σ .rows) o t rs) where
     pub flush-does : Does flush-call s (flushed-session s h) σ (with-order σ (σ .spans) o t rs)
     unfolding apply-call
     flush-does =
-        record { rep = λ P N k R B e. rep-flush P N k s σ R B (fits-flush P N k s σ R B e) h o t rs Z; frame = Z .frame (σ .marks) (σ .locations) (σ .waiting) (σ .pool) }
+        record { rep = λ P N k R B e. rep-flush P N k s σ R B (flush-fits P N k s σ R B e) h o t rs Z; frame = Z .frame (σ .marks) (σ .locations) (σ .waiting) (σ .pool) }
 
     pub final-does : Does final-call s (final-session s h) σ (with-order σ (σ .spans) o t rs)
     unfolding apply-call
     final-does =
-        record { rep = λ P N k R B e. rep-final P N k s σ R B (fits-final P N k s σ R B e) h o t rs Z; frame = Z .frame (σ .marks) (σ .locations) (σ .waiting) (σ .pool) }
+        record { rep = λ P N k R B e. rep-final P N k s σ R B (final-fits P N k s σ R B e) h o t rs Z; frame = Z .frame (σ .marks) (σ .locations) (σ .waiting) (σ .pool) }

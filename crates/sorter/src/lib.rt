@@ -223,7 +223,7 @@ pub struct Finished {
 }
 
 // A summary of zeros.
-fn no_summary() -> Summary
+pub fn no_summary() -> Summary
     ensures { λ r. ⌜ figured r ≡ figures [] ⌝ }
 {
     Summary {

@@ -10,6 +10,7 @@ use lib.ListN.{length}
 use borrow.Author.Tests.{eq-eqb, ne-eqb}
 use Rattle.rules.specs.Model.{Reg, Model, member, with-add, with-set, initial}
 use Rattle.rules.specs.Checks.{any, taken, written-by, waiting-needed}
+use Rattle.laws.specs.Apart.{written-append}
 use Rattle.lists.specs.Part.{Below}
 use Rattle.taken.specs.Flag.{flag-at, with-flag, flag-length, flag-same, flag-other}
 use Rattle.taken.specs.Flags.{taken-at, Flags, claimed, Plain, Flagged}
@@ -85,15 +86,6 @@ flags-claimed N (y ∷ xs) t w b f =
     three true false c = refl
     three false true c = refl
     three false false c = refl
-
-written-append : (x : ℕ) (as′ bs : List Reg) → written-by x (as′ ++ bs) ≡ (written-by x as′ || written-by x bs)
-unfolding written-by
-written-append x [] bs = refl
-written-append x (a ∷ as′) bs = go (member x (a .outs)) (written-append x as′ bs)
-  where
-    go : (c : Bool) → written-by x (as′ ++ bs) ≡ (written-by x as′ || written-by x bs) → (c || written-by x (as′ ++ bs)) ≡ ((c || written-by x as′) || written-by x bs)
-    go true e = refl
-    go false e = e
 
 pub flags-add : (N : ℕ) (a : Reg) (k : Model) (w : List ℕ) → Below N (a .outs) → Flags N (taken k) w → Flags N (taken (with-add a k)) (claimed w N (a .outs))
 unfolding taken with-add written-by

@@ -16,7 +16,7 @@ use Rattle.rules.specs.Limits.{location-radix, mark-written, mark-set}
 use Rattle.rules.specs.Guide.{Loc, origin}
 use Rattle.rules.specs.Record.{mark-by, pack}
 use Rattle.rules.specs.Model.{Located, Model, member, marked, tracked, run-from, watermark, loc-of, later, top, spotted}
-use Rattle.laws.specs.ModelBase.{bool-cases, loc-of-left, loc-of-right, marked-append}
+use Rattle.laws.specs.ModelBase.{bool-cases, loc-of-left, loc-of-right, marked-append, spotted-marked}
 use Rattle.lists.specs.Part.{Below}
 use Rattle.tracking.specs.Tracking.{unpacked, peak, stamped, nz, tracked-in}
 
@@ -97,11 +97,6 @@ stamped-tracked l xs x h e = rw (stamped-at l xs mark-written x h) (go (member x
     go : (b : Bool) → nz (cond {A = ℕ} b mark-written (getD l x 0)) ≡ true
     go true = refl
     go false = e
-
-spotted-marked : (l : Loc) (xs : List ℕ) (x : ℕ) → marked x (spotted l xs) ≡ member x xs
-unfolding marked spotted member
-spotted-marked l [] x = refl
-spotted-marked l (y ∷ xs) x = ap (λ b. eqb x y || b) (spotted-marked l xs x)
 
 spotted-at : (l : Loc) (xs : List ℕ) (x : ℕ) → member x xs ≡ true → loc-of (spotted l xs) x ≡ l
 unfolding loc-of spotted member
