@@ -60,6 +60,10 @@ never-accepted = 19
 abbrev pub not-waiting : ℕ
 not-waiting = 20
 
+-- document 02, M-106: "21, a breach of the profile"
+abbrev pub profile-breach : ℕ
+profile-breach = 21
+
 -- the guide alone
 abbrev pub not-held : ℕ
 not-held = 13

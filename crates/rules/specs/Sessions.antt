@@ -32,10 +32,10 @@ placed N cs = map (λ e. e .item .added) ((run 2 N 100 cs initial) .guide .order
 waiting : ℕ → List Call → List ℕ
 waiting N cs = map (λ w. w .reg) ((run 2 N 100 cs initial) .pending)
 
-one : ℕ → List ℕ
+abbrev pub one : ℕ → List ℕ
 one x = x ∷ []
 
-J1 : List Call
+unfoldable pub J1 : List Call
 J1 = set 0 ∷ add 0 (one 0) (one 1) ∷ add 0 (one 1) (one 2) ∷ add 0 (one 0) (one 3) ∷ add 0 [] (one 4) ∷ final ∷ []
 
 -- set 1, set 2, in=2, in=1
@@ -219,7 +219,7 @@ other-want =
 
 -- of each the two are the same
 pub sessions : (registrar-got ≡ registrar-want) × (record-got ≡ record-want) × (calls-got ≡ calls-want) × (other-got ≡ other-want)
-unfolding registrar-got registrar-want record-got record-want calls-got calls-want other-got other-want entry order-of placed waiting one J1 before third flushed opens item far at
+unfolding registrar-got registrar-want record-got record-want calls-got calls-want other-got other-want entry order-of placed waiting J1 before third flushed opens item far at
     parallelism parallelism-by last-parallelism annotate released fresh release flush-guide seek found begin choose put settle apply place tallied tally initial member marked
     tracked run-from watermark greatest ready loc-of later top after spotted reg-of place-one due left queue keep push off rest with-set with-add cascade settle-all do-set do-add
     with-record note-add note-flush note-final with-flush do-flush do-final verdict any repeats written-by taken pooled check-range too-short check-open check-closed check-places

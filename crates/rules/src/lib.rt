@@ -94,3 +94,5 @@ pub const UNKNOWN_LANE: u64 = 18;
 pub const NEVER_ACCEPTED: u64 = 19;
 
 pub const NOT_WAITING: u64 = 20;
+
+pub const PROFILE_BREACH: u64 = 21;
