@@ -1,0 +1,21 @@
+-- What the exported call that runs a list of calls under the ascending profile promises: the promise of `replay` (ascending_list/Replay), told
+-- by one number. Definitions only. Assumes nothing.
+use mathlib.Core.Path.{_≡_}
+use mathlib.Core.List.{List}
+use Prim.Native.Nat.{ℕ, _*_}
+use Rattle.rules.specs.Limits.{reply-radix}
+use Rattle.rules.specs.Calls.{unless-refused}
+use Rattle.session.specs.Storage.{Storage}
+use Rattle.ascending_session.specs.declared.Ascending.{Ascending}
+use Rattle.ascending_list.specs.Replay.{Replays}
+
+-- 64 times the order's length, or the number of a refusal
+abbrev pub by-number : ℕ → ℕ → ℕ
+by-number n written = unless-refused n n (reply-radix * written)
+
+-- r tells it of the session after the calls
+pub record Exported (P N W : ℕ) (l : List ℕ) (r : ℕ) (σ τ : Storage) (out out′ : List ℕ) : Type 0 where
+  pub number : ℕ
+  pub session : Ascending
+  pub replays : Replays P N W l number session σ τ out out′
+  pub is : r ≡ by-number number (session .guide .written)
