@@ -1,6 +1,6 @@
 #!/bin/bash
 # Host code, not proved: builds target/bench/bench, the Rust with its registrar as published, the Rust with the ordered copy,
-# and this repository's `replay` (once crates.txt lists it), in one program, all optimised. The Rust's
+# and this repository's `replay` and `ascending_replay` (once crates.txt lists them), in one program, all optimised. The Rust's
 # files are laid out by oracle/build.sh, with bench/driver/sorter.rs in the place of the oracle's runs.
 #
 #   bench/build.sh          as a release build
@@ -45,6 +45,10 @@ if grep -q '^replay:' crates.txt; then
   tools/archives replay
   links+=(--cfg ours -L target/staticlib -l static=replay)
 fi
-rustc "${flags[@]}" --check-cfg 'cfg(ours)' "${links[@]}" --crate-name bench \
+if grep -q '^ascending_replay:' crates.txt; then
+  tools/archives ascending_replay
+  links+=(--cfg ascending -l static=ascending_replay)
+fi
+rustc "${flags[@]}" --check-cfg 'cfg(ours, ascending)' "${links[@]}" --crate-name bench \
   -o target/bench/bench bench/driver/main.rs
 echo "bench/build.sh: built target/bench/bench"

@@ -10,8 +10,8 @@ import sys
 
 from report import SIDES, marginal, times
 
-LABELS = {"published": "Rust, published", "ordered": "Rust, ordered", "ours": "ours"}
-COLOURS = {"published": "#b3541e", "ordered": "#d9a441", "ours": "#1f6f8b"}
+LABELS = {"published": "Rust, published", "ordered": "Rust, ordered", "ours": "ours", "ascending": "ascending"}
+COLOURS = {"published": "#b3541e", "ordered": "#d9a441", "ours": "#1f6f8b", "ascending": "#4a8f3c"}
 WIDTH, HEIGHT, LEFT, RIGHT, TOP, BOTTOM = 720, 400, 95, 205, 40, 55
 
 

@@ -7,7 +7,11 @@
 import subprocess
 import sys
 
-SIDES = ["published", "ordered", "ours"]
+SIDES = ["published", "ordered", "ours", "ascending"]
+# Those that take every list; ascending takes only lists in its profile.
+ORDINARY = SIDES[:3]
+# What opens the session within the run.
+OWN = SIDES[2:]
 
 
 def read(path, names):
@@ -53,7 +57,7 @@ def ratio(value, other):
 
 
 def per_registration(sides, registrations, figure):
-    """A figure for one registration on each side, None where a side is missing."""
+    """A figure for one registration on each side, None where a side is missing or does not take the list."""
     return [figure(sides[s]) / registrations if s in sides else None for s in SIDES]
 
 
@@ -67,19 +71,26 @@ def registrations_of(sides):
 
 
 def beside(values):
-    """The three sides and ours over each of the two others."""
+    """The three sides that take every list, and ours over each of the two others."""
     published, ordered, ours = values
     return [number(v) for v in values] + [ratio(ours, published), ratio(ours, ordered)]
 
 
+def beside_all(values):
+    """The same, then ascending, and that over ours."""
+    *ordinary, ascending = values
+    return beside(ordinary) + [number(ascending), ratio(ascending, ordinary[-1])]
+
+
 HEAD = ["Rust, published", "Rust, ordered", "ours", "ours / published", "ours / ordered"]
+HEAD_ALL = HEAD + ["ascending", "ascending / ours"]
 
 
 def time_rows(cases):
     for case, sides in cases.items():
         some = next(iter(sides.values()))
         values = per_registration(sides, some["registrations"], lambda f: f["run"])
-        yield shown(case) + [number(some["v"]), number(some["registrations"])] + beside(values)
+        yield shown(case) + [number(some["v"]), number(some["registrations"])] + beside_all(values)
 
 
 def opening_rows(cases):
@@ -92,8 +103,8 @@ def opening_rows(cases):
 def count_rows(counted, timed):
     for case, sides in counted.items():
         registrations = registrations_of(timed[case])
-        run = lambda f: f["run"] - (f["open"] if f["side"] == "ours" else 0)
-        yield shown(case) + [number(registrations)] + beside(per_registration(sides, registrations, run))
+        run = lambda f: f["run"] - (f["open"] if f["side"] in OWN else 0)
+        yield shown(case) + [number(registrations)] + beside_all(per_registration(sides, registrations, run))
 
 
 def marginal(sides, base, side, size):
@@ -111,26 +122,27 @@ def marginal_rows(cases):
         base = cases.get((name, p, 0, waiting))
         if name != "delayed" or size == 0 or base is None:
             continue
-        yield [number(waiting)] + beside([marginal(sides, base, s, size) for s in SIDES])
+        yield [number(waiting)] + beside([marginal(sides, base, s, size) for s in ORDINARY])
 
 
 def main():
     timed, counted = times(sys.argv[1]), counts(sys.argv[2])
     places = ["workload", "P", "waiting", "V", "registrations"]
-    print_table("Nanoseconds a registration", places + HEAD, time_rows(timed))
+    print_table("Nanoseconds a registration", places + HEAD_ALL, time_rows(timed))
     print_table(
         "Nanoseconds to place one registration while others wait under as many places",
         ["waiting"] + HEAD, marginal_rows(timed))
     if counted:
-        print_table("Instructions a registration", places[:3] + places[4:] + HEAD, count_rows(counted, timed))
+        print_table("Instructions a registration", places[:3] + places[4:] + HEAD_ALL, count_rows(counted, timed))
         print_table(
             "Instructions to place one registration while others wait under as many places",
             ["waiting"] + HEAD, marginal_rows(counted))
     plain = {c: s for c, s in timed.items() if c[3] == 0}
-    print_table("Microseconds to open", ["workload", "P", "V"] + HEAD[:3], opening_rows(plain))
+    print_table("Microseconds to open", ["workload", "P", "V"] + HEAD[:3] + ["ascending"], opening_rows(plain))
     storage = subprocess.run(["target/bench/bench", "storage"], capture_output=True, text=True, check=True)
-    print(f"\n`replay` is lent {storage.stdout.strip()} bytes for each place, 4 for each number of the lists,"
-          " and for the spans and the tally 516 bytes for each of P + 1.")
+    ordinary, ascending = storage.stdout.split()
+    print(f"\n`replay` is lent {ordinary} bytes for each place and 4 for each number of the lists, `ascending_replay` {ascending}"
+          " and none; for the spans and the tally both have 516 bytes for each of P + 1.")
 
 
 if __name__ == "__main__":

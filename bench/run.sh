@@ -3,7 +3,7 @@
 # tables and draws the plots. What is measured is kept as target/bench/times.tsv and counts.tsv.
 #
 #   bench/run.sh          a few minutes
-#   bench/run.sh --full   V up to 2^22 on all sides (2^24 on `replay`), 100,000 waiting: ten minutes
+#   bench/run.sh --full   V up to 2^22 on all sides (2^24 on this repository's), 100,000 waiting: ten minutes
 #   bench/run.sh --lto    the Rust with link-time optimisation; can stand beside --full
 #   bench/run.sh --plots FOLDER   writes the plots there; else they go to target/bench
 set -euo pipefail
@@ -24,10 +24,10 @@ bench/build.sh "${lto[@]}"
 bench=target/bench/bench
 times=target/bench/times.tsv
 counts=target/bench/counts.tsv
-sides=$($bench sides)
+own=$($bench sides | cut -s -d, -f3-) # this repository's
 
 # time REPETITIONS NAME P SIZE WAITING [SIDES]
-time_case() { $bench time "$1" "${6:-$sides}" "$2" "$3" "$4" "$5" >>$times; }
+time_case() { $bench time "$1" "${6:-$($bench sides "$2" "$3" "$4" "$5")}" "$2" "$3" "$4" "$5" >>$times; }
 
 # Instructions of one run, by callgrind, between entry and exit of `measured`.
 instructions() {
@@ -38,7 +38,8 @@ instructions() {
 
 # count NAME P SIZE WAITING
 count_case() {
-  local side
+  local side sides
+  sides=$($bench sides "$@")
   for side in ${sides//,/ }; do
     printf '%s\t%s\t%s\t%s\t%s\t%s\t%s\n' "$1" "$2" "$3" "$4" "$side" \
       "$(instructions "$side-opening" "$@")" "$(instructions "$side" "$@")" >>$counts
@@ -55,13 +56,13 @@ for name in forward poseidon chain independent; do
   time_case 3 $name 1024 262144 0
   time_case 3 $name 1024 1048576 0
   [ -z "$full" ] || time_case 3 $name 1024 4194304 0
-  case "$full,$sides" in yes,*ours) time_case 1 $name 1024 16777216 0 ours ;; esac
+  [ -z "$full" ] || [ -z "$own" ] || time_case 1 $name 1024 16777216 0 "$own"
 done
 for waiting in 10 100 1000 10000 ${full:+100000}; do
   for others in 0 4096; do
     time_case $((waiting > 1000 ? 1 : 3)) delayed 1024 $others $waiting
     # Beside so many the Rust takes seconds and is run once. Ours takes milliseconds: the least of nine runs replaces the one
-    case "$((waiting > 1000)),$sides" in 1,*ours) time_case 9 delayed 1024 $others $waiting ours ;; esac
+    [ $waiting -le 1000 ] || [ -z "$own" ] || time_case 9 delayed 1024 $others $waiting ours
   done
 done
 for waiting in 65536 262144; do
@@ -70,7 +71,7 @@ done
 for waiting in 1024 4096 ${full:+16384}; do
   time_case 1 reversed 1024 0 $waiting
 done
-case "$sides" in *ours) time_case 1 reversed 1024 0 1048576 ours ;; esac
+[ -z "$own" ] || time_case 1 reversed 1024 0 1048576 ours
 
 if command -v valgrind >/dev/null; then
   echo "bench/run.sh: instructions"

@@ -26,7 +26,8 @@ enum order_code {
     ORDER_LONG_LISTING = 17,
     ORDER_UNKNOWN_LANE = 18,
     ORDER_NEVER_ACCEPTED = 19,
-    ORDER_NOT_WAITING = 20
+    ORDER_NOT_WAITING = 20,
+    ORDER_PROFILE_BREACH = 21
 };
 
 /* A number in words: when it is given. Never null; a number that is none of the above is said to be so. */
@@ -74,6 +75,8 @@ static inline const char *order_code_text(uint64_t number) {
         return "no registration of this number was accepted";
     case ORDER_NOT_WAITING:
         return "the registration was accepted and does not wait";
+    case ORDER_PROFILE_BREACH:
+        return "in an ascending session, a place to be set or written is not the lowest one neither set nor written, or an input is not below the first output (with none, below that lowest one)";
     default:
         return "no number of a refusal";
     }

@@ -1,8 +1,9 @@
-/* Host code, not proved: the declarations of the proved calls of crate `replay`.
-   A whole list of calls on a freshly opened session.
-   `tools/archives replay` proves them and writes target/staticlib/libreplay.a; hosts/replay_example.c
-   shows a call, hosts/replay_storage.h lays the storage out in one block of memory. docs/REPLAY.md
-   describes the encoding of the calls. */
+/* Host code, not proved: the declarations of the proved calls of crates `replay` and `ascending_replay`.
+   A whole list of calls on a freshly opened session, an ordinary or an ascending one.
+   `tools/archives replay ascending_replay` proves them and writes target/staticlib/libreplay.a and
+   libascending_replay.a; hosts/replay_example.c and hosts/ascending_example.c show a call,
+   hosts/replay_storage.h lays the storage out in one block of memory. docs/REPLAY.md describes the
+   encoding of the calls. */
 #ifndef REPLAY_H
 #define REPLAY_H
 
@@ -22,7 +23,8 @@ extern "C" {
 #define REPLAY_ROW_NUMBERS ORDER_ROW_NUMBERS
 
 /* What a session of parallelism P (1 to 64,999) over V places (1 to 16,777,216) needs, in numbers.
-   The pool may have any length: it bounds the input and output numbers of all accepted adds. */
+   The pool may have any length: it bounds the input and output numbers of all accepted adds. An ascending
+   session needs the same but for the waiting storage and the pool, of which it has none. */
 #define REPLAY_SPANS(p) ((size_t)ORDER_SPANS * REPLAY_ENTRY_NUMBERS * ((size_t)(p) + 1))
 #define REPLAY_ORDER(v) ((size_t)REPLAY_ENTRY_NUMBERS * (size_t)(v))
 #define REPLAY_TALLY(p) ((size_t)(p) + 1)
@@ -41,7 +43,7 @@ extern "C" {
 #define REPLAY_WRITTEN ORDER_MARK_WRITTEN
 #define REPLAY_SET ORDER_MARK_SET
 
-/* What both calls below do. Opens a session on the lent storage, whose contents before do not matter,
+/* What replay_calls and replay_held do. Opens a session on the lent storage, whose contents before do not matter,
    and makes all calls. Each slice is a pointer and a count of numbers; slices do not overlap, and no
    pointer is null, also where the count is 0. Returns 64 times a count, or the number of a refusal,
    and then nothing was written: 15 for a malformed list of calls, 1 for a P or V out of range, 2 for a
@@ -72,6 +74,23 @@ replay_function replay_calls;
 /* Writes what replay_calls writes, and returns 64 times the entries that the window's 32 spans hold after
    the calls: those placed and not yet in the order. 0 after a flush or final; who waits is not counted. */
 replay_function replay_held;
+
+/* The same under the ascending profile, for circuits that number their places in the order in which they
+   are set and written. A set must be of the lowest place that is neither set nor written, and the outputs of
+   an add must be that place and those after it, in this order; its inputs lie below its first output or,
+   with no outputs, below that lowest place. Any other set or add is answered with 21. Then nothing ever waits, and
+   the calls that are accepted leave what replay_calls leaves of them. No list is kept: w bounds the
+   input and output numbers of all accepted adds, as a pool's length does elsewhere.
+   Returns 64 times the order's length in entries, or the number of a refusal as above. */
+uint64_t replay_ascending(uint32_t *spans, size_t spans_count,
+                          uint32_t *order, size_t order_count,
+                          uint32_t *tally, size_t tally_count,
+                          uint32_t *rows, size_t rows_count,
+                          uint16_t *marks, size_t marks_count,
+                          uint64_t *locations, size_t locations_count,
+                          uint64_t *answers, size_t answers_count,
+                          const uint64_t *calls, size_t calls_count,
+                          uint64_t p, uint64_t v, uint64_t w);
 
 #ifdef __cplusplus
 }

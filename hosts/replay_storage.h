@@ -1,5 +1,5 @@
 /* Host code, not proved: the storage of a session in one block of memory, around the proved replay_calls,
-   replay_held and replay_reason.
+   replay_held, replay_reason and replay_ascending.
 
        size_t bytes = replay_storage_bytes(p, v, w);           0: no session is that large
        void *memory = malloc(bytes);
@@ -7,9 +7,12 @@
        uint64_t returned = replay_run(&storage, calls, calls_count, answers, answers_count);
        for (size_t i = 0; i < storage.entries; i++) .. replay_entry_at(&storage, i) ..
 
+   For an ascending session it is replay_ascending_bytes(p, v), replay_ascending_in(memory, p, v, w) and
+   replay_run_ascending.
+
    All functions are defined here; the program is linked with the archive of crate replay, with that
-   of crate summary where it calls replay_summary_of, and with that of crate reason where it calls
-   replay_run_reason.
+   of crate summary where it calls replay_summary_of, with that of crate reason where it calls
+   replay_run_reason, and with that of crate ascending_replay where it calls replay_run_ascending.
    hosts/storage_example.c is a whole program. docs/REPLAY.md describes the calls' encoding, and what
    the slices hold. */
 #ifndef REPLAY_STORAGE_H
@@ -32,12 +35,12 @@ struct replay_storage {
     uint64_t p, v;       /* parallelism and count of places */
     size_t pool_count;   /* W: how many list numbers all accepted adds may have together */
     uint64_t *locations; /* V numbers: a place's span number * 2^32 + its position */
-    uint64_t *waiting;   /* 4 V numbers, the session's own */
+    uint64_t *waiting;   /* 4 V numbers, the session's own; null where there is room for an ascending one only */
     uint32_t *spans;     /* 128 (P + 1) numbers, the session's own */
     uint32_t *order;     /* 4 V numbers, 4 an entry */
     uint32_t *tally;     /* P + 1 numbers: how many entries have the parallelism 0, 1, .. P */
     uint32_t *rows;      /* 5 V numbers, 5 a registration */
-    uint32_t *pool;      /* W numbers, the session's own */
+    uint32_t *pool;      /* W numbers, the session's own; null as above */
     uint16_t *marks;     /* V numbers: REPLAY_UNTRACKED, REPLAY_WRITTEN or REPLAY_SET */
     size_t entries;      /* the order's length; 0 before the first run and after a refused one */
 };
@@ -65,17 +68,28 @@ struct replay_summary {
     uint32_t median, counts[128], thousands[65];
 };
 
-/* The bytes that all slices but the pool take. */
-static inline size_t replay_storage_fixed(uint64_t p, uint64_t v) {
-    return sizeof(uint64_t) * (REPLAY_LOCATIONS(v) + REPLAY_WAITING(v)) +
+/* The bytes that the slices of an ascending session take. */
+static inline size_t replay_ascending_fixed(uint64_t p, uint64_t v) {
+    return sizeof(uint64_t) * REPLAY_LOCATIONS(v) +
            sizeof(uint32_t) * (REPLAY_SPANS(p) + REPLAY_ORDER(v) + REPLAY_TALLY(p) + REPLAY_ROWS(v)) +
            sizeof(uint16_t) * REPLAY_MARKS(v);
+}
+
+/* The bytes that all slices but the pool take. */
+static inline size_t replay_storage_fixed(uint64_t p, uint64_t v) {
+    return replay_ascending_fixed(p, v) + sizeof(uint64_t) * REPLAY_WAITING(v);
+}
+
+/* Whether there are sessions of parallelism p over v places: ORDER_ACCEPTED or ORDER_OUT_OF_RANGE. */
+static inline uint64_t replay_range_code(uint64_t p, uint64_t v) {
+    int within = p >= 1 && p <= REPLAY_MOST_PARALLELISM && v >= 1 && v <= REPLAY_MOST_PLACES;
+    return within ? ORDER_ACCEPTED : ORDER_OUT_OF_RANGE;
 }
 
 /* The order_code for a session of parallelism p over v places with a pool of w numbers: 0, or
    ORDER_OUT_OF_RANGE for p or v, or ORDER_TOO_SHORT for a pool that no memory holds. */
 static inline uint64_t replay_storage_code(uint64_t p, uint64_t v, uint64_t w) {
-    if (p < 1 || p > REPLAY_MOST_PARALLELISM || v < 1 || v > REPLAY_MOST_PLACES)
+    if (replay_range_code(p, v) != ORDER_ACCEPTED)
         return ORDER_OUT_OF_RANGE;
     if (w > (SIZE_MAX / 2 - replay_storage_fixed(p, v)) / sizeof(uint32_t) - 2)
         return ORDER_TOO_SHORT;
@@ -90,6 +104,42 @@ static inline size_t replay_storage_bytes(uint64_t p, uint64_t v, uint64_t w) {
     return replay_storage_fixed(p, v) + sizeof(uint32_t) * (size_t)w + (sizeof(uint64_t) - 1);
 }
 
+/* The same for an ascending session; 0 for a p or v out of range. */
+static inline size_t replay_ascending_bytes(uint64_t p, uint64_t v) {
+    if (replay_range_code(p, v) != ORDER_ACCEPTED)
+        return 0;
+    return replay_ascending_fixed(p, v) + (sizeof(uint64_t) - 1);
+}
+
+/* The slices from an address on, with the waiting storage and the pool only where they are asked for. */
+static inline struct replay_storage replay_laid_out(void *memory, uint64_t p, uint64_t v, uint64_t w, int ordinary) {
+    struct replay_storage storage = {ORDER_ACCEPTED, p, v, (size_t)w, NULL, NULL, NULL, NULL,
+                                     NULL, NULL, NULL, NULL, 0};
+    /* by descending size of their numbers, so that each slice begins where its numbers may stand */
+    size_t ahead = (size_t)(-(uintptr_t)memory % sizeof(uint64_t));
+    uint64_t *next;
+    storage.locations = (uint64_t *)(void *)((char *)memory + ahead);
+    next = storage.locations + REPLAY_LOCATIONS(v);
+    if (ordinary) {
+        storage.waiting = next;
+        next += REPLAY_WAITING(v);
+    }
+    storage.spans = (uint32_t *)(void *)next;
+    storage.order = storage.spans + REPLAY_SPANS(p);
+    storage.tally = storage.order + REPLAY_ORDER(v);
+    storage.rows = storage.tally + REPLAY_TALLY(p);
+    if (ordinary)
+        storage.pool = storage.rows + REPLAY_ROWS(v);
+    storage.marks = (uint16_t *)(void *)(storage.rows + REPLAY_ROWS(v) + (ordinary ? storage.pool_count : 0));
+    return storage;
+}
+
+/* What stands for a storage where none can be laid out. */
+static inline struct replay_storage replay_no_storage(uint64_t code) {
+    struct replay_storage storage = {code, 0, 0, 0, NULL, NULL, NULL, NULL, NULL, NULL, NULL, NULL, 0};
+    return storage;
+}
+
 /* Lays the slices out in a block of so many bytes. The block's contents do not matter and are not
    changed before the first run; the caller keeps the block, and frees it when all is read. Where
    `refusal` of the result is not 0 there is no storage in it: ORDER_OUT_OF_RANGE for p or v,
@@ -97,28 +147,10 @@ static inline size_t replay_storage_bytes(uint64_t p, uint64_t v, uint64_t w) {
    which that is 0. */
 static inline struct replay_storage replay_storage_within(void *memory, size_t bytes,
                                                           uint64_t p, uint64_t v, uint64_t w) {
-    struct replay_storage storage = {ORDER_TOO_SHORT, 0, 0, 0, NULL, NULL, NULL, NULL,
-                                     NULL, NULL, NULL, NULL, 0};
     uint64_t code = replay_storage_code(p, v, w);
     if (code == ORDER_ACCEPTED && (memory == NULL || bytes < replay_storage_bytes(p, v, w)))
         code = ORDER_TOO_SHORT;
-    storage.refusal = code;
-    if (code != ORDER_ACCEPTED)
-        return storage;
-    storage.p = p;
-    storage.v = v;
-    storage.pool_count = (size_t)w;
-    /* by descending size of their numbers, so that each slice begins where its numbers may stand */
-    size_t ahead = (size_t)(-(uintptr_t)memory % sizeof(uint64_t));
-    storage.locations = (uint64_t *)(void *)((char *)memory + ahead);
-    storage.waiting = storage.locations + REPLAY_LOCATIONS(v);
-    storage.spans = (uint32_t *)(void *)(storage.waiting + REPLAY_WAITING(v));
-    storage.order = storage.spans + REPLAY_SPANS(p);
-    storage.tally = storage.order + REPLAY_ORDER(v);
-    storage.rows = storage.tally + REPLAY_TALLY(p);
-    storage.pool = storage.rows + REPLAY_ROWS(v);
-    storage.marks = (uint16_t *)(void *)(storage.pool + storage.pool_count);
-    return storage;
+    return code == ORDER_ACCEPTED ? replay_laid_out(memory, p, v, w, 1) : replay_no_storage(code);
 }
 
 /* The same in a block that has replay_storage_bytes(p, v, w) bytes. */
@@ -126,17 +158,33 @@ static inline struct replay_storage replay_storage_in(void *memory, uint64_t p, 
     return replay_storage_within(memory, replay_storage_bytes(p, v, w), p, v, w);
 }
 
-/* The slices as the first arguments of the proved calls. */
-#define REPLAY_SLICES(storage)                                                                \
+/* The same for an ascending session, without waiting storage and pool: w is a number to count to, and any will do. */
+static inline struct replay_storage replay_ascending_within(void *memory, size_t bytes,
+                                                            uint64_t p, uint64_t v, uint64_t w) {
+    uint64_t code = replay_range_code(p, v);
+    if (code == ORDER_ACCEPTED && (memory == NULL || bytes < replay_ascending_bytes(p, v)))
+        code = ORDER_TOO_SHORT;
+    return code == ORDER_ACCEPTED ? replay_laid_out(memory, p, v, w, 0) : replay_no_storage(code);
+}
+
+/* In a block that has replay_ascending_bytes(p, v) bytes. */
+static inline struct replay_storage replay_ascending_in(void *memory, uint64_t p, uint64_t v, uint64_t w) {
+    return replay_ascending_within(memory, replay_ascending_bytes(p, v), p, v, w);
+}
+
+/* The slices as the first arguments of the proved calls: of replay_ascending, and of the others. */
+#define REPLAY_ASCENDING_SLICES(storage)                                                      \
     (storage)->spans, REPLAY_SPANS((storage)->p), (storage)->order, REPLAY_ORDER((storage)->v), \
     (storage)->tally, REPLAY_TALLY((storage)->p), (storage)->rows, REPLAY_ROWS((storage)->v),   \
     (storage)->marks, REPLAY_MARKS((storage)->v),                                             \
-    (storage)->locations, REPLAY_LOCATIONS((storage)->v),                                     \
+    (storage)->locations, REPLAY_LOCATIONS((storage)->v)
+#define REPLAY_SLICES(storage)                                                                \
+    REPLAY_ASCENDING_SLICES(storage),                                                         \
     (storage)->waiting, REPLAY_WAITING((storage)->v), (storage)->pool, (storage)->pool_count
 
 /* What every run begins with: no entries, and the refusal of a storage that could not be laid out, of null calls and of
    null answers, unless their count is 0. */
-static inline uint64_t replay_run_code(struct replay_storage *storage, const uint64_t *calls, size_t calls_count,
+static inline uint64_t replay_any_code(struct replay_storage *storage, const uint64_t *calls, size_t calls_count,
                                        const uint64_t *answers, size_t answers_count) {
     if (storage == NULL)
         return ORDER_TOO_SHORT;
@@ -148,6 +196,13 @@ static inline uint64_t replay_run_code(struct replay_storage *storage, const uin
     if (answers == NULL && answers_count > 0)
         return ORDER_TOO_SHORT;
     return ORDER_ACCEPTED;
+}
+
+/* The same for a run of an ordinary session, for which a storage laid out for an ascending one is too short. */
+static inline uint64_t replay_run_code(struct replay_storage *storage, const uint64_t *calls, size_t calls_count,
+                                       const uint64_t *answers, size_t answers_count) {
+    uint64_t code = replay_any_code(storage, calls, calls_count, answers, answers_count);
+    return code == ORDER_ACCEPTED && storage->waiting == NULL ? (uint64_t)ORDER_TOO_SHORT : code;
 }
 
 /* What replay_run and replay_run_held have in common: `function` is called on the storage, if there is any. */
@@ -208,6 +263,21 @@ static inline uint64_t replay_run_reason(struct replay_storage *storage, const u
     case ORDER_NOT_WAITING:
         storage->entries = replay_tallied(storage);
     }
+    return returned;
+}
+
+/* Opens an ascending session on the storage and makes all calls, as replay_run does for an ordinary one; returned is
+   what replay_ascending returns. A storage laid out for an ordinary session will do too. */
+static inline uint64_t replay_run_ascending(struct replay_storage *storage, const uint64_t *calls, size_t calls_count,
+                                            uint64_t *answers, size_t answers_count) {
+    uint64_t nothing = 0, returned = replay_any_code(storage, calls, calls_count, answers, answers_count);
+    if (returned != ORDER_ACCEPTED)
+        return returned;
+    returned = replay_ascending(REPLAY_ASCENDING_SLICES(storage), answers == NULL ? &nothing : answers, answers_count,
+                                calls == NULL ? &nothing : calls, calls_count,
+                                storage->p, storage->v, storage->pool_count);
+    if (returned % ORDER_REPLY_RADIX == ORDER_ACCEPTED)
+        storage->entries = (size_t)(returned / ORDER_REPLY_RADIX);
     return returned;
 }
 

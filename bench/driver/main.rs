@@ -2,7 +2,8 @@
 //! prints a line of figures for each; `bench once` makes one run under a name that an instruction counter can look for.
 //!
 //!   bench sides                                      the sides that are linked in
-//!   bench storage                                    bytes that `replay` is lent for each place
+//!   bench sides NAME P SIZE WAITING                  those of them that take this list: `ascending` only one in the profile
+//!   bench storage                                    bytes that `replay` and `ascending_replay` are lent for each place
 //!   bench time REPETITIONS SIDES NAME P SIZE WAITING
 //!   bench once SIDE NAME P SIZE WAITING
 //!
@@ -16,7 +17,7 @@ mod workloads;
 
 use std::time::Duration;
 
-use ours::Lent;
+use ours::{Lent, Session};
 use workloads::{workload, Size, Workload};
 
 /// One side: opens, runs the calls, and gives the order as a single number to compare sides by.
@@ -61,6 +62,7 @@ rust_side!(Published, published);
 rust_side!(Ordered, ordered);
 
 struct Ours {
+    session: Session,
     calls: Vec<u64>,
     lent: Option<Lent>,
     parallelism: u32,
@@ -69,9 +71,9 @@ struct Ours {
 }
 
 impl Ours {
-    fn boxed(calls: &[u64]) -> Box<dyn Side> {
+    fn boxed(session: Session, calls: &[u64]) -> Box<dyn Side> {
         let calls = calls.to_vec();
-        Box::new(Self { calls, lent: None, parallelism: 0, places: 0, registrations: 0 })
+        Box::new(Self { session, calls, lent: None, parallelism: 0, places: 0, registrations: 0 })
     }
 }
 
@@ -80,7 +82,7 @@ impl Side for Ours {
         self.parallelism = parallelism;
         self.places = workload.capacity();
         self.registrations = workload.registrations;
-        self.lent = Some(Lent::new(parallelism, workload));
+        self.lent = Some(Lent::new(self.session, parallelism, workload));
     }
 
     fn reopen(&mut self) {
@@ -95,15 +97,29 @@ impl Side for Ours {
 
     fn close(&mut self) -> u64 {
         let lent = self.lent.take().expect("lent storage");
+        assert!(lent.all_accepted(), "a call was refused");
         digest(lent.order(self.registrations))
     }
+}
+
+/// The sides that are linked in, with or without the one that takes only lists in the profile.
+fn sides(ascending: bool) -> String {
+    let mut names = vec!["published", "ordered"];
+    if ours::linked(Session::Ordinary) {
+        names.push("ours");
+    }
+    if ascending && ours::linked(Session::Ascending) {
+        names.push("ascending");
+    }
+    names.join(",")
 }
 
 fn side(name: &str, calls: &[u64]) -> Box<dyn Side> {
     match name {
         "published" => Published::boxed(calls),
         "ordered" => Ordered::boxed(calls),
-        "ours" if ours::LINKED => Ours::boxed(calls),
+        "ours" if ours::linked(Session::Ordinary) => Ours::boxed(Session::Ordinary, calls),
+        "ascending" if ours::linked(Session::Ascending) => Ours::boxed(Session::Ascending, calls),
         _ => fail(&format!("no side called {name} is linked in")),
     }
 }
@@ -206,9 +222,15 @@ fn main() {
     let words: Vec<String> = std::env::args().skip(1).collect();
     let words: Vec<&str> = words.iter().map(String::as_str).collect();
     match words[..] {
-        ["sides"] if ours::LINKED => println!("published,ordered,ours"),
-        ["sides"] => println!("published,ordered"),
-        ["storage"] => println!("{}", Lent::per_place()),
+        ["sides"] => println!("{}", sides(true)),
+        ["sides", name, parallelism, size, waiting] => {
+            let (made, _) = asked(name, parallelism, size, waiting);
+            println!("{}", sides(made.ascending))
+        }
+        ["storage"] => {
+            let bytes = [Session::Ordinary, Session::Ascending].map(Lent::per_place);
+            println!("{} {}", bytes[0], bytes[1])
+        }
         ["time", repetitions, sides, name, parallelism, size, waiting] => {
             let (made, parallelism) = asked(name, parallelism, size, waiting);
             let sides: Vec<&str> = sides.split(',').collect();
@@ -232,7 +254,7 @@ fn main() {
             measured(&mut side);
             println!("{}", made.registrations);
         }
-        _ => fail("`sides`, `storage`, `time REPETITIONS SIDES NAME P SIZE WAITING` or `once SIDE NAME P SIZE WAITING` expected"),
+        _ => fail("`sides`, `sides NAME P SIZE WAITING`, `storage`, `time REPETITIONS SIDES NAME P SIZE WAITING` or `once SIDE NAME P SIZE WAITING` expected"),
     }
 }
 

@@ -1,5 +1,5 @@
-//! Host code, not proved: this repository's `replay` as a side of the benchmark. It is linked in by
-//! `--cfg ours`, which bench/build.sh gives once crates.txt lists the crate `replay`.
+//! Host code, not proved: this repository's `replay` and `ascending_replay` as sides of the benchmark. They are linked in by
+//! `--cfg ours` and `--cfg ascending`, which bench/build.sh gives once crates.txt lists the crates.
 
 use crate::workloads::Workload;
 
@@ -9,9 +9,17 @@ mod layout;
 
 use layout::{Entry, Needed, ENTRY};
 
-/// The storage that a session is lent, cleared.
+/// Which exported call is made.
+#[derive(Clone, Copy, PartialEq, Eq)]
+pub enum Session {
+    Ordinary,
+    Ascending,
+}
+
+/// The storage that a session is lent, cleared; an ascending one has neither waiting storage nor pool.
 #[cfg_attr(not(ours), allow(dead_code))]
 pub struct Lent {
+    session: Session,
     spans: Vec<u32>,
     order: Vec<u32>,
     tally: Vec<u32>,
@@ -33,24 +41,38 @@ fn cleared<T: Clone>(zero: T, count: usize) -> Vec<T> {
 }
 
 impl Lent {
-    pub fn new(parallelism: u32, workload: &Workload) -> Self {
+    pub fn new(session: Session, parallelism: u32, workload: &Workload) -> Self {
         let needed = Needed::new(parallelism as usize, workload.capacity());
+        let (waiting, pooled) = match session {
+            Session::Ordinary => (needed.waiting, workload.pooled),
+            Session::Ascending => (0, 0),
+        };
         Self {
+            session,
             spans: cleared(0, needed.spans),
             order: cleared(0, needed.order),
             tally: cleared(0, needed.tally),
             rows: cleared(0, needed.rows),
             marks: cleared(0, needed.marks),
             locations: cleared(0, needed.locations),
-            waiting: cleared(0, needed.waiting),
-            pool: cleared(0, workload.pooled),
+            waiting: cleared(0, waiting),
+            pool: cleared(0, pooled),
             answers: cleared(0, workload.calls.len()),
         }
     }
 
     /// Bytes lent for each place: all but the spans, the tally, the pool and the answers.
-    pub fn per_place() -> u64 {
-        Needed::new(1, 2).bytes() - Needed::new(1, 1).bytes()
+    pub fn per_place(session: Session) -> u64 {
+        let bytes = |places| match session {
+            Session::Ordinary => Needed::new(1, places).bytes(),
+            Session::Ascending => Needed::new(1, places).ascending_bytes(),
+        };
+        bytes(2) - bytes(1)
+    }
+
+    /// Whether no call was refused.
+    pub fn all_accepted(&self) -> bool {
+        self.answers.iter().all(|answer| *answer == 0)
     }
 
     /// Each entry's added, accepted and parallelism, in the order.
@@ -63,7 +85,7 @@ impl Lent {
 #[cfg(ours)]
 mod linked {
     use super::layout::limits::REPLY_RADIX;
-    use super::Lent;
+    use super::{Lent, Session};
 
     // A slice goes as a pointer and a length.
     extern "C" {
@@ -75,6 +97,16 @@ mod linked {
             waiting: *mut u64, waiting_length: usize, pool: *mut u32, pool_length: usize,
             answers: *mut u64, answers_length: usize, calls: *const u64, calls_length: usize,
             parallelism: u64, places: u64,
+        ) -> u64;
+
+        #[cfg(ascending)]
+        #[rustfmt::skip]
+        fn replay_ascending(
+            spans: *mut u32, spans_length: usize, order: *mut u32, order_length: usize,
+            tally: *mut u32, tally_length: usize, rows: *mut u32, rows_length: usize,
+            marks: *mut u16, marks_length: usize, locations: *mut u64, locations_length: usize,
+            answers: *mut u64, answers_length: usize, calls: *const u64, calls_length: usize,
+            parallelism: u64, places: u64, list_numbers: u64,
         ) -> u64;
     }
 
@@ -89,13 +121,26 @@ mod linked {
         let (spans, order, tally) = (slice!(spans), slice!(order), slice!(tally));
         let (rows, marks, locations) = (slice!(rows), slice!(marks), slice!(locations));
         let (waiting, pool, answers) = (slice!(waiting), slice!(pool), slice!(answers));
-        // SAFETY: each pointer and length is a whole vector's, all of them apart from each other.
-        let number = unsafe {
-            replay_calls(
-                spans.0, spans.1, order.0, order.1, tally.0, tally.1, rows.0, rows.1, marks.0,
-                marks.1, locations.0, locations.1, waiting.0, waiting.1, pool.0, pool.1, answers.0,
-                answers.1, calls.as_ptr(), calls.len(), parallelism as u64, places as u64,
-            )
+        let (p, v) = (parallelism as u64, places as u64);
+        // SAFETY, for both: each pointer and length is a whole vector's, all of them apart from each other.
+        let number = match lent.session {
+            Session::Ordinary => unsafe {
+                replay_calls(
+                    spans.0, spans.1, order.0, order.1, tally.0, tally.1, rows.0, rows.1, marks.0,
+                    marks.1, locations.0, locations.1, waiting.0, waiting.1, pool.0, pool.1,
+                    answers.0, answers.1, calls.as_ptr(), calls.len(), p, v,
+                )
+            },
+            #[cfg(ascending)]
+            Session::Ascending => unsafe {
+                replay_ascending(
+                    spans.0, spans.1, order.0, order.1, tally.0, tally.1, rows.0, rows.1, marks.0,
+                    marks.1, locations.0, locations.1, answers.0, answers.1, calls.as_ptr(),
+                    calls.len(), p, v, u64::MAX,
+                )
+            },
+            #[cfg(not(ascending))]
+            Session::Ascending => unreachable!("no ascending_replay is linked in"),
         };
         // The order's length times a radix that is above every refusal's number, or such a number.
         assert!(number % REPLY_RADIX == 0, "replay refused the list with {number}");
@@ -113,4 +158,9 @@ mod linked {
     }
 }
 
-pub use linked::{run, LINKED};
+/// Whether a side of this repository is linked in.
+pub fn linked(session: Session) -> bool {
+    linked::LINKED && (session == Session::Ordinary || cfg!(ascending))
+}
+
+pub use linked::run;

@@ -8,6 +8,8 @@ pub struct Workload {
     pub registrations: usize,
     /// How many numbers the lists of all registrations have.
     pub pooled: usize,
+    /// Whether all calls are in the ascending profile (docs/REPLAY.md).
+    pub ascending: bool,
 }
 
 impl Workload {
@@ -157,16 +159,19 @@ struct List {
     places: u64,
     registrations: usize,
     pooled: usize,
+    /// While all calls are in the ascending profile: the lowest place that is neither set nor written.
+    lowest: Option<u64>,
 }
 
 impl List {
     fn new() -> Self {
-        Self { calls: Vec::new(), places: 0, registrations: 0, pooled: 0 }
+        Self { calls: Vec::new(), places: 0, registrations: 0, pooled: 0, lowest: Some(0) }
     }
 
     fn set(&mut self, place: u64) {
         self.places = self.places.max(place + 1);
         self.calls.extend([1, place]);
+        self.ascend(&[], &[place]);
     }
 
     fn add(&mut self, inputs: &[u64], outputs: &[u64]) {
@@ -178,6 +183,15 @@ impl List {
         self.places = self.places.max(most);
         self.registrations += 1;
         self.pooled += inputs.len() + outputs.len();
+        self.ascend(inputs, outputs);
+    }
+
+    /// The lowest place after a call that reads and sets or writes these, if it was in the profile.
+    fn ascend(&mut self, inputs: &[u64], made: &[u64]) {
+        let in_profile = |lowest: &u64| {
+            inputs.iter().all(|input| input < lowest) && (*lowest..).zip(made).all(|(place, made)| *made == place)
+        };
+        self.lowest = self.lowest.filter(in_profile).map(|lowest| lowest + made.len() as u64);
     }
 
     fn ended(mut self) -> Workload {
@@ -187,6 +201,7 @@ impl List {
             places: self.places as usize,
             registrations: self.registrations,
             pooled: self.pooled,
+            ascending: self.lowest.is_some(),
         }
     }
 }

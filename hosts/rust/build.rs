@@ -9,11 +9,12 @@ use std::path::{Path, PathBuf};
 use std::process::{exit, Command, Output};
 
 /// Each crate with exported calls. An archive's only global names are these, so that all go into one program.
-const CRATES: [&str; 8] = [
+const CRATES: [&str; 9] = [
     "host",
     "jobneeds",
     "jobtext",
     "replay",
+    "ascending_replay",
     "reason",
     "alone_replay",
     "order_entries",

@@ -39,7 +39,7 @@ done < <(sed -n 's/^| \[\([a-z-]*\)\](refused.*| status=\([0-9]*\), line=\([0-9]
 python3 .ci/transcripts.py examples/README.md
 
 # Of every number that a job can be refused with by `order` there is an example there. 19 and 20 refuse no job: they say of
-# a registration that there is no reason to tell.
+# a registration that there is no reason to tell. 21 is a breach of the ascending profile, and a job's session is ordinary.
 answers=$(sed -n 's/.*status=\([1-9][0-9]*\).*/\1/p' examples/README.md | sort -nu | paste -sd' ')
 [ "$answers" = "1 2 4 5 6 8 9 10 12 15 16 18" ] || { echo "tests/examples: README has examples of $answers" >&2; exit 1; }
 

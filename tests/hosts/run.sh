@@ -122,6 +122,7 @@ for compiler in 'gcc -std=c99' 'g++ -std=c++11 -x c++' 'clang -std=c99' 'clang++
 done
 archives=$(printf 'target/staticlib/lib%s.a ' $(grep -l 'pub extern "C" fn' crates/*/src/lib.rt | cut -d/ -f2))
 printf '%s\n' registrations=4 pool=7 flushes=0 most_spans=40 >"$work/j1.needs"
+{ printf 'call %s breaches the profile\n' 4 5 && grep ^order= crates/order/stdout; } >"$work/j1.ascending"
 cat >"$work/j1.lines" <<'TEXT'
 line=1 start=0 end=13
 line=2 start=14 end=22
@@ -150,9 +151,11 @@ for compiler in "${compilers[@]}"; do
     ! $compiler -fsyntax-only "$work/header.c" 2>/dev/null || fail "$header has the name of a header of the system's"
     headers=$((headers + 1))
   done
-  # J1 with a call that is refused, and a guide's list with such a request: place 3 is written twice, no entry is at 7, 7.
+  # J1 with a call that is refused, and a guide's list with such a request: place 3 is written twice, no entry is at 7, 7;
+  # on the ascending session it has bit 62.
   sed 's/2, 0, 1, 4,  /2, 0, 1, 3,  /' hosts/replay_example.c >"$work/replay_refused.c"
   sed 's/2, 0, 1, 4,  /2, 0, 1, 3,  /' hosts/storage_example.c >"$work/storage_refused.c"
+  sed 's/2, 0, 1, 4,  /2, 0, 1, (uint64_t)1 << 62,/' hosts/ascending_example.c >"$work/ascending_refused.c"
   sed 's/GUIDE_PUSH_AFTER, 1, 0,/GUIDE_PUSH_AFTER, 7, 7,/' hosts/guide_example.c >"$work/guide_refused.c"
   for program in hosts/*_example.c "$work"/*_refused.c tests/hosts/storage.c; do
     $strict -Ihosts -c "$program" -o "$work/program.o" || fail "$program by $compiler"
@@ -161,6 +164,7 @@ for compiler in "${compilers[@]}"; do
   diff crates/order/stdout <("$work/order_example" <crates/order/stdin) || fail "order_example by $compiler"
   diff <(grep ^order= crates/order/stdout) <("$work/replay_example") || fail "replay_example by $compiler"
   diff <(grep ^order= crates/order/stdout) <("$work/storage_example" | grep ^order=) || fail "storage_example by $compiler"
+  diff "$work/j1.ascending" <("$work/ascending_example") || fail "ascending_example by $compiler"
   "$work/storage" || fail "storage by $compiler"
   diff "$work/j1.needs" <("$work/needs_example" <crates/order/stdin) || fail "needs_example by $compiler"
   diff "$work/j1.needs" <("$work/needs_example" crates/order/stdin) || fail "needs_example with a file by $compiler"
@@ -180,6 +184,7 @@ order=3 value=73 added=3 accepted=3 parallelism=1
 TEXT
   refuses 1 "call 4: refused with 8: a place to be set or written is already" "$work/replay_refused"
   refuses 1 "a call: refused with 8: a place to be set or written is already" "$work/storage_refused"
+  refuses 1 "call 6: refused with 4: a place has bit 62" "$work/ascending_refused"
   refuses 1 "request 1: refused with 13: the guide alone was asked to place after" "$work/guide_refused"
   for word in x '' 1x -1 +1 ' 1' 65537 99999999999999999999999; do
     refuses 2 "a number of listing bytes is taken, from 0 to 65536, and nothing else" "$work/order_example" "$word"
@@ -220,7 +225,7 @@ TEXT
 done
 gcc -g -fsanitize=address,undefined -fno-sanitize-recover -Ihosts tests/hosts/storage.c $archives -o "$work/storage"
 "$work/storage" || fail "storage with the sanitizers"
-echo "hosts: $headers headers, seven examples and replay_storage's test by: ${compilers[*]%% *}; and with sanitizers"
+echo "hosts: $headers headers, eight examples and replay_storage's test by: ${compilers[*]%% *}; and with sanitizers"
 
 # A host with nothing but pkg-config from the installation, in a folder of its own: shared, static and C++.
 elsewhere=$(mktemp -d)
@@ -234,7 +239,7 @@ outside() (
   cp "$prefix"/share/order/examples/*.c "$elsewhere"
   cd "$elsewhere"
   [ "$(pkg-config --modversion order)" = "$(cat "$prefix/share/order/VERSION")" ]
-  for example in order needs reason line_end replay storage guide; do
+  for example in order needs reason line_end replay ascending storage guide; do
     source=${example}_example.c
     gcc -std=c99 $(pkg-config --cflags order) $source $(pkg-config --libs order) -o $example-shared
     gcc -static $(pkg-config --cflags order) $source $(pkg-config --static --libs order) -o $example-static
@@ -245,7 +250,7 @@ outside() (
   for program in needs-*; do $(realpath $program) <"$job" | diff - "$needs"; done
   for program in reason-*; do { $(realpath $program) "$waiting.job" || [ $? = 1 ]; } | diff - "$waiting.reasons"; done
   for program in line_end-*; do $(realpath $program) <"$job" | diff - "$lines"; done
-  for program in replay-* storage-*; do
+  for program in replay-* ascending-* storage-*; do
     $(realpath $program) | grep ^order= | diff - <(grep ^order= "$listing")
   done
   for program in guide-*; do $(realpath $program) | grep -c ^order= | grep -qx 4; done
@@ -263,7 +268,7 @@ if command -v pkg-config >/dev/null; then
   ended=$?
   set -e
   [ $ended -eq 0 ] || fail "a host built from the installation"
-  echo "hosts: seven C programs built with pkg-config alone, shared, static and as C++; the prefix may be moved"
+  echo "hosts: eight C programs built with pkg-config alone, shared, static and as C++; the prefix may be moved"
 else
   echo "hosts: no pkg-config: NOTHING is built from the installation"
 fi
@@ -411,13 +416,14 @@ for job in "${jobs[@]}"; do
 done
 echo "hosts: ${#jobs[@]} refusals in words, the same by order-job and order-large"
 # The module for Python, as installed: J1 by the installed library.
-diff <(cat crates/order/stdout && echo "4 7 0 40 13 2 0 $prefix/lib/liborder.so") <(
+diff <(cat crates/order/stdout && echo "4 7 0 40 13 2 0 [21] $prefix/lib/liborder.so") <(
   env -u ORDER_LIBS PYTHONDONTWRITEBYTECODE=1 PYTHONPATH="$prefix/share/order/python" python3 -c '
 import sys, witness_order, witness_order.libraries
 job = sys.stdin.read()
 print(witness_order.run_job(job), end="")
 waiting = witness_order.Calls().add([2], [1])
-print(*witness_order.job_needs(job), witness_order.line_end(job), *witness_order.reason(2, 6, waiting, 0), witness_order.libraries.path())' <crates/order/stdin) ||
+breach = witness_order.replay_ascending(2, 6, waiting).numbers
+print(*witness_order.job_needs(job), witness_order.line_end(job), *witness_order.reason(2, 6, waiting, 0), breach, witness_order.libraries.path())' <crates/order/stdin) ||
   fail "the module for Python as installed"
 echo "hosts: the module for Python as installed: J1"
 echo "hosts: order-job: listings as the program prints them, refusals and failures in words with their status"

@@ -24,7 +24,7 @@ static const uint64_t calls[] = {1, 0, 1, 0, 2, 1, 0, 1, 1, 2, 1, 1, 1, 2, 2, 1,
 enum { CALLS = sizeof calls / sizeof *calls, MADE = 9, P = 2, V = 6, W = 16 };
 static const uint64_t codes[MADE] = {0, ORDER_TAKEN_PLACE, 0, 0, 0, 0, ORDER_UNKNOWN_LANE, 0, 0};
 
-/* The slices lie in the block, one after the other, none over another. */
+/* The slices lie in the block, one after the other, none over another; of an ascending session there are six. */
 static void look_at_layout(const struct replay_storage *s, const char *block, size_t bytes) {
     struct { const void *at; size_t bytes, align; } slices[8];
     const void *at[8] = {s->locations, s->waiting, s->spans, s->order, s->tally, s->rows, s->pool, s->marks};
@@ -32,7 +32,10 @@ static void look_at_layout(const struct replay_storage *s, const char *block, si
                        REPLAY_TALLY(P), REPLAY_ROWS(V), W, REPLAY_MARKS(V)};
     size_t size[8] = {8, 8, 4, 4, 4, 4, 4, 2};
     const char *end = block;
+    look((s->waiting == NULL) == (s->pool == NULL), "there are waiting storage and pool, or neither");
     for (int i = 0; i < 8; i++) {
+        if (at[i] == NULL)
+            continue;
         slices[i].at = at[i];
         slices[i].bytes = count[i] * size[i];
         slices[i].align = size[i];
@@ -101,6 +104,50 @@ static void look_at_runs(char *memory, size_t offset) {
         look(memory[i] == 0x5a, "the bytes before the block stay");
     for (size_t i = offset + bytes; i < bytes + 64; i++)
         look(memory[i] == 0x5a, "the bytes behind the block stay");
+}
+
+/* The same list on an ascending session: a place that is set twice is a breach of the profile, all else is the same. In a
+   block for such a session alone, and in one for an ordinary session. */
+static void look_at_ascending(char *memory, size_t offset, int alone) {
+    static const uint64_t ascending[MADE] = {0, ORDER_PROFILE_BREACH, 0, 0, 0, 0, ORDER_UNKNOWN_LANE, 0, 0};
+    size_t bytes = alone ? replay_ascending_bytes(P, V) : replay_storage_bytes(P, V, W);
+    uint64_t answers[MADE + 1];
+    memset(answers, 0x5a, sizeof answers);
+    memset(memory, 0x5a, bytes + 64);
+    struct replay_storage s = alone ? replay_ascending_in(memory + offset, P, V, W)
+                                    : replay_storage_in(memory + offset, P, V, W);
+    look(s.refusal == ORDER_ACCEPTED && s.entries == 0 && (s.waiting == NULL) == alone, "a storage is laid out");
+    look_at_layout(&s, memory + offset, bytes);
+    for (int again = 0; again < 2; again++) {
+        look(replay_run_ascending(&s, calls, CALLS, answers, MADE) == 64 * 4 && s.entries == 4, "there are four entries");
+        look(memcmp(answers, ascending, sizeof ascending) == 0, "each call has its number");
+        look(answers[MADE] == 0x5a5a5a5a5a5a5a5au, "the answer after the last stays");
+        look_at_results(&s);
+        look_at_counts(&s);
+        look(replay_run(&s, calls, CALLS, answers, MADE) == (alone ? (uint64_t)ORDER_TOO_SHORT : 64 * 4),
+             "an ordinary session needs the waiting storage");
+        look(alone == (s.entries == 0), "after a refused run there is no entry");
+        look(replay_run_held(&s, calls, CALLS, answers, MADE) == (alone ? ORDER_TOO_SHORT : 0), "replay_run_held too");
+        look(replay_run_reason(&s, calls, CALLS, answers, MADE, 0) ==
+             (uint64_t)(alone ? ORDER_TOO_SHORT : ORDER_NOT_WAITING), "replay_run_reason too");
+    }
+    for (size_t i = 0; i < offset; i++)
+        look(memory[i] == 0x5a, "the bytes before the block stay");
+    for (size_t i = offset + bytes; i < bytes + 64; i++)
+        look(memory[i] == 0x5a, "the bytes behind the block stay");
+}
+
+/* J1 has seven list numbers: w of 7, and the greatest, take them, and 6 leaves the last registration out. */
+static void look_at_list_numbers(void) {
+    static char block[100000];
+    static const uint64_t bounds[3] = {6, 7, UINT64_MAX};
+    uint64_t answers[MADE];
+    for (int i = 0; i < 3; i++) {
+        struct replay_storage s = replay_ascending_in(block, P, V, bounds[i]);
+        uint64_t returned = replay_run_ascending(&s, calls, CALLS, answers, MADE);
+        look(returned == 64 * (i == 0 ? 3 : 4) && answers[7] == (i == 0 ? ORDER_FULL_POOL : ORDER_ACCEPTED),
+             "w bounds the list numbers");
+    }
 }
 
 /* What the window holds after each beginning of the list; two blocks of memory, one for each call, are the same
@@ -179,9 +226,19 @@ static void look_at_sizes(void) {
     look(replay_storage_in(NULL, P, V, W).refusal == ORDER_TOO_SHORT, "null memory is refused with 2");
     look(replay_storage_within(block, bytes - 1, P, V, W).refusal == ORDER_TOO_SHORT, "a byte less is refused");
     look(replay_storage_within(block, bytes, P, V, W).refusal == ORDER_ACCEPTED, "bytes enough are accepted");
+    size_t fewer = replay_ascending_bytes(P, V);
+    look(fewer + 32 * V + 4 * W == bytes, "an ascending session needs 32 bytes a place and 4 a list number fewer");
+    look(replay_ascending_bytes(P, V + 1) == fewer + 46, "46 bytes a place");
+    look(replay_ascending_bytes(0, V) == 0 && replay_ascending_bytes(65000, V) == 0 && replay_ascending_bytes(P, 0) == 0 &&
+         replay_ascending_bytes(P, 16777217) == 0, "P or V out of range has no ascending session");
+    look(replay_ascending_in(block, 0, V, W).refusal == ORDER_OUT_OF_RANGE, "P = 0 is refused with 1 there");
+    look(replay_ascending_in(block, P, UINT64_MAX, W).refusal == ORDER_OUT_OF_RANGE, "a huge V is refused with 1 there");
+    look(replay_ascending_in(NULL, P, V, W).refusal == ORDER_TOO_SHORT, "null memory is refused with 2 there");
+    look(replay_ascending_within(block, fewer - 1, P, V, W).refusal == ORDER_TOO_SHORT, "a byte less is refused there");
+    look(replay_ascending_within(block, fewer, P, V, UINT64_MAX).refusal == ORDER_ACCEPTED, "any W is accepted there");
 }
 
-/* replay_run or replay_run_held. */
+/* replay_run, replay_run_held or replay_run_ascending. */
 typedef uint64_t running(struct replay_storage *, const uint64_t *, size_t, uint64_t *, size_t);
 
 /* Runs that are refused: nothing is written, and without storage all reads as 0. */
@@ -248,21 +305,26 @@ static void look_at_others(void) {
     look(REPLAY_PARALLELISM(flat[3]) == 64999 && REPLAY_LANE(flat[3]) == 255, "the greatest parallelism and lane");
     look(order_append_new(&info, 1, flat, 4, 0, 1) == 0 && info.parallelism == 64999 && info.lane == 255, "as a struct");
     look(strcmp(order_code_text(0), "accepted") == 0, "0 is accepted");
-    for (uint64_t n = 1; n <= ORDER_UNKNOWN_LANE; n++)
+    for (uint64_t n = 1; n <= ORDER_PROFILE_BREACH; n++)
         look(strcmp(order_code_text(n), order_code_text(1000)) != 0, "each number has its words");
 }
 
 int main(void) {
     char *memory = (char *)malloc(replay_storage_bytes(P, V, W) + 64);
     look(memory != NULL, "there is memory for a small storage");
-    for (size_t offset = 16; memory != NULL && offset < 24; offset++)
+    for (size_t offset = 16; memory != NULL && offset < 24; offset++) {
         look_at_runs(memory, offset);
+        look_at_ascending(memory, offset, 1);
+        look_at_ascending(memory, offset, 0);
+    }
     free(memory);
+    look_at_list_numbers();
     look_at_held();
     look_at_reasons();
     look_at_sizes();
     look_at_refused_runs(replay_run);
     look_at_refused_runs(replay_run_held);
+    look_at_refused_runs(replay_run_ascending);
     look_at_guide();
     look_at_others();
     return wrong;

@@ -39,7 +39,7 @@ printf '%s\n' '#!/bin/sh' 'echo "asked for $*"' 'exit 1' >$copy/tools/archives
 chmod +x $copy/tools/archives
 ! env -u ORDER_LIBS CARGO_TARGET_DIR=$work/none cargo build --offline --manifest-path $copy/hosts/rust/Cargo.toml 2>$work/said ||
   fail "built without tools/archives"
-grep -q 'witness-order: asked for host jobneeds jobtext replay reason alone_replay order_entries summary' $work/said ||
+grep -q 'witness-order: asked for host jobneeds jobtext replay ascending_replay reason alone_replay order_entries summary' $work/said ||
   { cat $work/said >&2; fail "tools/archives is not asked"; }
 echo "large: missing archives are said, tools/archives is asked for them"
 

@@ -49,6 +49,32 @@ def random_list(seed):
     return parallelism, places, calls, lines
 
 
+def random_ascending(seed):
+    """P, V and a random list of calls, as names of methods with their arguments: in the profile but for some."""
+    source = random.Random(seed)
+    parallelism, places = source.choice([1, 2, 3, 8]), source.randrange(1, 40)
+    lowest, made = 0, []
+    for _ in range(source.randrange(1, 60)):
+        kind, off = source.random(), source.choice([0, 0, 0, 1, -1])
+        if kind < 0.3:
+            made.append(("set", max(lowest + off, 0)))
+            lowest += off == 0 and lowest < places
+        elif kind < 0.35:
+            made.append(("flush",))
+        else:
+            first, count = max(lowest + off, 0), source.randrange(3)
+            ins = [source.randrange(lowest + (source.random() < 0.1)) for _ in range(source.randrange(4)) if lowest]
+            made.append(("add", ins, list(range(first, first + count)), source.randrange(256)))
+            lowest += count if first == lowest and lowest + count <= places and all(place < lowest for place in ins) else 0
+    return parallelism, places, made + [("final",)] * (source.random() < 0.7)
+
+
+def left(result, places):
+    """What a list of calls left, but for each call's number."""
+    entries, rows = list(result.entries()), [result.row(place) for place in range(places)]
+    return result.length, entries, rows, [result.mark(place) for place in range(places)], result.tally(), result.summary()
+
+
 class Jobs(unittest.TestCase):
     def test_j1(self):
         listing = order.run_job(read("crates", "order", "stdin"))
@@ -272,9 +298,40 @@ class Lists(unittest.TestCase):
         self.assertEqual(order.held(2, 6, order.Calls().add([5], [1]).add([5], [2]).add([], [0]).set(0)), 1)
         self.assertEqual(order.held(2, 6, order.Calls().add([], [0, 1]).add([], [0]), pool=1), 1)
 
+    def test_ascending(self):
+        """J1, and breaches of the profile; the list numbers of accepted adds are counted."""
+        calls = order.Calls().set(0).add([0], [1]).add([1], [2], lane=7).add([0], [3]).add([], [4], lane=255).final()
+        result, ordinary = order.replay_ascending(2, 6, calls), order.replay(2, 6, calls)
+        self.assertEqual(result.numbers, [0] * 6)
+        self.assertEqual([entry.added for entry in result.entries()], [0, 2, 1, 3])
+        self.assertEqual(left(result, 6), left(ordinary, 6))
+        calls = order.Calls().set(1).set(0).set(0).add([], [2]).add([], [2, 1]).add([], [1, 1]).add([1], [1]).add([0, 0], [1, 2])
+        self.assertEqual(order.replay_ascending(2, 9, calls.add([3], []).add([2], [])).numbers, [21, 0, 21, 21, 21, 6, 21, 0, 21, 0])
+        calls = order.Calls().add([], [0, 1]).add([1], [2]).add([], [])
+        for most, numbers in ((4, [0, 0, 0]), (3, [0, 10, 0]), (1, [10, 21, 0]), (2**64 - 1, [0, 0, 0]), (None, [0, 0, 0])):
+            self.assertEqual(order.replay_ascending(2, 4, calls, list_numbers=most).numbers, numbers, most)
+
+    def test_ascending_lists(self):
+        """Random lists, most of them with breaches: what is accepted leaves the same on an ordinary session."""
+        breaches = 0
+        for seed in range(200):
+            parallelism, places, made = random_ascending(seed)
+            calls = order.Calls()
+            for name, *words in made:
+                getattr(calls, name)(*words)
+            result, accepted = order.replay_ascending(parallelism, places, calls), order.Calls()
+            for (name, *words), number in zip(made, result.numbers):
+                if number == 0:
+                    getattr(accepted, name)(*words)
+            ordinary = order.replay(parallelism, places, accepted)
+            self.assertEqual(set(ordinary.numbers) | {0}, {0}, seed)
+            self.assertEqual(left(result, places), left(ordinary, places), seed)
+            breaches += result.numbers.count(order.Refusal.PROFILE_BREACH)
+        self.assertGreater(breaches, 100)
+
     def test_refused(self):
         for parallelism, places in [(0, 1), (65_000, 1), (1, 0), (1, 16_777_217), (2**32 + 1, 1), (1, 2**64 - 1)]:
-            for call in (order.replay, order.held):
+            for call in (order.replay, order.held, order.replay_ascending):
                 with self.assertRaises(order.Rejected) as refused:
                     call(parallelism, places, order.Calls())
                 self.assertEqual(refused.exception.refusal, order.Refusal.OUT_OF_RANGE)
@@ -287,10 +344,11 @@ class Lists(unittest.TestCase):
             if bad is not None:
                 self.assertRaises(ValueError, order.Calls().add, [], [], bad)
                 self.assertRaises(ValueError, order.replay, 1, 1, order.Calls(), pool=bad)
+                self.assertRaises(ValueError, order.replay_ascending, 1, 1, order.Calls(), list_numbers=bad)
             self.assertRaises(ValueError, order.replay, bad, 1, order.Calls())
         self.assertRaisesRegex(ValueError, "'x' is no 64-bit number", order.replay, 1, "x", order.Calls())
         for bad in (None, [1, 0], "set=0", b"", 7):
-            for call in (order.replay, order.held):
+            for call in (order.replay, order.held, order.replay_ascending):
                 self.assertRaisesRegex(TypeError, "a list of calls is a Calls, not ", call, 2, 6, bad)
         for pool in (2**62, 2**63, 2**64 - 1):
             self.assertRaisesRegex(MemoryError, f"no memory for {pool} numbers of 4 bytes", order.replay, 1, 1, order.Calls(), pool=pool)

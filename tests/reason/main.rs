@@ -99,7 +99,7 @@ fn main() {
     let done = match words[..] {
         ["worked"] => worked::check(),
         ["program", path, seed, count] => program::check(path, number(seed), number(count)),
-        ["openings"] => openings::check(&mut polled::opening()).map(|told| told.trim().to_owned()),
+        ["openings"] => openings::check(&mut polled::opening(), &openings::SHORT).map(|told| told.trim().to_owned()),
         ["lists", seed, count] => polled::check(number(seed), number(count)),
         ["rust"] => rust::check(),
         ["jobs", seed, lists, jobs, bytes, ref paths @ ..] => {

@@ -10,7 +10,7 @@ use std::io::BufRead;
 
 /// Asks for every registration of the sessions of a text on standard input.
 pub fn check() -> Result<String, String> {
-    let (mut reader, mut asking) = (Reader::default(), Asking::new());
+    let (mut reader, mut asking) = (Reader::of("session"), Asking::new());
     let [mut lists, mut asked, mut waiting] = [0; 3];
     for line in std::io::stdin().lock().lines() {
         let line = line.unwrap_or_else(|error| fail(&format!("the input can't be read: {error}")));

@@ -1,4 +1,4 @@
-"""Cases worked out by hand from document 01, and of document 02 from M-103 and M-104, with the points that
+"""Cases worked out by hand from document 01, and of document 02 from M-103, M-104 and M-106, with the points that
 they leave open read as docs/DECISIONS.md settles them. Each has a sentence, what is fed, and what must come.
 
 RUNS are call lists in the format of oracle/FORMAT.md with the refusals expected: the number of each
@@ -120,11 +120,57 @@ RUNS = [
     ("V pushes", run("guide 3 2", "push 0 0 0 -", "push 0 0 0 -", "push 0 0 0 -", "flush", "push 0 0 0 -"), {2: 14, 4: 14}),
     ("14 before 13", run("guide 3 1", "push 0 0 0 -", "push 0 0 0 9,9"), {1: 14}),
     ("refused pushes are not counted", run("guide 3 1", "push 0 0 0 9,9", "push 0 0 0 -"), {0: 13}),
+    # 21, the ascending profile.
+    (
+        "at and beside the lowest place, one call after another",
+        run("ascending 2 9", "set 1", "set 0", "set 0", "add - 2", "add - 2,1", "add - 1,1", "add - 3,2,3", "add - 0", "add 1 1", "add 2 1,2",
+            "add 0,0 1,2", "add 3 -", "add 2 -"),
+        {0: 21, 2: 21, 3: 21, 4: 21, 5: 6, 6: 6, 7: 21, 8: 21, 9: 21, 11: 21},
+    ),
+    ("a set above the lowest place, and below it", run("ascending 2 9", "set 1", "set 0", "set 0"), {0: 21, 2: 21}),
+    (
+        "outputs that do not ascend by one from the lowest place",
+        run("ascending 2 9", "set 0", "add - 2", "add - 2,1", "add - 1,3", "add - 0", "add - 0,1", "add - 1,2"),
+        {1: 21, 2: 21, 3: 21, 4: 21, 5: 21},
+    ),
+    ("6 before 21", run("ascending 2 9", "set 0", "add - 1,1", "add - 3,2,3", "add 8 0,0"), {1: 6, 2: 6, 3: 6}),
+    (
+        "inputs below the first output, which may be the lowest place or not",
+        run("ascending 2 9", "set 0", "add 1 1", "add 2 1,2", "add 1 1,2", "add 0,8 1", "add 8,0 1", "add 0,0 1,2"),
+        {1: 21, 2: 21, 3: 21, 4: 21, 5: 21},
+    ),
+    ("with no outputs, inputs below the lowest place", run("ascending 2 9", "add 0 -", "set 0", "add 1 -", "add 0 -", "add - -"), {0: 21, 2: 21}),
+    ("21 before 8: a place that is set, or written", run("ascending 2 3", "set 0", "add - 0", "add 0 1", "set 1", "add - 1"), {1: 21, 3: 21, 4: 21}),
+    ("V registrations, of no list number", run("ascending 2 2 0", "add - -", "add - -", "add - -"), {2: 9}),
+    (
+        "all places set",
+        run("ascending 2 2", "set 0", "set 1", "set 0", "set 2", "add 1 -", "add - 1", "add - 0", "final"),
+        {2: 21, 3: 5, 5: 21, 6: 21},
+    ),
+    (
+        "each check before the next, and what a refused add takes of W",
+        run("ascending 2 3 2", f"add {FLAGGED} - 256", f"add {FLAGGED} 3", "add 3 1,1", "add 1 0,0", "add 2 2", "add - 0,1,2", "add - 0,1 255",
+            "add 0 -", "add - -"),
+        {0: 18, 1: 4, 2: 5, 3: 6, 4: 21, 5: 10, 7: 10},
+    ),
+    ("21 before 9 and 10", run("ascending 2 1 0", "add 0 -", "add - -", "add 0 -", "add - 0", "set 0"), {0: 21, 2: 21, 3: 9}),
+    ("5 before 21, in sets, inputs and outputs", run("ascending 2 2", "set 2", "add 2 1", "add 0 1,2"), {0: 5, 1: 5, 2: 5}),
+    ("18 before 21", run("ascending 2 2", "add - 1 256", "add - 1 255"), {0: 18, 1: 21}),
+    ("7 before 21", run("ascending 2 2", "final", "set 1", "add - 1"), {1: 7, 2: 7}),
+    ("outputs count for W as inputs do", run("ascending 2 4 3", "add - 0,1", "add 0 2", "add 0 -"), {1: 10}),
+    ("closed", run("ascending 2 2", "set 0", "flush", "final", "final", "flush", "set 0", "set 1", "add 9 9 256"), {3: 7, 4: 7, 5: 7, 6: 7, 7: 7}),
+    ("65,536 outputs that ascend, and inputs", run("ascending 2 65536", "add - " + ",".join(map(str, range(65536))), "set 0", f"add {many(0, 65536)} 1"), {0: 3, 2: 3}),
+    ("65,535 outputs that ascend", run("ascending 2 65535", "add - " + ",".join(map(str, range(65535))), "final"), {}),
+    ("the last of 65,535 outputs is one of the others", run("ascending 2 65535", "add - " + ",".join(map(str, [*range(65534), 7]))), {0: 6}),
+    ("the opening's ranges are those of every session", run("ascending 0 1"), {"open": 1}),
+    ("the places' range too", run("ascending 1 16777217"), {"open": 1}),
 ]
 
 
 # Of J1 document 01 tells the order 0 2 1 3, and of R2 the order 2 0 1.
 LANES = [
+    ("J1 under the ascending profile", run("ascending 2 6 7", "set 0", "add 0 1 10", "add 1 2 20", "add 0 3 30", "add - 4 40", "final"),
+     "10 30 20 40", "10 20 30 40", ""),
     ("J1", run("session 2 6", "set 0", "add 0 1 10", "add 1 2 20", "add 0 3 30", "add - 4 40", "final"),
      "10 30 20 40", "10 20 30 40", ""),
     ("two held, and a row's lane is 0 until its entry is appended", run("session 2 6", "set 0", "add 0 1 10", "add 1 2 20"),

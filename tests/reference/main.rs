@@ -22,7 +22,7 @@ mod jobs;
 #[allow(dead_code)] // how storage has entries and rows is for the tests of storage
 mod model;
 
-use model::{Code, Entry, Guide, Lent, Location, Needs, Session, Summary, Window, SPANS};
+use model::{Ascending, Code, Entry, Guide, Lent, Location, Needs, Session, Summary, Window, SPANS};
 use std::fmt::{Display, Write as _};
 use std::io::{Read, Write};
 use std::process::exit;
@@ -113,6 +113,7 @@ fn needs_text(job: &[u8]) -> String {
 /// What a run opened, or the code with which that was refused.
 enum Opened {
     Session(Session, Option<Summary>),
+    Ascending(Ascending, Option<Summary>),
     Guide(Guide, Vec<Location>),
     Refused(Code),
 }
@@ -188,6 +189,14 @@ fn open(words: &[&str]) -> Result<Run, String> {
                 Err(code) => Opened::Refused(code),
             }
         }
+        ["ascending", p, v, w @ ..] if w.len() <= 1 => {
+            let (p, v) = (number(p)?, number(v)?);
+            let w = w.first().map_or(Ok(u64::MAX), |w| number(w))?;
+            match Ascending::open(p, v, &Lent::for_session(p, v, w)) {
+                Ok(ascending) => Opened::Ascending(ascending, None),
+                Err(code) => Opened::Refused(code),
+            }
+        }
         ["guide", p, v] => {
             let (p, v) = (number(p)?, number(v)?);
             let lent = Lent::for_session(p, v, 0);
@@ -211,27 +220,22 @@ fn open(words: &[&str]) -> Result<Run, String> {
 fn call(opened: &mut Opened, words: &[&str]) -> Result<(Code, String), String> {
     match opened {
         Opened::Session(session, summary) => {
-            let code = match words {
-                ["set", place] => session.set(number(place)?),
-                ["add", inputs, outputs, lane @ ..] if lane.len() <= 1 => {
-                    let lane = lane.first().map_or(Ok(0), |lane| number(lane))?;
-                    session.add(lane, &list(inputs)?, &list(outputs)?)
-                }
-                ["flush"] => session.flush(),
-                ["final"] => match session.final_flush() {
-                    Ok(given) => {
-                        *summary = Some(given);
-                        0
-                    }
-                    Err(code) => code,
-                },
-                _ => return Err(format!("`{}` is no call of a session", words.join(" "))),
+            let code = match session_call(words)? {
+                SessionCall::Set(place) => session.set(place),
+                SessionCall::Add(lane, inputs, outputs) => session.add(lane, &inputs, &outputs),
+                SessionCall::Flush => session.flush(),
+                SessionCall::Final => closed(session.final_flush(), summary),
             };
-            let length = session.window.order.len();
-            Ok((
-                code,
-                format!("{length} {} {}", mark(session), window(&session.window)),
-            ))
+            Ok((code, standing(session)))
+        }
+        Opened::Ascending(ascending, summary) => {
+            let code = match session_call(words)? {
+                SessionCall::Set(place) => ascending.set(place),
+                SessionCall::Add(lane, inputs, outputs) => ascending.add(lane, &inputs, &outputs),
+                SessionCall::Flush => ascending.flush(),
+                SessionCall::Final => closed(ascending.final_flush(), summary),
+            };
+            Ok((code, standing(&ascending.session)))
         }
         Opened::Guide(guide, locations) => {
             let (code, location) = match words {
@@ -259,6 +263,44 @@ fn call(opened: &mut Opened, words: &[&str]) -> Result<(Code, String), String> {
     }
 }
 
+/// A call of a session, ordinary or ascending.
+enum SessionCall {
+    Set(u64),
+    Add(u64, Vec<u64>, Vec<u64>),
+    Flush,
+    Final,
+}
+
+fn session_call(words: &[&str]) -> Result<SessionCall, String> {
+    Ok(match words {
+        ["set", place] => SessionCall::Set(number(place)?),
+        ["add", inputs, outputs, lane @ ..] if lane.len() <= 1 => {
+            let lane = lane.first().map_or(Ok(0), |lane| number(lane))?;
+            SessionCall::Add(lane, list(inputs)?, list(outputs)?)
+        }
+        ["flush"] => SessionCall::Flush,
+        ["final"] => SessionCall::Final,
+        _ => return Err(format!("`{}` is no call of a session", words.join(" "))),
+    })
+}
+
+/// The number of a final, whose summary is kept.
+fn closed(done: Result<Summary, Code>, summary: &mut Option<Summary>) -> Code {
+    match done {
+        Ok(given) => {
+            *summary = Some(given);
+            0
+        }
+        Err(code) => code,
+    }
+}
+
+/// The order's length, the mark and the window.
+fn standing(session: &Session) -> String {
+    let length = session.window.order.len();
+    format!("{length} {} {}", mark(session), window(&session.window))
+}
+
 /// The answers before `end`.
 fn end(run: &Run) -> Vec<String> {
     let refused = line(
@@ -268,7 +310,8 @@ fn end(run: &Run) -> Vec<String> {
             .map(|(call, code)| format!("{call},{code}")),
     );
     match &run.opened {
-        Opened::Session(session, summary) => {
+        Opened::Session(session, summary)
+        | Opened::Ascending(Ascending { session }, summary) => {
             let window = &session.window;
             let mut answers = vec![refused, order(window), rows(session), places(session)];
             answers.push(format!("mark {}", mark(session)));

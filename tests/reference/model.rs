@@ -1,5 +1,5 @@
-//! The reference model: document 01's clerk, with the floor, the lanes and the reasons of document 02 (M-103 to
-//! M-105), as a plain program, fed only P, V, W and the calls. It follows the papers and is meant to be read
+//! The reference model: document 01's clerk, with the floor, the lanes, the reasons and the ascending profile of
+//! document 02 (M-103 to M-106), as a plain program, fed only P, V, W and the calls. It follows the papers and is meant to be read
 //! beside them, paragraph by paragraph: the records, the guide, the registrar and sorter, the checks, the
 //! summary, the job; everything is kept in growing lists. It shares no code with the Rust or with what is tested
 //! by it. All arithmetic is in 64 bits, far from any limit.
@@ -21,7 +21,7 @@ pub const UNTRACKED: u16 = 0;
 pub const WRITTEN: u16 = 32_768;
 pub const SET: u16 = 49_152;
 
-/// The number of a refusal, 1 to 20.
+/// The number of a refusal, 1 to 21.
 pub type Code = u64;
 
 /// Ordered by span, then position.
@@ -314,14 +314,18 @@ impl Session {
             0 => {}
             code => return Err(code),
         }
+        Ok(Self::fresh(p, v, lent.pool))
+    }
+
+    fn fresh(p: u64, v: u64, pool: u64) -> Self {
         let place = Place {
             mark: UNTRACKED,
             location: Location::default(),
             promised: false,
         };
-        Ok(Self {
+        Self {
             places_count: v,
-            pool: lent.pool,
+            pool,
             window: Window::new(p),
             places: vec![place; v as usize],
             leading: 0,
@@ -332,29 +336,36 @@ impl Session {
             list_numbers: 0,
             plain_flushes: 0,
             closed: false,
-        })
+        }
     }
 
     // The calls. Each meets its checks first; a refused one changes nothing.
 
     pub fn set(&mut self, place: u64) -> Code {
         let code = self.check_set(place);
-        if code != 0 {
-            return code;
+        if code == 0 {
+            self.do_set(place);
         }
+        code
+    }
+
+    pub fn add(&mut self, lane: u64, inputs: &[u64], outputs: &[u64]) -> Code {
+        let code = self.check_add(lane, inputs, outputs);
+        if code == 0 {
+            self.do_add(lane, inputs, outputs);
+        }
+        code
+    }
+
+    fn do_set(&mut self, place: u64) {
         self.places[place as usize].mark = SET;
         // Each with all that it sets off before the next.
         for registration in self.advance() {
             self.place_all(registration);
         }
-        0
     }
 
-    pub fn add(&mut self, lane: u64, inputs: &[u64], outputs: &[u64]) -> Code {
-        let code = self.check_add(lane, inputs, outputs);
-        if code != 0 {
-            return code;
-        }
+    fn do_add(&mut self, lane: u64, inputs: &[u64], outputs: &[u64]) {
         let number = self.registrations.len() as u64;
         self.list_numbers += (inputs.len() + outputs.len()) as u64;
         self.registrations.push(Registration {
@@ -375,7 +386,6 @@ impl Session {
         // At the end of the add, also for one that waits.
         self.rows[number as usize].written = self.window.order.len() as u64;
         self.ended += 1;
-        0
     }
 
     pub fn flush(&mut self) -> Code {
@@ -589,6 +599,116 @@ fn has_twice(places: &[u64]) -> bool {
     let mut sorted = places.to_vec();
     sorted.sort_unstable();
     sorted.windows(2).any(|pair| pair[0] == pair[1])
+}
+
+// ---- The ascending profile (document 02, M-106)
+
+/// A session under the profile: its checks are its own, and an accepted call does what it does in every session.
+pub struct Ascending {
+    pub session: Session,
+}
+
+impl Ascending {
+    /// No list is kept and nobody waits: of what is lent, the waiting storage is not looked at, and the pool's length is
+    /// W alone.
+    pub fn open(p: u64, v: u64, lent: &Lent) -> Result<Self, Code> {
+        let without_waiting = Lent {
+            waiting: u64::MAX,
+            ..*lent
+        };
+        match check_opening(p, v, &without_waiting) {
+            0 => Ok(Self {
+                session: Session::fresh(p, v, lent.pool),
+            }),
+            code => Err(code),
+        }
+    }
+
+    pub fn set(&mut self, place: u64) -> Code {
+        let code = self.check_set(place);
+        if code == 0 {
+            self.session.do_set(place);
+        }
+        code
+    }
+
+    pub fn add(&mut self, lane: u64, inputs: &[u64], outputs: &[u64]) -> Code {
+        let code = self.check_add(lane, inputs, outputs);
+        if code == 0 {
+            self.session.do_add(lane, inputs, outputs);
+        }
+        code
+    }
+
+    pub fn flush(&mut self) -> Code {
+        self.session.flush()
+    }
+
+    pub fn final_flush(&mut self) -> Result<Summary, Code> {
+        self.session.final_flush()
+    }
+
+    /// "The lowest one not yet set or written", V where there is none.
+    pub fn lowest(&self) -> u64 {
+        let places = &self.session.places;
+        let untracked = places.iter().position(|place| place.mark == UNTRACKED);
+        untracked.unwrap_or(places.len()) as u64
+    }
+
+    // The checks: 21 stands after 6 and before 8.
+
+    fn check_set(&self, place: u64) -> Code {
+        if self.session.closed {
+            7
+        } else if is_flagged(place) {
+            4
+        } else if place >= self.session.places_count {
+            5
+        } else if place != self.lowest() {
+            21
+        } else if self.session.is_taken(place) {
+            8
+        } else {
+            0
+        }
+    }
+
+    fn check_add(&self, lane: u64, inputs: &[u64], outputs: &[u64]) -> Code {
+        let places = || inputs.iter().chain(outputs);
+        let listed = (inputs.len() + outputs.len()) as u64;
+        if self.session.closed {
+            7
+        } else if lane > MOST_LANE {
+            18
+        } else if inputs.len() > 65_535 || outputs.len() > 65_535 {
+            3
+        } else if places().any(|&place| is_flagged(place)) {
+            4
+        } else if places().any(|&place| place >= self.session.places_count) {
+            5
+        } else if has_twice(outputs) {
+            6
+        } else if self.breaches(inputs, outputs) {
+            21
+        } else if outputs.iter().any(|&place| self.session.is_taken(place)) {
+            8
+        } else if self.session.registrations.len() as u64 == self.session.places_count {
+            9
+        } else if self.session.list_numbers + listed > self.session.pool {
+            10
+        } else {
+            0
+        }
+    }
+
+    /// The outputs must be the lowest place and those that follow it, in this order; each input must lie below the first
+    /// output or, with no outputs, below the lowest place.
+    fn breaches(&self, inputs: &[u64], outputs: &[u64]) -> bool {
+        let lowest = self.lowest();
+        let ascend = (lowest..).zip(outputs).all(|(place, &output)| output == place);
+        let bound = outputs.first().copied().unwrap_or(lowest);
+        !ascend || inputs.iter().any(|&input| input >= bound)
+    }
 }
 
 // ---- The guide alone

@@ -321,14 +321,19 @@ impl Buffers {
     }
 
     fn check_same_storage(&self, other: &Self) -> Result<(), String> {
+        self.check_same_results(other)?;
+        self.waiting.check_same(&other.waiting)?;
+        self.pool.check_same(&other.pool)
+    }
+
+    /// The slices that an ascending session has too are equal to another's, byte for byte.
+    pub fn check_same_results(&self, other: &Self) -> Result<(), String> {
         self.spans.check_same(&other.spans)?;
         self.order.check_same(&other.order)?;
         self.tally.check_same(&other.tally)?;
         self.rows.check_same(&other.rows)?;
         self.marks.check_same(&other.marks)?;
-        self.locations.check_same(&other.locations)?;
-        self.waiting.check_same(&other.waiting)?;
-        self.pool.check_same(&other.pool)
+        self.locations.check_same(&other.locations)
     }
 }
 

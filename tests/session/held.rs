@@ -22,7 +22,7 @@ const PLACES: u64 = 150;
 const PARALLELISMS: [u64; 3] = [1, 2, 5];
 
 pub fn check(seed: u64, count: u64) -> Result<String, String> {
-    let refused = openings::check(&mut Buffers::counting(Count::Held))?;
+    let refused = openings::check(&mut Buffers::counting(Count::Held), &openings::SHORT)?;
     let (mut both, mut met) = (Both::new(), Met::default());
     for i in 0..count {
         let list = made(seed, i);

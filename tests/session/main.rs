@@ -66,7 +66,7 @@ fn main() {
     match words[..] {
         ["runs"] => compare_runs(),
         ["shapes", seed, count] => shapes::write(plain(seed), plain(count)),
-        ["openings"] => report(openings::check(&mut Buffers::new())),
+        ["openings"] => report(openings::check(&mut Buffers::new(), &openings::SHORT)),
         ["limits"] => report(limits::check()),
         ["held", seed, count] => report(held::check(plain(seed), plain(count))),
         ["lanes"] => report(lanes::check()),
@@ -99,7 +99,7 @@ fn report(result: Result<String, String>) {
 const SHOWN: u64 = 3;
 
 fn compare_runs() {
-    let mut reader = text::Reader::default();
+    let mut reader = text::Reader::of("session");
     let (mut pair, mut counts) = (Pair::new(), Counts::default());
     let mut differences = 0;
     for line in std::io::stdin().lock().lines() {

@@ -6,21 +6,22 @@ use crate::buffers::{encode, Buffers, Lent, Short};
 use crate::generate::Numbers;
 use crate::Call;
 
-const SHORT: [Short; 8] = [
+/// What an ordinary session needs and, before the last, what an ascending one needs.
+pub const SHORT: [Short; 8] = [
     Short::Spans,
     Short::Order,
     Short::Tally,
     Short::Rows,
     Short::Marks,
     Short::Locations,
-    Short::Waiting,
     Short::Answers,
+    Short::Waiting,
 ];
 
-/// By the exported call that the buffers are for.
-pub fn check(buffers: &mut Buffers) -> Result<String, String> {
+/// By the exported call that the buffers are for, which needs these slices.
+pub fn check(buffers: &mut Buffers, slices: &[Short]) -> Result<String, String> {
     let ranges = check_ranges(buffers)?;
-    let short = check_short(buffers)?;
+    let short = check_short(buffers, slices)?;
     let malformed = check_malformed(buffers)?;
     let truncated = check_truncated(buffers)?;
     Ok(format!(
@@ -91,7 +92,7 @@ fn check_ranges(buffers: &mut Buffers) -> Result<u64, String> {
     Ok(count)
 }
 
-fn check_short(buffers: &mut Buffers) -> Result<u64, String> {
+fn check_short(buffers: &mut Buffers, slices: &[Short]) -> Result<u64, String> {
     let mut count = 0;
     let (calls, ends) = encode(&[
         Call::Set(0),
@@ -115,7 +116,7 @@ fn check_short(buffers: &mut Buffers) -> Result<u64, String> {
                 ..lent(p, v, ends.len())
             };
             expect(buffers, &enough, (p, v), &calls, 0)?;
-            for short in SHORT {
+            for &short in slices {
                 let less = Lent { short, ..enough };
                 expect(buffers, &less, (p, v), &calls, 2)?;
                 count += 1;

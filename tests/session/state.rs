@@ -118,6 +118,14 @@ impl State {
         calls: &[Call],
         codes: &[u64],
     ) -> Result<(), String> {
+        self.compare_results(buffers, p, codes)?;
+        self.compare_waiting(buffers)?;
+        let list_numbers = compare_lists(buffers, calls, codes)?;
+        buffers.check_frame(self.order.len(), list_numbers)
+    }
+
+    /// The same of the slices that an ascending session has too: all but the waiting storage and the pool.
+    pub fn compare_results(&self, buffers: &Buffers, p: u64, codes: &[u64]) -> Result<(), String> {
         let entries = buffers
             .returned
             .map_err(|code| format!("the replay is refused with {code}"))?;
@@ -131,10 +139,7 @@ impl State {
         self.compare_places(buffers)?;
         self.compare_tally(buffers)?;
         self.compare_summary(buffers)?;
-        self.compare_spans(buffers, p)?;
-        self.compare_waiting(buffers)?;
-        let list_numbers = compare_lists(buffers, calls, codes)?;
-        buffers.check_frame(self.order.len(), list_numbers)
+        self.compare_spans(buffers, p)
     }
 
     fn compare_order(&self, buffers: &Buffers) -> Result<(), String> {

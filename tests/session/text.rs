@@ -15,15 +15,25 @@ pub struct Run {
     pub told: Option<Told>,
 }
 
-/// Reads a text line by line; runs that open no session are passed over.
-#[derive(Default)]
+/// Reads a text line by line; runs that open something else are passed over.
 pub struct Reader {
+    opening: &'static str,
     line: usize,
     run: Option<Run>,
     passed_over: bool,
 }
 
 impl Reader {
+    /// Of runs that this word opens: `session` or `ascending`.
+    pub fn of(opening: &'static str) -> Self {
+        Self {
+            opening,
+            line: 0,
+            run: None,
+            passed_over: false,
+        }
+    }
+
     /// Takes the next line; with the last line of a run, gives the run.
     pub fn take(&mut self, line: &str) -> Result<Option<Run>, String> {
         self.line += 1;
@@ -36,7 +46,7 @@ impl Reader {
             return Ok(None);
         }
         match (&mut self.run, &words[..]) {
-            (None, ["session", p, v, w @ ..]) if w.len() <= 1 => {
+            (None, [opening, p, v, w @ ..]) if *opening == self.opening && w.len() <= 1 => {
                 let list = List {
                     p: number(p)?,
                     v: number(v)?,
@@ -49,7 +59,7 @@ impl Reader {
                     told: None,
                 });
             }
-            (None, ["guide" | "spans", ..]) => self.passed_over = true,
+            (None, ["session" | "ascending" | "guide" | "spans", ..]) => self.passed_over = true,
             (None, _) => return Err(format!("`{line}` opens no run")),
             (Some(run), ["=", answer @ ..]) => {
                 let told = run.told.get_or_insert_with(Told::default);

@@ -1,4 +1,5 @@
-"""Host code, not proved: a list of calls made on a fresh session, by the proved `replay_calls` and `replay_held`."""
+"""Host code, not proved: a list of calls made on a fresh session, by the proved `replay_calls`, `replay_held` and
+`replay_ascending`."""
 import ctypes
 
 from . import layout
@@ -96,17 +97,27 @@ class Replayed:
         return layout.figures_of(numbers)
 
 
-def made(name, parallelism, places, calls, pool, *more):
-    """The calls made by the library's function of that name, with more numbers: the storage, each call's number, what it says."""
+def judged(parallelism, places, calls, pooled):
+    """Parallelism, places and the most list numbers, where there is such a session; of all calls' lists where none is given."""
     if not isinstance(calls, Calls):
         raise TypeError(f"a list of calls is a Calls, not {calls!r:.100}")
-    parallelism, places, size = numbers_of([parallelism, places, calls.pooled if pool is None else pool])
-    if not layout.in_range(parallelism, places):
+    numbers = numbers_of([parallelism, places, calls.pooled if pooled is None else pooled])
+    if not layout.in_range(*numbers[:2]):
         raise Rejected(Refusal.OUT_OF_RANGE)
-    storage = layout.storage(parallelism, places, size)
+    return numbers
+
+
+def made(name, parallelism, places, calls, pool, *more):
+    """The calls made by the library's function of that name, with more numbers: the storage, each call's number, what it says."""
+    parallelism, places, size = judged(parallelism, places, calls, pool)
+    return made_on(layout.storage(parallelism, places, size), name, calls, parallelism, places, *more)
+
+
+def made_on(storage, name, calls, *more):
+    """The same on this storage."""
     answers = layout.array(ctypes.c_uint64, calls.count)
     encoded = (ctypes.c_uint64 * len(calls.encoded))(*calls.encoded)
-    result = function(name)(*as_arguments(*storage.values(), answers, encoded), parallelism, places, *more)
+    result = function(name)(*as_arguments(*storage.values(), answers, encoded), *more)
     # An accepted list gives a number times the radix, a refused one its own, which is below that.
     if 0 < result < REPLY_RADIX:
         raise Rejected(result)
@@ -126,3 +137,13 @@ def held(parallelism, places, calls, pool=None):
 
     The calls are made, and the same is raised, as by `replay`; registrations that wait are not counted."""
     return made("replay_held", parallelism, places, calls, pool)[-1]
+
+
+def replay_ascending(parallelism, places, calls, list_numbers=None):
+    """Runs a list of calls on a fresh ascending session, whose accepted adds have at most so many list numbers together.
+
+    A set must be of the lowest place that is neither set nor written, an add write that place and those after it in this
+    order, and read places below them; any other has the number 21. What is accepted leaves what `replay` leaves of it, and
+    the same is raised."""
+    numbers = judged(parallelism, places, calls, list_numbers)
+    return Replayed(*made_on(layout.ascending_storage(*numbers[:2]), "replay_ascending", calls, *numbers))

@@ -34,8 +34,8 @@ def array(kind, count):
         raise MemoryError(f"no memory for {count} numbers of {ctypes.sizeof(kind)} bytes") from None
 
 
-def storage(parallelism, places, pool):
-    """The slices that a session is lent, in the order of the call's arguments."""
+def ascending_storage(parallelism, places):
+    """The slices that an ascending session works on, in the order of the call's arguments."""
     return {
         "spans": array(ctypes.c_uint32, ENTRY_NUMBERS * SPANS * (parallelism + 1)),
         "order": array(ctypes.c_uint32, ENTRY_NUMBERS * places),
@@ -43,6 +43,13 @@ def storage(parallelism, places, pool):
         "rows": array(ctypes.c_uint32, ROW_NUMBERS * places),
         "marks": array(ctypes.c_uint16, places),
         "locations": array(ctypes.c_uint64, places),
+    }
+
+
+def storage(parallelism, places, pool):
+    """The slices that an ordinary session works on, in the order of the call's arguments."""
+    return {
+        **ascending_storage(parallelism, places),
         "waiting": array(ctypes.c_uint64, WAITING_PER_PLACE * places),
         "pool": array(ctypes.c_uint32, pool),
     }

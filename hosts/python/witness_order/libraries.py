@@ -30,6 +30,7 @@ ARGUMENTS = {
     "replay_calls": REPLAY,
     "replay_held": REPLAY,
     "replay_reason": REPLAY + [U64],
+    "replay_ascending": slices(U32, U32, U32, U32, U16, U64, U64, U64) + [U64, U64, U64],
     "order_reason": slices(U8) + [U64],
     "order_summary": slices(U32, U32),
 }

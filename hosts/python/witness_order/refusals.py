@@ -28,6 +28,7 @@ class Refusal(enum.IntEnum):
     UNKNOWN_LANE = 18
     NEVER_ACCEPTED = 19
     NOT_WAITING = 20
+    PROFILE_BREACH = 21
 
     @property
     def when(self):
@@ -64,6 +65,7 @@ WHEN = {
     18: "a registration's lane is over 255",
     19: "no registration of this number was accepted",
     20: "the registration was accepted and does not wait",
+    21: "in an ascending session, a place to be set or written is not the lowest one neither set nor written, or an input is not below the first output (with none, below that lowest one)",
 }
 
 ADVICE = {
@@ -87,6 +89,7 @@ ADVICE = {
     18: "number the lanes from 0 to 255",
     19: "ask for a registration below the count of accepted ones; they are numbered from 0",
     20: "nothing: it is placed",
+    21: "number the places in the order in which they are set and written, or use an ordinary session",
 }
 
 

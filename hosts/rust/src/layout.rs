@@ -54,7 +54,8 @@ pub const TAG_FINAL: u64 = 4;
 /// An add with its lane; `TAG_ADD` is one in lane 0.
 pub const TAG_LANE_ADD: u64 = 5;
 
-/// The numbers that a session of parallelism p over v places needs; the pool may have any length.
+/// The numbers that a session of parallelism p over v places needs; the pool may have any length. An ascending one needs
+/// neither waiting storage nor pool.
 #[derive(Clone, Copy, Debug, PartialEq, Eq)]
 pub struct Needed {
     pub spans: usize,
@@ -82,9 +83,13 @@ impl Needed {
 
     /// The bytes of all of them.
     pub fn bytes(&self) -> u64 {
+        self.ascending_bytes() + 8 * self.waiting as u64
+    }
+
+    /// The bytes of those that an ascending session needs.
+    pub fn ascending_bytes(&self) -> u64 {
         let of_32 = self.spans + self.order + self.tally + self.rows;
-        let of_64 = self.locations + self.waiting;
-        (2 * self.marks + 4 * of_32 + 8 * of_64) as u64
+        (2 * self.marks + 4 * of_32 + 8 * self.locations) as u64
     }
 }
 

@@ -9,6 +9,7 @@
 //! |---|---|---|
 //! | [`mod@replay`] | `replay_calls` | a list of calls ([`calls`]) on a session of any size |
 //! | [`held`] | `replay_held` | the same, and how many entries the window holds then |
+//! | [`ascending`] | `replay_ascending` | the same under the ascending profile, in less storage |
 //! | [`reason`] | `replay_reason`, `order_reason` | why a registration waits, after a list of calls or a job |
 //! | [`job`] | `order_job` | a job's text, of at most 65,536 bytes, to its listing |
 //! | [`needs`] | `job_needs` | what such a job needs, without running it |
@@ -75,6 +76,7 @@
 
 #![warn(missing_debug_implementations)]
 
+pub mod ascending;
 pub mod calls;
 pub mod entries;
 pub mod guide;
@@ -89,6 +91,7 @@ pub mod replay;
 pub mod summary;
 mod sys;
 
+pub use ascending::{replay_ascending, AscendingStorage};
 pub use calls::{Call, Calls};
 pub use layout::{limits, Entry, Location, Row};
 pub use line_end::line_end;

@@ -45,11 +45,13 @@ pub enum Refusal {
     NeverAccepted = 19,
     /// the registration was accepted and does not wait
     NotWaiting = 20,
+    /// in an ascending session, a place to be set or written is not the lowest one neither set nor written, or an input is not below the first output (with none, below that lowest one)
+    ProfileBreach = 21,
 }
 
 impl Refusal {
     /// Every refusal, by ascending number.
-    pub const ALL: [Refusal; 20] = [
+    pub const ALL: [Refusal; 21] = [
         Refusal::OutOfRange,
         Refusal::TooShort,
         Refusal::TooManyNumbers,
@@ -70,6 +72,7 @@ impl Refusal {
         Refusal::UnknownLane,
         Refusal::NeverAccepted,
         Refusal::NotWaiting,
+        Refusal::ProfileBreach,
     ];
 
     /// The refusal's number.
@@ -108,6 +111,7 @@ impl Refusal {
             Refusal::UnknownLane => "unknown_lane",
             Refusal::NeverAccepted => "never_accepted",
             Refusal::NotWaiting => "not_waiting",
+            Refusal::ProfileBreach => "profile_breach",
         }
     }
 
@@ -152,6 +156,9 @@ impl Refusal {
             Refusal::UnknownLane => "a registration's lane is over 255",
             Refusal::NeverAccepted => "no registration of this number was accepted",
             Refusal::NotWaiting => "the registration was accepted and does not wait",
+            Refusal::ProfileBreach => {
+                "in an ascending session, a place to be set or written is not the lowest one neither set nor written, or an input is not below the first output (with none, below that lowest one)"
+            }
         }
     }
 
@@ -188,6 +195,9 @@ impl Refusal {
                 "ask for a registration below the count of accepted ones; they are numbered from 0"
             }
             Refusal::NotWaiting => "nothing: it is placed",
+            Refusal::ProfileBreach => {
+                "number the places in the order in which they are set and written, or use an ordinary session"
+            }
         }
     }
 }

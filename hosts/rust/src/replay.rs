@@ -14,17 +14,23 @@ use crate::sys::{self, Count};
 /// accepted adds. It can be used for one list of calls after another.
 #[derive(Debug)]
 pub struct Storage {
-    p: u64,
-    v: u64,
-    spans: Vec<u32>,
-    order: Vec<u32>,
-    tally: Vec<u32>,
-    rows: Vec<u32>,
-    marks: Vec<u16>,
-    locations: Vec<u64>,
+    results: Results,
     waiting: Vec<u64>,
     pool: Vec<u32>,
-    answers: Vec<u64>,
+}
+
+/// What a session of either kind works on and leaves, and the numbers of its calls.
+#[derive(Debug)]
+pub(crate) struct Results {
+    pub(crate) p: u64,
+    pub(crate) v: u64,
+    pub(crate) spans: Vec<u32>,
+    pub(crate) order: Vec<u32>,
+    pub(crate) tally: Vec<u32>,
+    pub(crate) rows: Vec<u32>,
+    pub(crate) marks: Vec<u16>,
+    pub(crate) locations: Vec<u64>,
+    pub(crate) answers: Vec<u64>,
 }
 
 /// Why there is no storage.
@@ -77,6 +83,39 @@ pub(crate) fn zeros<T: Number>(count: usize, bytes: u64) -> Result<Vec<T>, Stora
     }
 }
 
+impl Results {
+    /// Allocates them, for p and v in range; `bytes` are told where the system does not give them.
+    pub(crate) fn new(p: u64, v: u64, bytes: u64) -> Result<Self, StorageError> {
+        let needed = Needed::new(p as usize, v as usize);
+        Ok(Self {
+            p,
+            v,
+            spans: zeros(needed.spans, bytes)?,
+            order: zeros(needed.order, bytes)?,
+            tally: zeros(needed.tally, bytes)?,
+            rows: zeros(needed.rows, bytes)?,
+            marks: zeros(needed.marks, bytes)?,
+            locations: zeros(needed.locations, bytes)?,
+            answers: Vec::new(),
+        })
+    }
+
+    /// Allocates the numbers of so many calls.
+    pub(crate) fn reserve_calls(&mut self, count: usize) -> Result<(), StorageError> {
+        if self.answers.len() < count {
+            self.answers = zeros(count, (count as u64).saturating_mul(8))?;
+        }
+        Ok(())
+    }
+
+    /// The same, where the program ends if the system does not give the memory.
+    pub(crate) fn lengthen_answers(&mut self, count: usize) {
+        if self.answers.len() < count {
+            self.answers.resize(count, 0);
+        }
+    }
+}
+
 impl Storage {
     /// Allocates all that a session needs. Nothing is allocated where p or v is out of range.
     ///
@@ -88,19 +127,10 @@ impl Storage {
     /// ```
     pub fn new(p: u64, v: u64, w: usize) -> Result<Self, StorageError> {
         let bytes = Self::bytes(p, v, w).map_err(StorageError::Refused)?;
-        let needed = Needed::new(p as usize, v as usize);
         Ok(Self {
-            p,
-            v,
-            spans: zeros(needed.spans, bytes)?,
-            order: zeros(needed.order, bytes)?,
-            tally: zeros(needed.tally, bytes)?,
-            rows: zeros(needed.rows, bytes)?,
-            marks: zeros(needed.marks, bytes)?,
-            locations: zeros(needed.locations, bytes)?,
-            waiting: zeros(needed.waiting, bytes)?,
+            results: Results::new(p, v, bytes)?,
+            waiting: zeros(Needed::new(p as usize, v as usize).waiting, bytes)?,
             pool: zeros(w, bytes)?,
-            answers: Vec::new(),
         })
     }
 
@@ -128,18 +158,15 @@ impl Storage {
 
     /// Allocates the numbers of so many calls, which [`replay`] would do otherwise.
     pub fn reserve_calls(&mut self, count: usize) -> Result<(), StorageError> {
-        if self.answers.len() < count {
-            self.answers = zeros(count, (count as u64).saturating_mul(8))?;
-        }
-        Ok(())
+        self.results.reserve_calls(count)
     }
 
     pub fn parallelism(&self) -> u64 {
-        self.p
+        self.results.p
     }
 
     pub fn places(&self) -> u64 {
-        self.v
+        self.results.v
     }
 
     pub fn pool(&self) -> usize {
@@ -153,7 +180,7 @@ impl Storage {
 pub fn replay<'a>(storage: &'a mut Storage, calls: &'a Calls) -> Result<Replayed<'a>, Refusal> {
     let length = count(Count::Written, storage, calls)?;
     Ok(Replayed {
-        storage,
+        storage: &storage.results,
         calls,
         length,
     })
@@ -192,22 +219,25 @@ pub(crate) fn made(
     calls: &Calls,
     function: impl FnOnce(sys::Slices, &mut [u64], &[u64], u64, u64) -> u64,
 ) -> Result<u64, Refusal> {
-    if storage.answers.len() < calls.len() {
-        storage.answers.resize(calls.len(), 0);
-    }
-    let Storage { p, v, .. } = *storage;
+    let results = &mut storage.results;
+    results.lengthen_answers(calls.len());
+    let Results { p, v, .. } = *results;
     let slices = sys::Slices {
-        spans: &mut storage.spans,
-        order: &mut storage.order,
-        tally: &mut storage.tally,
-        rows: &mut storage.rows,
-        marks: &mut storage.marks,
-        locations: &mut storage.locations,
+        spans: &mut results.spans,
+        order: &mut results.order,
+        tally: &mut results.tally,
+        rows: &mut results.rows,
+        marks: &mut results.marks,
+        locations: &mut results.locations,
         waiting: &mut storage.waiting,
         pool: &mut storage.pool,
     };
-    let answers = &mut storage.answers[..calls.len()];
-    let returned = function(slices, answers, calls.numbers(), p, v);
+    let answers = &mut results.answers[..calls.len()];
+    taken_apart(function(slices, answers, calls.numbers(), p, v))
+}
+
+/// What one of the exported calls says: a number, or a refusal.
+pub(crate) fn taken_apart(returned: u64) -> Result<u64, Refusal> {
     match returned % REPLY_RADIX {
         0 => Ok(returned / REPLY_RADIX),
         number => Err(crate::refusal(number)),
@@ -217,9 +247,9 @@ pub(crate) fn made(
 /// What stands in the storage after a list of calls.
 #[derive(Clone, Copy, Debug)]
 pub struct Replayed<'a> {
-    storage: &'a Storage,
-    calls: &'a Calls,
-    length: usize,
+    pub(crate) storage: &'a Results,
+    pub(crate) calls: &'a Calls,
+    pub(crate) length: usize,
 }
 
 /// A place as the session left it.
@@ -365,23 +395,27 @@ mod tests {
     use super::*;
     use crate::Reason;
 
+    fn shorten<T>(numbers: &mut Vec<T>) {
+        numbers.truncate(numbers.len() - 1)
+    }
+
     /// Storage is as long as the proved call asks, and no longer: one number less is refused.
     #[test]
     fn one_number_less_is_too_short() {
         let calls = Calls::new().set(0).finish();
-        let shorten: [fn(&mut Storage); 7] = [
-            |storage| storage.spans.truncate(storage.spans.len() - 1),
-            |storage| storage.order.truncate(storage.order.len() - 1),
-            |storage| storage.tally.truncate(storage.tally.len() - 1),
-            |storage| storage.rows.truncate(storage.rows.len() - 1),
-            |storage| storage.marks.truncate(storage.marks.len() - 1),
-            |storage| storage.locations.truncate(storage.locations.len() - 1),
-            |storage| storage.waiting.truncate(storage.waiting.len() - 1),
+        let each: [fn(&mut Storage); 7] = [
+            |storage| shorten(&mut storage.results.spans),
+            |storage| shorten(&mut storage.results.order),
+            |storage| shorten(&mut storage.results.tally),
+            |storage| shorten(&mut storage.results.rows),
+            |storage| shorten(&mut storage.results.marks),
+            |storage| shorten(&mut storage.results.locations),
+            |storage| shorten(&mut storage.waiting),
         ];
-        for (i, shorten) in shorten.iter().enumerate() {
+        for (i, shorten_one) in each.iter().enumerate() {
             let mut storage = Storage::new(3, 5, 0).expect("in range");
             assert!(replay(&mut storage, &calls).is_ok());
-            shorten(&mut storage);
+            shorten_one(&mut storage);
             assert_eq!(
                 replay(&mut storage, &calls).err(),
                 Some(Refusal::TooShort),

@@ -42,6 +42,28 @@ extern "C" {
         from: usize,
         to: usize,
     ) -> u64;
+
+    fn replay_ascending(
+        spans: *mut u32,
+        spans_length: usize,
+        order: *mut u32,
+        order_length: usize,
+        tally: *mut u32,
+        tally_length: usize,
+        rows: *mut u32,
+        rows_length: usize,
+        marks: *mut u16,
+        marks_length: usize,
+        locations: *mut u64,
+        locations_length: usize,
+        answers: *mut u64,
+        answers_length: usize,
+        calls: *const u64,
+        calls_length: usize,
+        p: u64,
+        v: u64,
+        w: u64,
+    ) -> u64;
 }
 
 /// Declares exported calls that all have the arguments of `replay_calls`, and after them their own.
@@ -177,7 +199,60 @@ pub fn reason(
     unsafe { call_replay!(replay_reason, slices, answers, calls, p, v, registration) }
 }
 
-/// The same after a job: for one that is refused otherwise than with 12, 64 times the line plus its number.
+/// What an ascending session works on.
+pub struct AscendingSlices<'a> {
+    pub spans: &'a mut [u32],
+    pub order: &'a mut [u32],
+    pub tally: &'a mut [u32],
+    pub rows: &'a mut [u32],
+    pub marks: &'a mut [u16],
+    pub locations: &'a mut [u64],
+}
+
+/// Makes all calls on a fresh ascending session whose accepted adds have at most w list numbers: 64 times the order's
+/// length, or the number of a refusal.
+pub fn ascending(
+    slices: AscendingSlices,
+    answers: &mut [u64],
+    calls: &[u64],
+    p: u64,
+    v: u64,
+    w: u64,
+) -> u64 {
+    let AscendingSlices {
+        spans,
+        order,
+        tally,
+        rows,
+        marks,
+        locations,
+    } = slices;
+    unsafe {
+        replay_ascending(
+            spans.as_mut_ptr(),
+            spans.len(),
+            order.as_mut_ptr(),
+            order.len(),
+            tally.as_mut_ptr(),
+            tally.len(),
+            rows.as_mut_ptr(),
+            rows.len(),
+            marks.as_mut_ptr(),
+            marks.len(),
+            locations.as_mut_ptr(),
+            locations.len(),
+            answers.as_mut_ptr(),
+            answers.len(),
+            calls.as_ptr(),
+            calls.len(),
+            p,
+            v,
+            w,
+        )
+    }
+}
+
+/// Why a registration waits after a job: for one that is refused otherwise than with 12, 64 times the line plus its number.
 pub fn job_reason(job: &[u8], registration: u64) -> u64 {
     unsafe { order_reason(job.as_ptr(), job.len(), registration) }
 }
