@@ -1,8 +1,8 @@
 #!/usr/bin/env python3
 """Holds the reading list of README.md to the crates: its files and single definitions are all that the exported calls'
-contracts and the claims about every list of calls, every job's needs, lanes and reasons are made of, and its last column
-counts their lines. With --write the counts are put right instead, and with --list everything that must be read is printed, with where
-it stands."""
+contracts and the claims about every list of calls, every job's needs, lanes, reasons and the ascending profile are made
+of, and its last column counts their lines. With --write the counts are put right instead, and with --list everything
+that must be read is printed, with where it stands."""
 import pathlib
 import re
 import sys
@@ -19,6 +19,7 @@ CLAIMS = [
     ("laws", "Demand", "Demand"),
     ("laws", "Needs", "Needed"),
     ("laws", "Reason", "Holds"),
+    ("ascending", "Claims", "Ascends"),
     ("lanes", "Claims", "SameLists"),
     ("lanes", "Claims", "SameRuns"),
     ("lanes", "Claims", "SameJobs"),

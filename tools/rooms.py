@@ -22,8 +22,8 @@ DOCUMENT = "docs/ARCHITECTURE.md"
 PICTURE = "docs/rooms.svg"
 HEADER = re.compile(r"^\| *layer *\| *crates *\|.*\n\|[-| :]+\|\n((?:\|.*\n)+)", re.M)
 
-WIDE, HIGH = 112, 34  # a room
-STEP_X, STEP_Y = 136, 84  # from room to room
+WIDE, HIGH = 130, 34  # a room
+STEP_X, STEP_Y = 152, 84  # from room to room
 LEFT, TOP = 170, 60
 COLUMNS = 8
 COLOURS = ["#f3e9d2", "#d7e8f7", "#dff0d8", "#e3f1ee", "#fbe3d6", "#fdf3c9", "#f6d5e5", "#e6ddf5", "#dcdcf7", "#e9ead7"]
