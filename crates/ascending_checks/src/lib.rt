@@ -93,7 +93,7 @@ fn passes(
 }
 
 // add, check by check, for the number of a refused one: 7, 18, 3, 4, 5, 6, 21, 9, 10. Behind 21 no output is taken, so 8 needs no look. Of
-// the pool's `room` numbers `used` are taken.
+// `room` list numbers `used` are taken.
 fn number(
     marks: &mut [u16],
     ins: &[u64],
