@@ -2,18 +2,13 @@
 -- by one number. Definitions only. Assumes nothing.
 use mathlib.Core.Path.{_≡_}
 use mathlib.Core.List.{List}
-use Prim.Native.Nat.{ℕ, _*_}
-use Rattle.rules.specs.Limits.{reply-radix}
-use Rattle.rules.specs.Calls.{unless-refused}
+use Prim.Native.Nat.{ℕ}
 use Rattle.session.specs.Storage.{Storage}
+use Rattle.replay.specs.Exported.{by-number}
 use Rattle.ascending_session.specs.declared.Ascending.{Ascending}
 use Rattle.ascending_list.specs.Replay.{Replays}
 
--- 64 times the order's length, or the number of a refusal
-abbrev pub by-number : ℕ → ℕ → ℕ
-by-number n written = unless-refused n n (reply-radix * written)
-
--- r tells it of the session after the calls
+-- r tells the order's length of the session after the calls, as every such call tells a count
 pub record Exported (P N W : ℕ) (l : List ℕ) (r : ℕ) (σ τ : Storage) (out out′ : List ℕ) : Type 0 where
   pub number : ℕ
   pub session : Ascending

@@ -1,17 +1,6 @@
 // An encoded list of calls on a fresh session under the ascending profile, for hosts: crate ascending_list's `replay`, by one number.
-ghost use mathlib.Core.Path.{_≡_};
 ghost use Rattle.ascending_session.specs.Slices.{across};
-ghost use Rattle.ascending_replay.specs.Exported.{by-number, Exported};
-
-// 64 times the order's length, or the number of a refusal.
-fn by_number(number: u64, written: u32) -> u64
-    ensures { λ r. ⌜ r ≡ by-number number written ⌝ }
-{
-    if number == 0 {
-        return rules::REPLY_RADIX * (written as u64);
-    }
-    number
-}
+ghost use Rattle.ascending_replay.specs.Exported.{Exported};
 
 // Opens a session of parallelism p, v places and room for w list numbers on the storage and makes the encoded calls, storing each one's
 // number in `answers`. Returns 64 times the order's length; or the number of a refusal, and then nothing was written: 15 for numbers that
@@ -45,5 +34,5 @@ pub extern "C" fn replay_ascending(
         v,
         w,
     );
-    by_number(a.number, a.session.guide.written)
+    replay::by_number(a.number, a.session.guide.written)
 }

@@ -5,7 +5,7 @@ ghost use Rattle.session.specs.Storage.{across};
 ghost use Rattle.replay.specs.Exported.{by-number, written, held, Exported};
 
 // 64 times a count of the session, or the number of a refusal.
-fn by_number(number: u64, count: u32) -> u64
+pub fn by_number(number: u64, count: u32) -> u64
     ensures { λ r. ⌜ r ≡ by-number number count ⌝ }
 {
     if number == 0 {
