@@ -1,4 +1,4 @@
 -- What the checks of add ask and promise, and the laws by which their proofs go.
-pub mod Contracts
+pub mod Promises
 pub mod ListChecks
 pub mod StateChecks

@@ -7,76 +7,76 @@ use Rattle.std.proofs.Math.ListN.{length}
 use Rattle.std.proofs.Math.Dec.{ltb}
 use borrow.Author.Tests.{lt-ltb, le-ltb, le-leb, lt-leb}
 use Rattle.rules.specs.Refusals as refusal
-use Rattle.rules.specs.Checks.{verdict, any, repeats, waiting-needed}
-use Rattle.laws.specs.Accepted.{verdict-first}
+use Rattle.rules.specs.Checks.{verdict, any, repeats, waiting_needed}
+use Rattle.laws.specs.Accepted.{verdict_first}
 use Rattle.lists.specs.Part.{Below}
 use Rattle.taken.specs.Flags.{Flags, Flagged, taken_at}
-use Rattle.taken.specs.FlagLaws.{flags-any, flagged-of}
-use Rattle.checking.specs.Parts.{list-checks, state-checks}
-use Rattle.add_checks.specs.Contracts.{MayCheck, ChecksState, MayAdd, ChecksAdd}
-use Rattle.add_checks.specs.ListChecks.{verdict-rest, lists-numbered, lists-passed}
+use Rattle.taken.specs.FlagLaws.{flags_any, flagged_of}
+use Rattle.checking.specs.Parts.{list_checks, state_checks}
+use Rattle.add_checks.specs.Promises.{MayCheck, ChecksState, MayAdd, ChecksAdd}
+use Rattle.add_checks.specs.ListChecks.{verdict_rest, lists_numbered, lists_passed}
 
 -- the verdict by the four tests
-pub state-verdict : (N : ℕ) (t : ℕ → Bool) (outs : List ℕ) (added used inputs W : ℕ) (a b c d : Bool) → repeats outs ≡ a → any t outs ≡ b → leb N added ≡ c → ltb W (used + inputs + length outs) ≡ d
+pub state_verdict : (N : ℕ) (t : ℕ → Bool) (outs : List ℕ) (added used inputs W : ℕ) (a b c d : Bool) → repeats outs ≡ a → any t outs ≡ b → leb N added ≡ c → ltb W (used + inputs + length outs) ≡ d
     → verdict
-    (record { fails = a; number = refusal.repeated-output }
-    ∷ (record { fails = b; number = refusal.taken-place } ∷ (record { fails = c; number = refusal.too-many-registrations } ∷ (record { fails = d; number = refusal.full-pool } ∷ []))))
-    ≡ verdict (state-checks N t outs added used inputs W)
-unfolding state-checks
-state-verdict N t outs added used inputs W a b c d x y z u = rw (x, y, z, u)
+    (record { fails = a; number = refusal.repeated_output }
+    ∷ (record { fails = b; number = refusal.taken_place } ∷ (record { fails = c; number = refusal.too_many_registrations } ∷ (record { fails = d; number = refusal.full_pool } ∷ []))))
+    ≡ verdict (state_checks N t outs added used inputs W)
+unfolding state_checks
+state_verdict N t outs added used inputs W a b c d x y z u = rw (x, y, z, u)
 
-pub may-repeat : {w outs : List ℕ} {v used inputs room : ℕ} → MayCheck w outs v used inputs room → Flagged w v outs
-may-repeat m = flagged-of _ m.taken _ m.flags _ m.below
+pub may_repeat : {w outs : List ℕ} {v used inputs room : ℕ} → MayCheck w outs v used inputs room → Flagged w v outs
+may_repeat m = flagged_of _ m.taken _ m.flags _ m.below
 
-pub may-look : {w outs : List ℕ} {v used inputs room : ℕ} → MayCheck w outs v used inputs room → {w' : List ℕ} → w' ≡ w → Below v outs × (waiting-needed v ≤ length w')
-may-look m same = (m.below, rw same m.flags.long)
+pub may_look : {w outs : List ℕ} {v used inputs room : ℕ} → MayCheck w outs v used inputs room → {w' : List ℕ} → w' ≡ w → Below v outs × (waiting_needed v ≤ length w')
+may_look m same = (m.below, rw same m.flags.long)
 
 module _ {w outs : List ℕ} {v : ℕ} (added : ℕ) {used inputs room : ℕ} (m : MayCheck w outs v used inputs room) {w' : List ℕ} (same : w' ≡ w) where
-  pub again : repeats outs ≡ true → ChecksState w outs v added used inputs room refusal.repeated-output w'
+  pub again : repeats outs ≡ true → ChecksState w outs v added used inputs room refusal.repeated_output w'
   unfolding verdict
-  again h = record { is = λ t f. state-verdict v t outs added used inputs room true _ _ _ h refl refl refl; same = same }
+  again h = record { is = λ t f. state_verdict v t outs added used inputs room true _ _ _ h refl refl refl; same = same }
 
   module _ (a : repeats outs ≡ false) where
     told : (b : Bool) → any (taken_at w' v) outs ≡ b → (t : ℕ → Bool) → Flags v t w → any t outs ≡ b
-    told b e t f = sym (flags-any v t w f outs m.below) ∙ ap (λ (l : List ℕ). any (taken_at l v) outs) (sym same) ∙ e
+    told b e t f = sym (flags_any v t w f outs m.below) ∙ ap (λ (l : List ℕ). any (taken_at l v) outs) (sym same) ∙ e
 
-    pub occupied : any (taken_at w' v) outs ≡ true → ChecksState w outs v added used inputs room refusal.taken-place w'
+    pub occupied : any (taken_at w' v) outs ≡ true → ChecksState w outs v added used inputs room refusal.taken_place w'
     unfolding verdict
-    occupied h = record { is = λ t f. state-verdict v t outs added used inputs room false true _ _ a (told true h t f) refl refl; same = same }
+    occupied h = record { is = λ t f. state_verdict v t outs added used inputs room false true _ _ a (told true h t f) refl refl; same = same }
 
     module _ (b : any (taken_at w' v) outs ≡ false) where
-      pub all-added : v ≤ added → ChecksState w outs v added used inputs room refusal.too-many-registrations w'
+      pub all_added : v ≤ added → ChecksState w outs v added used inputs room refusal.too_many_registrations w'
       unfolding verdict
-      all-added h = record { is = λ t f. state-verdict v t outs added used inputs room false false true _ a (told false b t f) (le-leb v added h) refl; same = same }
+      all_added h = record { is = λ t f. state_verdict v t outs added used inputs room false false true _ a (told false b t f) (le-leb v added h) refl; same = same }
 
       module _ (c : added < v) where
-        pub pool-full : room - used < inputs + length outs → ChecksState w outs v added used inputs room refusal.full-pool w'
+        pub pool_full : room - used < inputs + length outs → ChecksState w outs v added used inputs room refusal.full_pool w'
         unfolding verdict
-        pool-full h = record { is = λ t f. state-verdict v t outs added used inputs room false false false true a (told false b t f) (lt-leb v added c) full; same = same }
+        pool_full h = record { is = λ t f. state_verdict v t outs added used inputs room false false false true a (told false b t f) (lt-leb v added c) full; same = same }
           where
             full : ltb room (used + inputs + length outs) ≡ true
             full = lt-ltb room (used + inputs + length outs) (omega (arith, m.fits))
 
-        pub state-good : inputs + length outs ≤ room - used → ChecksState w outs v added used inputs room 0 w'
+        pub state_good : inputs + length outs ≤ room - used → ChecksState w outs v added used inputs room 0 w'
         unfolding verdict
-        state-good h = record { is = λ t f. state-verdict v t outs added used inputs room false false false false a (told false b t f) (lt-leb v added c) fits; same = same }
+        state_good h = record { is = λ t f. state_verdict v t outs added used inputs room false false false false a (told false b t f) (lt-leb v added c) fits; same = same }
           where
             fits : ltb room (used + inputs + length outs) ≡ false
             fits = le-ltb room (used + inputs + length outs) (omega (arith, m.fits))
 
-pub may-state : (w : List ℕ) (lane : ℕ) (ins outs : List ℕ) (closed : Bool) (v used room n : ℕ) →
-    n ≡ verdict (list-checks closed v lane ins outs) → n ≡ 0 → MayAdd w v used room → MayCheck w outs v used (length ins) room
-may-state w lane ins outs closed v used room n e z m =
-    let p = lists-passed closed v lane ins outs (sym e ∙ z) in record { taken = m.taken; flags = m.flags; below = p.1; fits = m.fits; few = p.0 }
+pub may_state : (w : List ℕ) (lane : ℕ) (ins outs : List ℕ) (closed : Bool) (v used room n : ℕ) →
+    n ≡ verdict (list_checks closed v lane ins outs) → n ≡ 0 → MayAdd w v used room → MayCheck w outs v used (length ins) room
+may_state w lane ins outs closed v used room n e z m =
+    let p = lists_passed closed v lane ins outs (sym e ∙ z) in record { taken = m.taken; flags = m.flags; below = p.1; fits = m.fits; few = p.0 }
 
-module _ (w : List ℕ) (lane : ℕ) (ins outs : List ℕ) (closed : Bool) (v added used room n : ℕ) (e : n ≡ verdict (list-checks closed v lane ins outs)) where
-  pub add-lists : (n ≡ 0 → ⊥) → ChecksAdd w lane ins outs closed v added used room n w
-  add-lists h = record { is = λ t f. e ∙ sym (verdict-first (list-checks closed v lane ins outs) (state-checks v t outs added used (length ins) room) (λ z. h (e ∙ z))); same = refl }
+module _ (w : List ℕ) (lane : ℕ) (ins outs : List ℕ) (closed : Bool) (v added used room n : ℕ) (e : n ≡ verdict (list_checks closed v lane ins outs)) where
+  pub add_lists : (n ≡ 0 → ⊥) → ChecksAdd w lane ins outs closed v added used room n w
+  add_lists h = record { is = λ t f. e ∙ sym (verdict_first (list_checks closed v lane ins outs) (state_checks v t outs added used (length ins) room) (λ z. h (e ∙ z))); same = refl }
 
   module _ (z : n ≡ 0) where
-    pub add-state : (r : ℕ) (w' : List ℕ) → ChecksState w outs v added used (length ins) room r w' → ChecksAdd w lane ins outs closed v added used room r w'
-    add-state r w' s =
+    pub add_state : (r : ℕ) (w' : List ℕ) → ChecksState w outs v added used (length ins) room r w' → ChecksAdd w lane ins outs closed v added used room r w'
+    add_state r w' s =
         record {
-          is = λ t f. s.is t f ∙ sym (verdict-rest (list-checks closed v lane ins outs) (state-checks v t outs added used (length ins) room) (lists-numbered closed v lane ins outs) (sym e ∙ z));
+          is = λ t f. s.is t f ∙ sym (verdict_rest (list_checks closed v lane ins outs) (state_checks v t outs added used (length ins) room) (lists_numbered closed v lane ins outs) (sym e ∙ z));
           same = s.same;
         }

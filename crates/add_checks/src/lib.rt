@@ -1,14 +1,14 @@
 // The checks of add, in document 01's order: the number of the first that fails, or 0. Storage is as it was: the flags that are raised to
 // find a repeated output are lowered again.
 ghost use Rattle.std.specs.Prelude.{◌≡◌, ◌≤◌};
-ghost use Rattle.rules.specs.Limits.{least-flagged};
+ghost use Rattle.rules.specs.Limits.{least_flagged};
 ghost use Rattle.rules.specs.Checks.{verdict};
-ghost use Rattle.checking.specs.Parts.{place-number, list-checks};
-ghost use Rattle.add_checks.specs.Contracts.{MayCheck, ChecksState, MayAdd, ChecksAdd};
+ghost use Rattle.checking.specs.Parts.{place_number, list_checks};
+ghost use Rattle.add_checks.specs.Promises.{MayCheck, ChecksState, MayAdd, ChecksAdd};
 
 // The number of lists of which one has a place of v or more: 4 where a place has bit 62 or 63, else 5.
 fn place_number(ins: &[u64], outs: &[u64]) -> u64
-    ensures { result ≡ place-number ins.now outs.now }
+    ensures { result ≡ place_number ins.now outs.now }
 {
     if lists::any_at_least(ins, rules::LEAST_FLAGGED) {
         return rules::FLAGGED_PLACE;
@@ -21,8 +21,8 @@ fn place_number(ins: &[u64], outs: &[u64]) -> u64
 
 // The first checks, which look at the lane and the lists alone: 7, 18, 3, 4, 5. Lists of places below v, which is small, pass 4 and 5.
 pub fn check_lists(ins: &[u64], outs: &[u64], lane: u64, closed: bool, v: usize) -> u64
-    requires { v ≤ least-flagged }
-    ensures { result ≡ verdict (list-checks closed v lane ins.now outs.now) }
+    requires { v ≤ least_flagged }
+    ensures { result ≡ verdict (list_checks closed v lane ins.now outs.now) }
 {
     if closed {
         return rules::CLOSED;

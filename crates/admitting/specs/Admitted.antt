@@ -3,14 +3,14 @@
 use Rattle.std.specs.Prelude.{◌≡◌, List, ℕ, length}
 use Rattle.std.proofs.Common.{sym, subst}
 use Rattle.rules.specs.Model.{Model}
-use Rattle.rules.specs.Calls.{Call, set as set-call, add as add-call, answer}
+use Rattle.rules.specs.Calls.{Call, set as set_call, add as add_call, answer}
 use Rattle.session.specs.declared.Session.{Session}
-use Rattle.session.specs.Storage.{Storage, with_rows, with-marks, with-lists}
+use Rattle.session.specs.Storage.{Storage, with_rows, with_marks, with_lists}
 use Rattle.session.specs.Settle.{MaySettle, Settles}
 use Rattle.session.specs.Rep.{Rep}
 use Rattle.session.specs.Noting.{noted}
 use Rattle.admitting.specs.declared.Admitted.{Admitted}
-use Rattle.admitting.specs.Promise.{Asks, Called, Does, called-refused, called-does}
+use Rattle.admitting.specs.Promise.{Asks, Called, Does, called_refused, called_does}
 
 -- the session with the counts of an admitted call
 abbrev pub counted : Session → Admitted → Session
@@ -41,42 +41,42 @@ pub record Admits (c : Call) (s : Session) (a : Admitted) (σ τ : Storage) : Ty
   pub does : a.number ≡ 0 → (s' : Session) (υ : Storage) → Places s a s' τ υ → Does c s s' σ υ
 
 module _ (c : Call) (s : Session) (a : Admitted) (σ τ : Storage) (A : Admits c s a σ τ) where
-  pub admitted-refused : (a.number ≡ 0 → ⊥) → Called c a.number s s σ τ
-  admitted-refused h =
-      subst (λ (x : Storage). Called c a.number s s σ x) (sym (A.refused h)) (called-refused c a.number s σ h A.number_is)
+  pub admitted_refused : (a.number ≡ 0 → ⊥) → Called c a.number s s σ τ
+  admitted_refused h =
+      subst (λ (x : Storage). Called c a.number s s σ x) (sym (A.refused h)) (called_refused c a.number s σ h A.number_is)
 
-  pub admitted-placed : (s' : Session) (υ : Storage) → a.number ≡ 0 → Places s a s' τ υ → Called c a.number s s' σ υ
-  admitted-placed s' υ e Q =
-      subst (λ (n : ℕ). Called c n s s' σ υ) (sym e) (called-does c a.number s s' σ υ A.number_is e (A.does e s' υ Q))
+  pub admitted_placed : (s' : Session) (υ : Storage) → a.number ≡ 0 → Places s a s' τ υ → Called c a.number s s' σ υ
+  admitted_placed s' υ e Q =
+      subst (λ (n : ℕ). Called c n s s' σ υ) (sym e) (called_does c a.number s s' σ υ A.number_is e (A.does e s' υ Q))
 
 -- The same of the slices that a call touches before anything is placed: a set marks and waiting storage, an add waiting storage and pool. It
 -- is asked of some storage with these contents, and promised of every one.
 pub record AsksSet (s : Session) (m w : List ℕ) : Type 0 where
   pub around : Storage
-  pub asks : Asks s (with-marks around m w)
+  pub asks : Asks s (with_marks around m w)
 
 abbrev pub AdmitsSet : ℕ → Session → Admitted → List ℕ → List ℕ → List ℕ → List ℕ → Type 0
-AdmitsSet x s a m w m' w' = (σ : Storage) → Asks s (with-marks σ m w) → Admits (set-call x) s a (with-marks σ m w) (with-marks σ m' w')
+AdmitsSet x s a m w m' w' = (σ : Storage) → Asks s (with_marks σ m w) → Admits (set_call x) s a (with_marks σ m w) (with_marks σ m' w')
 
 pub record AsksAdd (s : Session) (w pool : List ℕ) : Type 0 where
   pub around : Storage
-  pub asks : Asks s (with-lists around w pool)
+  pub asks : Asks s (with_lists around w pool)
 
 abbrev pub AdmitsAdd : ℕ → List ℕ → List ℕ → Session → Admitted → List ℕ → List ℕ → List ℕ → List ℕ → Type 0
 AdmitsAdd lane ins outs s a w pool w' pool' =
-    (σ : Storage) → Asks s (with-lists σ w pool) → Admits (add-call lane ins outs) s a (with-lists σ w pool) (with-lists σ w' pool')
+    (σ : Storage) → Asks s (with_lists σ w pool) → Admits (add_call lane ins outs) s a (with_lists σ w pool) (with_lists σ w' pool')
 
 -- where a whole storage is at hand
 module _ {s : Session} {σ : Storage} (q : Asks s σ) where
-  pub set-asked : AsksSet s σ.marks σ.waiting
-  set-asked = record { around = σ; asks = q }
+  pub set_asked : AsksSet s σ.marks σ.waiting
+  set_asked = record { around = σ; asks = q }
 
-  pub set-admitted : {x : ℕ} {a : Admitted} {m w : List ℕ} → AdmitsSet x s a σ.marks σ.waiting m w → Admits (set-call x) s a σ (with-marks σ m w)
-  set-admitted h = h σ q
+  pub set_admitted : {x : ℕ} {a : Admitted} {m w : List ℕ} → AdmitsSet x s a σ.marks σ.waiting m w → Admits (set_call x) s a σ (with_marks σ m w)
+  set_admitted h = h σ q
 
-  pub add-asked : AsksAdd s σ.waiting σ.pool
-  add-asked = record { around = σ; asks = q }
+  pub add_asked : AsksAdd s σ.waiting σ.pool
+  add_asked = record { around = σ; asks = q }
 
-  pub add-admitted : {lane : ℕ} {ins outs : List ℕ} {a : Admitted} {w pool : List ℕ} → AdmitsAdd lane ins outs s a σ.waiting
-      σ.pool w pool → Admits (add-call lane ins outs) s a σ (with-lists σ w pool)
-  add-admitted h = h σ q
+  pub add_admitted : {lane : ℕ} {ins outs : List ℕ} {a : Admitted} {w pool : List ℕ} → AdmitsAdd lane ins outs s a σ.waiting
+      σ.pool w pool → Admits (add_call lane ins outs) s a σ (with_lists σ w pool)
+  add_admitted h = h σ q

@@ -6,12 +6,12 @@ use Rattle.rules.specs.Model.{Model}
 use Rattle.rules.specs.Calls.{Call}
 use Rattle.records.specs.Filling.{rows_fit}
 use Rattle.session.specs.declared.Session.{Session}
-use Rattle.session.specs.Storage.{Storage, with_rows, Frame, frame-trans}
+use Rattle.session.specs.Storage.{Storage, with_rows, Frame, frame_trans}
 use Rattle.session.specs.Settle.{MaySettle, Settles, Along}
 use Rattle.session.specs.Rep.{Rep}
 use Rattle.session.specs.Noting.{noted}
 use Rattle.admitting.specs.declared.Admitted.{Admitted}
-use Rattle.admitting.specs.Promise.{Asks, MayDo, Does, may-do}
+use Rattle.admitting.specs.Promise.{Asks, MayDo, Does, may_do}
 use Rattle.admitting.specs.Numbers.{Number}
 use Rattle.admitting.specs.Admitted.{counted, Places, Admits}
 
@@ -21,28 +21,28 @@ pub record Begun (c : Call) (goal : ℕ → ℕ → Model → Model) (s : Sessio
   pub frame : Frame s.guide.p s.guide.v s.guide.written s.guide.written σ τ
 
 module _ (c : Call) (goal : ℕ → ℕ → Model → Model) (s : Session) (a : Admitted) (σ τ : Storage) (D : Begun c goal s a σ τ) where
-  may-settle : MayDo c s σ → MaySettle s.added (counted s a) τ a.top
-  may-settle m =
+  may_settle : MayDo c s σ → MaySettle s.added (counted s a) τ a.top
+  may_settle m =
       let A = D.along m in
       record { P = m.parallelism; N = m.places; W = length σ.pool; k = A.j; st = A.st; rep = A.rep; sound = A.sound; ended = A.ended }
 
   -- after the cascade
-  pub goal-reached : (s' : Session) (υ : Storage) → Settles s.added (counted s a) τ a.top s' υ → (m : MayDo c s σ) →
+  pub goal_reached : (s' : Session) (υ : Storage) → Settles s.added (counted s a) τ a.top s' υ → (m : MayDo c s σ) →
       Rep m.parallelism m.places (goal m.parallelism m.places m.model) s' υ
-  goal-reached s' υ Z m =
+  goal_reached s' υ Z m =
       let A = D.along m in
       subst (λ (j : Model). Rep m.parallelism m.places j s' υ) A.ends (Z.rep m.parallelism m.places (length σ.pool) A.j A.st A.rep A.sound A.ended)
 
-  pub goal-frame : (s' : Session) (υ : Storage) → Settles s.added (counted s a) τ a.top s' υ → Frame s.guide.p s.guide.v s.guide.written s'.guide.written σ υ
-  goal-frame s' υ Z = frame-trans s.guide.p s.guide.v s.guide.written s.guide.written s'.guide.written σ τ υ D.frame Z.frame
+  pub goal_frame : (s' : Session) (υ : Storage) → Settles s.added (counted s a) τ a.top s' υ → Frame s.guide.p s.guide.v s.guide.written s'.guide.written σ υ
+  goal_frame s' υ Z = frame_trans s.guide.p s.guide.v s.guide.written s.guide.written s'.guide.written σ τ υ D.frame Z.frame
 
   -- its number was worked out as n, and is 0
   pub admits : (n : ℕ) → Number c n s σ → n ≡ 0 → a.number ≡ 0 → Asks s σ → ((s' : Session) (υ : Storage) → Places s a s' τ υ → Does c s s' σ υ) → Admits c s a σ τ
   admits n h z e q d =
-      record { number_is = λ P N k R. e ∙ sym z ∙ h P N k R; refused = λ x. absurd (x e); may = λ x. may-settle (may-do c n s σ h z q); does = λ x. d }
+      record { number_is = λ P N k R. e ∙ sym z ∙ h P N k R; refused = λ x. absurd (x e); may = λ x. may_settle (may_do c n s σ h z q); does = λ x. d }
 
-pub admits-not : (c : Call) (s : Session) (a : Admitted) (σ τ : Storage) → Number c a.number s σ → (a.number ≡ 0 → ⊥) → τ ≡ σ → Admits c s a σ τ
-admits-not c s a σ τ h z e = record { number_is = h; refused = λ x. e; may = λ x. absurd (z x); does = λ x. absurd (z x) }
+pub admits_not : (c : Call) (s : Session) (a : Admitted) (σ τ : Storage) → Number c a.number s σ → (a.number ≡ 0 → ⊥) → τ ≡ σ → Admits c s a σ τ
+admits_not c s a σ τ h z e = record { number_is = h; refused = λ x. e; may = λ x. absurd (z x); does = λ x. absurd (z x) }
 
 -- the cascade has run, and what an add notes is noted
 module _ (s : Session) (a : Admitted) (s' : Session) (σ τ : Storage) (Z : Settles s.added (counted s a) σ a.top s' τ) where
@@ -50,5 +50,5 @@ module _ (s : Session) (a : Admitted) (s' : Session) (σ τ : Storage) (Z : Sett
   places rs e = record { settled = τ; settles = Z; is = ap (λ (x : List ℕ). with_rows τ x) e }
 
   -- the registrations have rows
-  pub row-there : MaySettle s.added (counted s a) σ a.top → s.added < a.added → rows_fit τ.rows a.added
-  row-there m h = omega (arith, m.rep.counted.added_is, m.sound.limits.many, m.rep.core.rowed.long, Z.frame.rows.long)
+  pub row_there : MaySettle s.added (counted s a) σ a.top → s.added < a.added → rows_fit τ.rows a.added
+  row_there m h = omega (arith, m.rep.counted.added_is, m.sound.limits.many, m.rep.core.rowed.long, Z.frame.rows.long)

@@ -1,7 +1,7 @@
 // A set or an add admitted: its number worked out, and, where that is 0, its own marks or lists stored. What it set free or added is then
 // placed, with all that this sets off.
 ghost use Rattle.std.specs.Prelude.{◌≡◌, ◌+◌, ◌≤◌, ◌<◌, length};
-ghost use Rattle.rules.specs.Checks.{waiting-needed};
+ghost use Rattle.rules.specs.Checks.{waiting_needed};
 ghost use Rattle.session.specs.Storage.{given, across};
 ghost use Rattle.session.specs.Settle.{MaySettle};
 ghost use Rattle.admitting.specs.Linking.{LinksNew};
@@ -58,7 +58,7 @@ pub fn admit_set(s: Session, marks: &mut [u16], waiting: &mut [u64], x: u64) -> 
 // Registration r with so many inputs, m being the greatest, is put on the stack to be placed at once, or waits under m where that is not
 // below the watermark; the stack's top link, 0 where it waits.
 fn link_new(waiting: &mut [u64], inputs: usize, m: u64, v: usize, watermark: usize, r: usize) -> u64
-    requires { (m < v) × (r < v) × (waiting-needed v ≤ length waiting.old) }
+    requires { (m < v) × (r < v) × (waiting_needed v ≤ length waiting.old) }
     ensures { LinksNew waiting.old v watermark inputs m r result waiting.new }
 {
     if inputs != 0 {

@@ -8,9 +8,9 @@ use Rattle.std.proofs.Math.ListN.{length, take}
 use Rattle.rules.specs.Guide.{Loc, tally}
 use Rattle.rules.specs.Alone.{Alone as AloneModel}
 use Rattle.laws.specs.Alone.{AloneSound}
-use Rattle.buffer.specs.View.{order-of, view}
+use Rattle.buffer.specs.View.{order_of, view}
 use Rattle.placing.specs.Stands.{Stands}
-use Rattle.placing.specs.Done.{order-view}
+use Rattle.placing.specs.Done.{order_view}
 use Rattle.placing.specs.Slices.{Slice}
 use Rattle.alone.specs.declared.Alone.{Alone}
 use Rattle.alone.specs.declared.Reply.{Reply}
@@ -44,12 +44,12 @@ given (Rejected n) = none
 module _ {a : AloneModel} (x : Alone) (s o : List ℕ) (is : model x s o ≡ a) where
   pub written_is : x.guide.written ≡ length a.guide.order
   unfolding model
-  written_is = sym (order-view x.guide s o) ∙ ap (λ b. length b.guide.order) is
+  written_is = sym (order_view x.guide s o) ∙ ap (λ b. length b.guide.order) is
 
-  pub order_is : order-of o (length a.guide.order) ≡ a.guide.order
+  pub order_is : order_of o (length a.guide.order) ≡ a.guide.order
   unfolding model view
-  order_is = ap (λ n. order-of o n) (sym written_is) ∙ ap (λ b. b.guide.order) is
+  order_is = ap (λ n. order_of o n) (sym written_is) ∙ ap (λ b. b.guide.order) is
 
-  pub tally-is : {P : ℕ} {t : List ℕ} → Held x s o t → x.guide.p ≡ P → take (P + 1) t ≡ tally P a.guide.order
+  pub tally_is : {P : ℕ} {t : List ℕ} → Held x s o t → x.guide.p ≡ P → take (P + 1) t ≡ tally P a.guide.order
   unfolding model view
-  tally-is {P} {t} h e = ap (λ p. take (p + 1) t) (sym e) ∙ h.stands.tally-is ∙ ap (λ p. tally p (order-of o x.guide.written)) e ∙ ap (λ b. tally P b.guide.order) is
+  tally_is {P} {t} h e = ap (λ p. take (p + 1) t) (sym e) ∙ h.stands.tally_is ∙ ap (λ p. tally p (order_of o x.guide.written)) e ∙ ap (λ b. tally P b.guide.order) is

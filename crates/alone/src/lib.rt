@@ -5,7 +5,7 @@ ghost use Rattle.rules.specs.Alone.{Request};
 ghost use Rattle.alone.specs.Held.{HeldOver};
 ghost use Rattle.alone.specs.Served.{ServedOver};
 ghost use Rattle.alone.specs.Pushing.{pushing};
-ghost use Rattle.alone.specs.Opening.{opening-number, first_alone, Fits, Begins, OpensOver};
+ghost use Rattle.alone.specs.Opening.{opening_number, first_alone, Fits, Begins, OpensOver};
 
 use buffer::Guide;
 use entries::Entry;
@@ -52,7 +52,7 @@ fn fresh(p: u32, v: u32) -> Alone
 
 // The number of opening a guide over this storage: 0, or that of the refusal.
 pub fn check_open(spans: &[u32], order: &[u32], tally: &[u32], p: u64, v: u64) -> u32
-    ensures { result ≡ opening-number p v spans.now order.now tally.now }
+    ensures { result ≡ opening_number p v spans.now order.now tally.now }
 {
     alone_checks::check_open(
         entries::capacity(spans),

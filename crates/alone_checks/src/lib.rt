@@ -1,9 +1,9 @@
 // The refusals of the guide alone, at opening, for a push and for a flush. Each function gives the number of the first check that fails, or 0.
 ghost use Rattle.std.specs.Prelude.{◌≡◌, ◌||◌, ◌≤◌, ltb, leb};
-ghost use Rattle.rules.specs.Limits.{most-parallelism, last-span-limit};
+ghost use Rattle.rules.specs.Limits.{most_parallelism, last_span_limit};
 ghost use Rattle.rules.specs.Checks.{verdict};
-ghost use Rattle.rules.specs.Alone.{check-alone};
-ghost use Rattle.alone_checks.specs.Numbers.{any-short, origin-not, stray-by, push-checks, flush-checks};
+ghost use Rattle.rules.specs.Alone.{check_alone};
+ghost use Rattle.alone_checks.specs.Numbers.{any_short, origin_not, stray_by, push_checks, flush_checks};
 
 // A number is not from 1 to the most.
 fn outside(x: u64, most: u64) -> bool
@@ -14,8 +14,8 @@ fn outside(x: u64, most: u64) -> bool
 
 // A lent length is too short: spans and order in entries, the tally in counts.
 fn short(spans: usize, order: usize, tally: usize, p: u64, v: u64) -> bool
-    requires { p ≤ most-parallelism }
-    ensures { result ≡ any-short p v spans order tally }
+    requires { p ≤ most_parallelism }
+    ensures { result ≡ any_short p v spans order tally }
 {
     let counts = p as usize + 1;
     if spans < window::SPANS * counts {
@@ -26,7 +26,7 @@ fn short(spans: usize, order: usize, tally: usize, p: u64, v: u64) -> bool
 
 // Opening.
 pub fn check_open(spans: usize, order: usize, tally: usize, p: u64, v: u64) -> u32
-    ensures { result ≡ verdict (check-alone p v spans order tally) }
+    ensures { result ≡ verdict (check_alone p v spans order tally) }
 {
     if outside(p, rules::MOST_PARALLELISM) {
         return rules::OUT_OF_RANGE as u32;
@@ -42,14 +42,14 @@ pub fn check_open(spans: usize, order: usize, tally: usize, p: u64, v: u64) -> u
 
 // A location is not (0,0), that of every set place.
 fn not_origin(span: u32, pos: u32) -> bool
-    ensures { result ≡ origin-not span pos }
+    ensures { result ≡ origin_not span pos }
 {
     span != 0 || pos != 0
 }
 
 // A location that is not (0,0), at or past span 0, and of no entry that is held.
 fn stray(first: u32, lens: [u16; window::SPANS], span: u32, pos: u32) -> bool
-    ensures { result ≡ stray-by first lens span pos }
+    ensures { result ≡ stray_by first lens span pos }
 {
     if span < first {
         return false;
@@ -66,7 +66,7 @@ fn stray(first: u32, lens: [u16; window::SPANS], span: u32, pos: u32) -> bool
 
 // No numbers are left for a window more of spans.
 fn worn(last: u32) -> bool
-    ensures { result ≡ leb last-span-limit last }
+    ensures { result ≡ leb last_span_limit last }
 {
     rules::LAST_SPAN_LIMIT <= last
 }
@@ -82,7 +82,7 @@ pub fn check_push(
     span: u32,
     pos: u32,
 ) -> u32
-    ensures { result ≡ verdict (push-checks last first lens v pushes has span pos) }
+    ensures { result ≡ verdict (push_checks last first lens v pushes has span pos) }
 {
     if v <= pushes {
         return rules::GUIDE_EXHAUSTED as u32;
@@ -100,7 +100,7 @@ pub fn check_push(
 
 // A flush: no span numbers left.
 pub fn check_flush(last: u32) -> u32
-    ensures { result ≡ verdict (flush-checks last) }
+    ensures { result ≡ verdict (flush_checks last) }
 {
     if worn(last) {
         return rules::GUIDE_EXHAUSTED as u32;

@@ -6,44 +6,44 @@ use Rattle.std.proofs.Math.Option.{some, none}
 use Prim.Native.Nat.{ℕ, zero, suc, ◌+◌, ◌*◌, ◌-◌, ◌/◌, ◌%◌, ◌≤◌, ◌<◌}
 use native.Mathlib.Omega.{arith}
 use Rattle.std.proofs.lemmas.Bool.{lt-leb}
-use Rattle.alone_list.specs.Requests.{request-size, requests-from, kinds-known, well-formed, decode}
+use Rattle.alone_list.specs.Requests.{request_size, requests_from, kinds_known, well_formed, decode}
 
 module _ (q : List ℕ) where
-  pub decode-none : false ≡ well-formed q → decode q ≡ none
+  pub decode_none : false ≡ well_formed q → decode q ≡ none
   unfolding decode
-  decode-none e = rw (← e, decode)
+  decode_none e = rw (← e, decode)
 
-  pub decode-some : true ≡ well-formed q → decode q ≡ some (requests-from q 0 (length q / request-size))
+  pub decode_some : true ≡ well_formed q → decode q ≡ some (requests_from q 0 (length q / request_size))
   unfolding decode
-  decode-some e = rw (← e, decode)
+  decode_some e = rw (← e, decode)
 
-  pub not-sixes : length q % request-size ≢ 0 → false ≡ well-formed q
-  unfolding well-formed
-  not-sixes h = rw (ne_eqb (length q % request-size) 0 h)
+  pub not_sixes : length q % request_size ≢ 0 → false ≡ well_formed q
+  unfolding well_formed
+  not_sixes h = rw (ne_eqb (length q % request_size) 0 h)
 
   module _ (n k : ℕ) (h : k < n) where
     abbrev rest : Bool
-    rest = kinds-known q (suc k) (n - (k + 1))
+    rest = kinds_known q (suc k) (n - (k + 1))
 
-    kind-first : kinds-known q k (n - k) ≡ (leb (get_or q (request-size * k) 0) 2 && rest)
-    unfolding kinds-known
-    kind-first = let e : n - k ≡ suc (n - (k + 1)) = omega arith in rw e
+    kind_first : kinds_known q k (n - k) ≡ (leb (get_or q (request_size * k) 0) 2 && rest)
+    unfolding kinds_known
+    kind_first = let e : n - k ≡ suc (n - (k + 1)) = omega arith in rw e
 
-    pub kind-unknown : 2 < get_or q (request-size * k) 0 → kinds-known q k (n - k) ≡ false
-    kind-unknown g = kind-first ∙ rw (lt-leb (get_or q (request-size * k) 0) 2 g)
+    pub kind_unknown : 2 < get_or q (request_size * k) 0 → kinds_known q k (n - k) ≡ false
+    kind_unknown g = kind_first ∙ rw (lt-leb (get_or q (request_size * k) 0) 2 g)
 
-    pub kind-known : get_or q (request-size * k) 0 ≤ 2 → kinds-known q k (n - k) ≡ kinds-known q (k + 1) (n - (k + 1))
-    kind-known g = let s : k + 1 ≡ suc k = omega arith in kind-first ∙ (rw (le-leb (get_or q (request-size * k) 0) 2 g)) ∙ ap (λ j. kinds-known q j (n - (k + 1))) (sym s)
+    pub kind_known : get_or q (request_size * k) 0 ≤ 2 → kinds_known q k (n - k) ≡ kinds_known q (k + 1) (n - (k + 1))
+    kind_known g = let s : k + 1 ≡ suc k = omega arith in kind_first ∙ (rw (le-leb (get_or q (request_size * k) 0) 2 g)) ∙ ap (λ j. kinds_known q j (n - (k + 1))) (sym s)
 
-  pub kinds-none-left : (n k : ℕ) → n ≤ k → kinds-known q k (n - k) ≡ true
-  unfolding kinds-known
-  kinds-none-left n k h = let e : n - k ≡ 0 = omega arith in rw e
+  pub kinds_none_left : (n k : ℕ) → n ≤ k → kinds_known q k (n - k) ≡ true
+  unfolding kinds_known
+  kinds_none_left n k h = let e : n - k ≡ 0 = omega arith in rw e
 
-  pub sixes : {b : Bool} → length q % request-size ≡ 0 → kinds-known q 0 (length q / request-size) ≡ b → b ≡ well-formed q
-  unfolding well-formed
-  sixes e f = sym (rw (eq-eqb (length q % request-size) 0 e) f)
+  pub sixes : {b : Bool} → length q % request_size ≡ 0 → kinds_known q 0 (length q / request_size) ≡ b → b ≡ well_formed q
+  unfolding well_formed
+  sixes e f = sym (rw (eq-eqb (length q % request_size) 0 e) f)
 
-pub requests-many : (q : List ℕ) (k m : ℕ) → length (requests-from q k m) ≡ m
-unfolding requests-from
-requests-many q k zero = refl
-requests-many q k (suc m) = ap suc (requests-many q (suc k) m)
+pub requests_many : (q : List ℕ) (k m : ℕ) → length (requests_from q k m) ≡ m
+unfolding requests_from
+requests_many q k zero = refl
+requests_many q k (suc m) = ap suc (requests_many q (suc k) m)

@@ -8,8 +8,8 @@ pub record Put (n : ℕ) (xs l m : List ℕ) : Type 0 where
   pub is : take (n + length xs) m ≡ take n l ++ xs
   pub beyond : drop (n + length xs) m ≡ drop (n + length xs) l
 
-pub put-none : (n : ℕ) (l : List ℕ) → Put n [] l l
-put-none n l = record { long = refl; is = rw (add-zero, append-nil); beyond = refl }
+pub put_none : (n : ℕ) (l : List ℕ) → Put n [] l l
+put_none n l = record { long = refl; is = rw (add-zero, append-nil); beyond = refl }
 
 pub put_one : (n x : ℕ) (l : List ℕ) → n < length l → Put n (x ∷ []) l (set l n x)
 put_one n x l h =
@@ -41,8 +41,8 @@ put_five n a b c d e l h =
     put_then n (a ∷ (b ∷ (c ∷ (d ∷ [])))) (e ∷ []) l l4 (set l4 (n + 4) e) p4 (put_one (n + 4) e l4 (simp length-set (omega arith)))
 
 -- a list put number by number
-pub put-more : (n i : ℕ) (xs l m : List ℕ) → i < length xs → n + i < length l → Put n (take i xs) l m → Put n (take (i + 1) xs) l (set m (n + i) (get_or xs i 0))
-put-more n i xs l m h k f =
+pub put_more : (n i : ℕ) (xs l m : List ℕ) → i < length xs → n + i < length l → Put n (take i xs) l m → Put n (take (i + 1) xs) l (set m (n + i) (get_or xs i 0))
+put_more n i xs l m h k f =
     let t : length (take i xs) ≡ i = length-take-le i xs (omega arith) in
     let o = put_one (n + i) (get_or xs i 0) m (omega (arith, f.long)) in
     let g : Put (n + length (take i xs)) (get_or xs i 0 ∷ []) m (set m (n + i) (get_or xs i 0)) = rw t o in

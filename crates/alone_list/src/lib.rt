@@ -2,7 +2,7 @@
 ghost use Rattle.std.specs.Prelude.{◌≡◌, ◌∷◌, [], ◌+◌, ◌*◌, ◌≤◌, length};
 ghost use Rattle.alone.specs.Held.{HeldOver};
 ghost use Rattle.alone.specs.Served.{ServedOver};
-ghost use Rattle.alone_list.specs.Requests.{request-size, answer-size, has-request, request-at, well-formed};
+ghost use Rattle.alone_list.specs.Requests.{request_size, answer_size, has_request, request_at, well_formed};
 ghost use Rattle.alone_list.specs.Replay.{ReplaysOver};
 ghost use Rattle.alone_list.specs.Put.{Put};
 ghost use Rattle.alone_list.specs.Blocks.{Head, block_of};
@@ -32,8 +32,8 @@ fn serve(
     k: usize,
 ) -> Answer
     requires held_over { HeldOver x spans order tally }
-    requires has_request { has-request requests.now k }
-    ensures { ServedOver (request-at requests.now k) x result.alone spans order tally result.reply }
+    requires has_request { has_request requests.now k }
+    ensures { ServedOver (request_at requests.now k) x result.alone spans order tally result.reply }
 {
     let i = REQUEST_SIZE * k;
     let kind = requests[i];
@@ -111,7 +111,7 @@ fn put_lens(answers: &mut [u32], at: usize, lens: [u16; window::SPANS])
 
 // The answer to a request from `at` on: the reply's number and location, the order's length, span 0's number, the 32 lengths.
 fn note(answers: &mut [u32], at: usize, a: Answer)
-    requires { at + answer-size ≤ length answers.old }
+    requires { at + answer_size ≤ length answers.old }
     ensures { Put at (block_of a.alone a.reply) answers.old answers.new }
 {
     let r = a.reply;
@@ -136,7 +136,7 @@ fn run(
     n: usize,
 )
     requires held_over { HeldOver x spans order tally }
-    requires n_in_bounds { (request-size * n ≤ length requests.now) × (answer-size * n ≤ length answers.old) }
+    requires n_in_bounds { (request_size * n ≤ length requests.now) × (answer_size * n ≤ length answers.old) }
     ensures { RunsOver x spans order tally answers requests n }
 {
     let mut y = x;
@@ -150,7 +150,7 @@ fn run(
 
 // Whether the numbers are requests: whole ones, each of a known kind.
 fn well_formed(requests: &[u32]) -> bool
-    ensures { result ≡ well-formed requests.now }
+    ensures { result ≡ well_formed requests.now }
 {
     if requests.len() % REQUEST_SIZE != 0 {
         return false;

@@ -4,7 +4,7 @@
 use Rattle.std.specs.Prelude.{◌≡◌, List, [], ◌∷◌, ◌++◌, ◌≢◌, ◌↔◌, true, ℕ, zero, suc, ◌+◌, ◌<◌, length, replicate}
 use Rattle.rules.specs.Refusals as refusal
 use Rattle.rules.specs.Guide.{Item, Entry}
-use Rattle.rules.specs.Model.{Reg, Model, initial, tracked, place-one, with-set, do-set, with-add, do-add}
+use Rattle.rules.specs.Model.{Reg, Model, initial, tracked, place_one, with_set, do_set, with_add, do_add}
 use Rattle.rules.specs.Checks.{taken}
 use Rattle.rules.specs.Calls.{Call, set, add, flush, final}
 use Rattle.rules.specs.Calls as ordinary
@@ -14,9 +14,9 @@ use Rattle.laws.specs.Entries.{EachSpan, EachEntry}
 use Rattle.laws.specs.Demand.{Demand}
 
 -- the places m, m + 1 and so on, n of them
-unfoldable pub places-from : ℕ → ℕ → List ℕ
-places-from m zero = []
-places-from m (suc n) = m ∷ places-from (suc m) n
+unfoldable pub places_from : ℕ → ℕ → List ℕ
+places_from m zero = []
+places_from m (suc n) = m ∷ places_from (suc m) n
 
 -- every taken place lies below the lowest that is neither set nor written
 abbrev pub Packed : ℕ → Model → Type 0
@@ -39,23 +39,23 @@ pub record Ascends (P N W : ℕ) (calls : List Call) (k : Model) : Type 0 where
   -- calls, each of which it accepts
   pub accepts : (c : Call) → answer N W c k ≡ 0 → ordinary.answer N W c k ≡ 0
   pub same : k ≡ ordinary.run P N W (accepted P N W calls initial) initial
-  pub all-accepted : ordinary.answers P N W (accepted P N W calls initial) initial ≡ replicate (length (accepted P N W calls initial)) 0
+  pub all_accepted : ordinary.answers P N W (accepted P N W calls initial) initial ≡ replicate (length (accepted P N W calls initial)) 0
   -- nothing waits; an accepted set marks its place and an accepted add is placed within its own call, and neither sets anything off
-  pub none-waits : k.pending ≡ []
-  pub set-alone : (x : ℕ) → answer N W (set x) k ≡ 0 → do-set P N x k ≡ with-set x k
-  pub placed-alone : (lane : ℕ) (ins outs : List ℕ) → answer N W (add lane ins outs) k ≡ 0
-      → do-add P N (reg lane ins outs) k ≡ place-one P (length k.adds) (length k.adds) (with-add (reg lane ins outs) k)
+  pub none_waits : k.pending ≡ []
+  pub set_alone : (x : ℕ) → answer N W (set x) k ≡ 0 → do_set P N x k ≡ with_set x k
+  pub placed_alone : (lane : ℕ) (ins outs : List ℕ) → answer N W (add lane ins outs) k ≡ 0
+      → do_add P N (reg lane ins outs) k ≡ place_one P (length k.adds) (length k.adds) (with_add (reg lane ins outs) k)
   -- so accepted equals added in every entry, written or held
   pub at_once : EachEntry AtOnce k.guide.order × EachSpan AtOnce k.guide.spans
   -- 8 and 12 are never answered
-  pub never-taken : (c : Call) → answer N W c k ≢ refusal.taken-place
-  pub never-still-waiting : (c : Call) → answer N W c k ≢ refusal.still-waiting
+  pub never_taken : (c : Call) → answer N W c k ≢ refusal.taken_place
+  pub never_still_waiting : (c : Call) → answer N W c k ≢ refusal.still_waiting
   -- the set and written places are those below m, and none is promised beyond; m moves by 1 with a set and by the count of outputs with an add
   pub below : (x : ℕ) → (tracked k x ≡ true) ↔ (x < lowest N k)
-  pub taken-below : (x : ℕ) → (taken k x ≡ true) ↔ (x < lowest N k)
-  pub set-moves : (x : ℕ) → answer N W (set x) k ≡ 0 → lowest N (step P N W (set x) k) ≡ lowest N k + 1
-  pub add-moves : (lane : ℕ) (ins outs : List ℕ) → answer N W (add lane ins outs) k ≡ 0 → lowest N (step P N W (add lane ins outs) k) ≡ lowest N k + length outs
-  pub others-stay : (lowest N (step P N W flush k) ≡ lowest N k) × (lowest N (step P N W final k) ≡ lowest N k)
+  pub taken_below : (x : ℕ) → (taken k x ≡ true) ↔ (x < lowest N k)
+  pub set_moves : (x : ℕ) → answer N W (set x) k ≡ 0 → lowest N (step P N W (set x) k) ≡ lowest N k + 1
+  pub add_moves : (lane : ℕ) (ins outs : List ℕ) → answer N W (add lane ins outs) k ≡ 0 → lowest N (step P N W (add lane ins outs) k) ≡ lowest N k + length outs
+  pub others_stay : (lowest N (step P N W flush k) ≡ lowest N k) × (lowest N (step P N W final k) ≡ lowest N k)
   -- demand 3 of the model, and, in the profile's own calls, what demand 3 says of calls: no call changed an entry already written, a refused
   -- call changes nothing, and the session is closed exactly when a final was accepted
   pub demand : Demand P N W (accepted P N W calls initial) k
@@ -66,5 +66,5 @@ pub record Ascends (P N W : ℕ) (calls : List Call) (k : Model) : Type 0 where
 -- what the code goes by: every invariant of a reachable model, nothing waits, and every taken place lies below the lowest
 pub record Reached (P N W : ℕ) (k : Model) : Type 0 where
   pub between : Between P N W k
-  pub none-waits : k.pending ≡ []
+  pub none_waits : k.pending ≡ []
   pub packed : Packed N k

@@ -6,14 +6,14 @@ use mathlib.Core.List.Memᴰ
 use Rattle.std.proofs.Common.{inl, inr, arith}
 use Rattle.rules.specs.Refusals as refusal
 use Rattle.rules.specs.Model.{Model}
-use Rattle.rules.specs.Checks.{Check, verdict, any, taken, check-closed, check-places, check-flush, check-final}
+use Rattle.rules.specs.Checks.{Check, verdict, any, taken, check_closed, check_places, check_flush, check_final}
 use Rattle.rules.specs.Calls.{Call, set, add, flush, final}
-use Rattle.rules.specs.Ascending.{lowest, set-breach, add-breach, check-set, check-add, checks, answer}
+use Rattle.rules.specs.Ascending.{lowest, set_breach, add_breach, check_set, check_add, checks, answer}
 use Rattle.laws.specs.ModelBase.{In, bool_cases}
-use Rattle.laws.specs.Accepted.{verdict-other}
+use Rattle.laws.specs.Accepted.{verdict_other}
 use Rattle.ascending.specs.Claims.{Packed}
-use Rattle.ascending.specs.Same.{ascend-outs, no-breach}
-use Rattle.ascending.specs.Lowest.{set_at, free-from, places-in}
+use Rattle.ascending.specs.Same.{ascend_outs, no_breach}
+use Rattle.ascending.specs.Lowest.{set_at, free_from, places_in}
 
 -- a list of checks does not give m where its first passes or has another number, and those after it do not give m
 passed : (m : ℕ) (c : Check) (cs : List Check) → c.fails ≡ false → verdict cs ≢ m → verdict (c ∷ cs) ≢ m
@@ -35,34 +35,34 @@ any_none t (x ∷ l) h = rw (h x (Memᴰ.head refl)) (any_none t l (λ i y. h i 
 
 module _ (N W : ℕ) (k : Model) where
   -- where 21 passes, 8 does
-  set_free : (x : ℕ) → Packed N k → set-breach (lowest N k) x ≡ false → taken k x ≡ false
-  set_free x p e = free-from N k x p (omega (arith, set_at (lowest N k) x e))
+  set_free : (x : ℕ) → Packed N k → set_breach (lowest N k) x ≡ false → taken k x ≡ false
+  set_free x p e = free_from N k x p (omega (arith, set_at (lowest N k) x e))
 
-  add_free : (ins outs : List ℕ) → Packed N k → add-breach (lowest N k) ins outs ≡ false → any (taken k) outs ≡ false
+  add_free : (ins outs : List ℕ) → Packed N k → add_breach (lowest N k) ins outs ≡ false → any (taken k) outs ≡ false
   add_free ins outs p e =
       let m = lowest N k in
-      let outs-are = ascend-outs m outs (no-breach m ins outs e).0 in
-      any_none (taken k) outs (λ i y. free-from N k i p (places-in m _ i (rw outs-are at y)).0)
+      let outs_are = ascend_outs m outs (no_breach m ins outs e).0 in
+      any_none (taken k) outs (λ i y. free_from N k i p (places_in m _ i (rw outs_are at y)).0)
 
-  pub never-taken : Packed N k → (c : Call) → answer N W c k ≢ refusal.taken-place
-  unfolding answer checks check-set check-add check-flush check-final check-closed check-places any
-  never-taken p (set x) =
-      let m = refusal.taken-place in
+  pub never_taken : Packed N k → (c : Call) → answer N W c k ≢ refusal.taken_place
+  unfolding answer checks check_set check_add check_flush check_final check_closed check_places any
+  never_taken p (set x) =
+      let m = refusal.taken_place in
       other m _ _ (omega arith) (λ _. other m _ _ (omega arith) (λ _. other m _ _ (omega arith) (λ _.
-      other m _ _ (omega arith) (λ e. passed m _ _ (set_free x p e) (verdict-other m _ (omega arith) refl)))))
-  never-taken p (add lane ins outs) =
-      let m = refusal.taken-place in
+      other m _ _ (omega arith) (λ e. passed m _ _ (set_free x p e) (verdict_other m _ (omega arith) refl)))))
+  never_taken p (add lane ins outs) =
+      let m = refusal.taken_place in
       other m _ _ (omega arith) (λ _. other m _ _ (omega arith) (λ _. other m _ _ (omega arith) (λ _.
       other m _ _ (omega arith) (λ _. other m _ _ (omega arith) (λ _. other m _ _ (omega arith) (λ _.
-      other m _ _ (omega arith) (λ e. passed m _ _ (add_free ins outs p e) (verdict-other m _ (omega arith) refl))))))))
-  never-taken p flush = verdict-other refusal.taken-place _ (omega arith) refl
-  never-taken p final = verdict-other refusal.taken-place _ (omega arith) refl
+      other m _ _ (omega arith) (λ e. passed m _ _ (add_free ins outs p e) (verdict_other m _ (omega arith) refl))))))))
+  never_taken p flush = verdict_other refusal.taken_place _ (omega arith) refl
+  never_taken p final = verdict_other refusal.taken_place _ (omega arith) refl
 
-  pub never-still-waiting : k.pending ≡ [] → (c : Call) → answer N W c k ≢ refusal.still-waiting
-  unfolding answer checks check-set check-add check-flush check-final check-closed check-places any
-  never-still-waiting e (set x) = verdict-other refusal.still-waiting _ (omega arith) refl
-  never-still-waiting e (add lane ins outs) = verdict-other refusal.still-waiting _ (omega arith) refl
-  never-still-waiting e flush = verdict-other refusal.still-waiting _ (omega arith) refl
-  never-still-waiting e final =
-      let m = refusal.still-waiting in
-      other m _ _ (omega arith) (λ _. passed m _ _ (rw e) (verdict-other m _ (omega arith) refl))
+  pub never_still_waiting : k.pending ≡ [] → (c : Call) → answer N W c k ≢ refusal.still_waiting
+  unfolding answer checks check_set check_add check_flush check_final check_closed check_places any
+  never_still_waiting e (set x) = verdict_other refusal.still_waiting _ (omega arith) refl
+  never_still_waiting e (add lane ins outs) = verdict_other refusal.still_waiting _ (omega arith) refl
+  never_still_waiting e flush = verdict_other refusal.still_waiting _ (omega arith) refl
+  never_still_waiting e final =
+      let m = refusal.still_waiting in
+      other m _ _ (omega arith) (λ _. passed m _ _ (rw e) (verdict_other m _ (omega arith) refl))

@@ -3,7 +3,7 @@ ghost use Rattle.std.specs.Prelude.{length};
 ghost use Rattle.rules.specs.Calls.{add as add-call};
 ghost use Rattle.ascending_session.specs.Slices.{given, across};
 ghost use Rattle.ascending_session.specs.Promise.{MayDo, Does};
-ghost use Rattle.ascending_adding.specs.Adding.{with-added};
+ghost use Rattle.ascending_adding.specs.Adding.{with_added};
 
 use ascending_session::Ascending;
 use buffer::Guide;
@@ -25,7 +25,7 @@ pub fn place_new(
 ) -> Guide
     requires { MayDo (add-call lane ins.now outs.now) s (given spans order tally rows marks locations) }
     ensures { across spans order tally rows marks locations
-        (λ σ τ. Does (add-call lane ins.now outs.now) s (with-added s result (length ins.now) (length outs.now)) σ τ) }
+        (λ σ τ. Does (add-call lane ins.now outs.now) s (with_added s result (length ins.now) (length outs.now)) σ τ) }
 {
     let r = s.added;
     let n = s.guide.written;

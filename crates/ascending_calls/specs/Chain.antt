@@ -6,7 +6,7 @@ use Rattle.rules.specs.Model.{Model, initial}
 use Rattle.rules.specs.Calls.{Call}
 use Rattle.rules.specs.Ascending.{step, run, answers}
 use Rattle.ascending.specs.Claims.{Ascends, Reached}
-use Rattle.ascending.specs.Proof.{reached-initial, reached-step, ascends}
+use Rattle.ascending.specs.Proof.{reached_initial, reached_step, ascends}
 use Rattle.session.specs.Storage.{Storage}
 use Rattle.ascending_session.specs.declared.Ascending.{Ascending}
 use Rattle.ascending_session.specs.Rep.{Rep}
@@ -25,16 +25,16 @@ pub record Follows (P N W : ℕ) (cs : List Call) (k : Model) (ns : List ℕ) (s
   pub rep : Rep P N W (run P N W cs k) s σ
   pub shows : Shows P N W (run P N W cs k) s σ
 
-pub chain-follows : (P N W : ℕ) → 1 ≤ P → {s u : Ascending} {σ υ : Storage} {cs : List Call} {ns : List ℕ} (k : Model) → Rep P N W k s σ → Reached P N W k
+pub chain_follows : (P N W : ℕ) → 1 ≤ P → {s u : Ascending} {σ υ : Storage} {cs : List Call} {ns : List ℕ} (k : Model) → Rep P N W k s σ → Reached P N W k
     → Chain s σ cs ns u υ → Follows P N W cs k ns u υ
 unfolding run answers
-chain-follows P N W hP k R Q here = record { numbers = refl; rep = R; shows = shows R }
-chain-follows P N W hP k R Q (then {c = c} d f) =
+chain_follows P N W hP k R Q here = record { numbers = refl; rep = R; shows = shows R }
+chain_follows P N W hP k R Q (then {c = c} d f) =
     let x = d.keeps P N W k R Q in
-    let o = chain-follows P N W hP (step P N W c k) x.1 (reached-step P N W hP c k Q) f in
+    let o = chain_follows P N W hP (step P N W c k) x.1 (reached_step P N W hP c k Q) f in
     record { numbers = rw (x.0, o.numbers); rep = o.rep; shows = o.shows }
 
 -- on a fresh session, every list of calls, refused ones among them
-pub chain-ascends : (P N W : ℕ) → 1 ≤ P → {s u : Ascending} {σ υ : Storage} {cs : List Call} {ns : List ℕ} → Rep P N W initial s σ → Chain s σ cs ns u υ
+pub chain_ascends : (P N W : ℕ) → 1 ≤ P → {s u : Ascending} {σ υ : Storage} {cs : List Call} {ns : List ℕ} → Rep P N W initial s σ → Chain s σ cs ns u υ
     → Follows P N W cs initial ns u υ × Ascends P N W cs (run P N W cs initial)
-chain-ascends P N W hP {cs = cs} R f = (chain-follows P N W hP initial R (reached-initial P N W hP) f, ascends P N W hP cs)
+chain_ascends P N W hP {cs = cs} R f = (chain_follows P N W hP initial R (reached_initial P N W hP) f, ascends P N W hP cs)

@@ -8,89 +8,89 @@ use native.Mathlib.Omega.{arith}
 use borrow.Author.Tests.{eqb-true, eq-eqb, ne_eqb}
 use Rattle.rules.specs.Model.{member}
 use Rattle.rules.specs.Checks.{any, repeats}
-use Rattle.rules.specs.Ascending.{ascend, first-or, add-breach}
+use Rattle.rules.specs.Ascending.{ascend, first_or, add_breach}
 use Rattle.laws.specs.ModelBase.{bool_cases}
 use Rattle.lists.specs.Part.{Below}
-use Rattle.lists.specs.Scan.{drop-step, drop-none}
+use Rattle.lists.specs.Scan.{drop_step, drop_none}
 use Rattle.ascending_checks.specs.Parts.{Under}
 
 -- the loop of `ascends`, by what remains to be done
 module _ (m : ℕ) (xs : List ℕ) where
-  pub ascend-begins : ascend m xs ≡ ascend (m + 0) (drop 0 xs)
-  ascend-begins = rw add-zero
+  pub ascend_begins : ascend m xs ≡ ascend (m + 0) (drop 0 xs)
+  ascend_begins = rw add-zero
 
   module _ (i : ℕ) (h : i < length xs) where
-    pub ascend-more : get_or xs i 0 ≡ m + i → ascend (m + i) (drop i xs) ≡ ascend (m + (i + 1)) (drop (i + 1) xs)
+    pub ascend_more : get_or xs i 0 ≡ m + i → ascend (m + i) (drop i xs) ≡ ascend (m + (i + 1)) (drop (i + 1) xs)
     unfolding ascend
-    ascend-more e =
+    ascend_more e =
         let next : m + (i + 1) ≡ suc (m + i) = omega arith in
-        rw (drop-step xs i h, next, eq-eqb (get_or xs i 0) (m + i) e)
+        rw (drop_step xs i h, next, eq-eqb (get_or xs i 0) (m + i) e)
 
-    pub ascend-stops : (get_or xs i 0 ≡ m + i → ⊥) → ascend (m + i) (drop i xs) ≡ false
+    pub ascend_stops : (get_or xs i 0 ≡ m + i → ⊥) → ascend (m + i) (drop i xs) ≡ false
     unfolding ascend
-    ascend-stops n = rw (drop-step xs i h, ne_eqb (get_or xs i 0) (m + i) n)
+    ascend_stops n = rw (drop_step xs i h, ne_eqb (get_or xs i 0) (m + i) n)
 
-  pub ascend-ends : (i : ℕ) → length xs ≤ i → ascend (m + i) (drop i xs) ≡ true
+  pub ascend_ends : (i : ℕ) → length xs ≤ i → ascend (m + i) (drop i xs) ≡ true
   unfolding ascend
-  ascend-ends i h = rw (drop-none xs i h)
+  ascend_ends i h = rw (drop_none xs i h)
 
-ascend-split : (m x : ℕ) (xs : List ℕ) → ascend m (x ∷ xs) ≡ true → (x ≡ m) × (ascend (suc m) xs ≡ true)
+ascend_split : (m x : ℕ) (xs : List ℕ) → ascend m (x ∷ xs) ≡ true → (x ≡ m) × (ascend (suc m) xs ≡ true)
 unfolding ascend
-ascend-split m x xs e = go (bool_cases (eqb x m))
+ascend_split m x xs e = go (bool_cases (eqb x m))
   where
     go : (eqb x m ≡ true) ⊎ (eqb x m ≡ false) → (x ≡ m) × (ascend (suc m) xs ≡ true)
     go (inl q) = (eqb-true x m q, rw q at e)
     go (inr q) = absurd (false≢true (rw q at e))
 
 -- they end where as many places from m on do
-pub ascend-below : (N m : ℕ) (xs : List ℕ) → ascend m xs ≡ true → m + length xs ≤ N → Below N xs
+pub ascend_below : (N m : ℕ) (xs : List ℕ) → ascend m xs ≡ true → m + length xs ≤ N → Below N xs
 unfolding Below
-ascend-below N m [] e h = tt
-ascend-below N m (x ∷ xs) e h = let s = ascend-split m x xs e in (omega (arith, s.0), ascend-below N (suc m) xs s.1 (omega arith))
+ascend_below N m [] e h = tt
+ascend_below N m (x ∷ xs) e h = let s = ascend_split m x xs e in (omega (arith, s.0), ascend_below N (suc m) xs s.1 (omega arith))
 
-pub below-ascend : (N m : ℕ) (xs : List ℕ) → ascend m xs ≡ true → m ≤ N → Below N xs → m + length xs ≤ N
+pub below_ascend : (N m : ℕ) (xs : List ℕ) → ascend m xs ≡ true → m ≤ N → Below N xs → m + length xs ≤ N
 unfolding Below
-below-ascend N m [] e h b = omega arith
-below-ascend N m (x ∷ xs) e h b =
-    let s = ascend-split m x xs e in
-    let r = below-ascend N (suc m) xs s.1 (omega (arith, s.0, b.0)) b.1 in
+below_ascend N m [] e h b = omega arith
+below_ascend N m (x ∷ xs) e h b =
+    let s = ascend_split m x xs e in
+    let r = below_ascend N (suc m) xs s.1 (omega (arith, s.0, b.0)) b.1 in
     omega (arith, r)
 
 -- none of them is one that lies below m, so none repeats
-ascend-new : (m x : ℕ) (xs : List ℕ) → x < m → ascend m xs ≡ true → member x xs ≡ false
+ascend_new : (m x : ℕ) (xs : List ℕ) → x < m → ascend m xs ≡ true → member x xs ≡ false
 unfolding member
-ascend-new m x [] h e = refl
-ascend-new m x (y ∷ xs) h e = let s = ascend-split m y xs e in rw (ne_eqb x y (λ q. omega (arith, s.0))) (ascend-new (suc m) x xs (omega arith) s.1)
+ascend_new m x [] h e = refl
+ascend_new m x (y ∷ xs) h e = let s = ascend_split m y xs e in rw (ne_eqb x y (λ q. omega (arith, s.0))) (ascend_new (suc m) x xs (omega arith) s.1)
 
-pub ascend-once : (m : ℕ) (xs : List ℕ) → ascend m xs ≡ true → repeats xs ≡ false
+pub ascend_once : (m : ℕ) (xs : List ℕ) → ascend m xs ≡ true → repeats xs ≡ false
 unfolding repeats
-ascend-once m [] e = refl
-ascend-once m (x ∷ xs) e = let s = ascend-split m x xs e in rw (ascend-new (suc m) x xs (omega (arith, s.0)) s.1) (ascend-once (suc m) xs s.1)
+ascend_once m [] e = refl
+ascend_once m (x ∷ xs) e = let s = ascend_split m x xs e in rw (ascend_new (suc m) x xs (omega (arith, s.0)) s.1) (ascend_once (suc m) xs s.1)
 
 -- nor is any taken
-pub ascend-free : (t : ℕ → Bool) (m : ℕ) (xs : List ℕ) → Under m t → ascend m xs ≡ true → any t xs ≡ false
+pub ascend_free : (t : ℕ → Bool) (m : ℕ) (xs : List ℕ) → Under m t → ascend m xs ≡ true → any t xs ≡ false
 unfolding any
-ascend-free t m [] u e = refl
-ascend-free t m (x ∷ xs) u e = let s = ascend-split m x xs e in rw (u x (omega (arith, s.0))) (ascend-free t (suc m) xs (λ y h. u y (omega arith)) s.1)
+ascend_free t m [] u e = refl
+ascend_free t m (x ∷ xs) u e = let s = ascend_split m x xs e in rw (u x (omega (arith, s.0))) (ascend_free t (suc m) xs (λ y h. u y (omega arith)) s.1)
 
-ascend-first : (m : ℕ) (xs : List ℕ) → ascend m xs ≡ true → first-or m xs ≡ m
-unfolding first-or
-ascend-first m [] e = refl
-ascend-first m (x ∷ xs) e = (ascend-split m x xs e).0
+ascend_first : (m : ℕ) (xs : List ℕ) → ascend m xs ≡ true → first_or m xs ≡ m
+unfolding first_or
+ascend_first m [] e = refl
+ascend_first m (x ∷ xs) e = (ascend_split m x xs e).0
 
 -- a breach: the outputs do not ascend from m, or an input is m or more
 module _ (m : ℕ) (ins outs : List ℕ) where
-  pub breach-outs : ascend m outs ≡ false → add-breach m ins outs ≡ true
-  unfolding add-breach
-  breach-outs e = rw e
+  pub breach_outs : ascend m outs ≡ false → add_breach m ins outs ≡ true
+  unfolding add_breach
+  breach_outs e = rw e
 
-  pub breach-ins : ascend m outs ≡ true → add-breach m ins outs ≡ any (λ i. leb m i) ins
-  unfolding add-breach
-  breach-ins e = rw (e, ascend-first m outs e)
+  pub breach_ins : ascend m outs ≡ true → add_breach m ins outs ≡ any (λ i. leb m i) ins
+  unfolding add_breach
+  breach_ins e = rw (e, ascend_first m outs e)
 
-  pub breach-none : add-breach m ins outs ≡ false → (ascend m outs ≡ true) × (any (λ i. leb m i) ins ≡ false)
-  breach-none h = go (bool_cases (ascend m outs))
+  pub breach_none : add_breach m ins outs ≡ false → (ascend m outs ≡ true) × (any (λ i. leb m i) ins ≡ false)
+  breach_none h = go (bool_cases (ascend m outs))
     where
       go : (ascend m outs ≡ true) ⊎ (ascend m outs ≡ false) → (ascend m outs ≡ true) × (any (λ i. leb m i) ins ≡ false)
-      go (inl e) = (e, sym (breach-ins e) ∙ h)
-      go (inr e) = absurd (false≢true (sym h ∙ breach-outs e))
+      go (inl e) = (e, sym (breach_ins e) ∙ h)
+      go (inr e) = absurd (false≢true (sym h ∙ breach_outs e))

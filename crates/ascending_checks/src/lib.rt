@@ -1,7 +1,7 @@
 // The checks of set and add under the ascending profile, in document 02's order: the number of the first that fails, or 0. The marks are as
 // they were: those that are raised to find a repeated output are lowered again.
 ghost use Rattle.std.specs.Prelude.{◌≡◌, ◌≤◌, leb};
-ghost use Rattle.rules.specs.Limits.{most-places};
+ghost use Rattle.rules.specs.Limits.{most_places};
 ghost use Rattle.rules.specs.Checks.{any};
 ghost use Rattle.rules.specs.Ascending.{ascend};
 ghost use Rattle.ascending_checks.specs.Parts.{ChecksSet, MayPass, Passes, MayAdd, ChecksAdd};
@@ -27,7 +27,7 @@ pub fn check_set(closed: bool, v: usize, lowest: usize, x: u64) -> u64
 
 // Whether the places are the lowest one and those that follow it.
 fn ascends(outs: &[u64], lowest: usize) -> bool
-    requires { lowest ≤ most-places }
+    requires { lowest ≤ most_places }
     ensures { result ≡ ascend lowest outs.now }
 {
     let mut i = 0;

@@ -4,14 +4,14 @@ use Rattle.std.specs.Prelude.{◌≡◌, refl, List, true, false, ℕ, ◌+◌, 
 use Rattle.std.proofs.Common.{sym, ◌∙◌, subst}
 use Rattle.std.proofs.lemmas.Bool.{false≢true}
 use Rattle.rules.specs.Calls.{Call, set, add, flush, final}
-use Rattle.rules.specs.Encoding.{flush-tag}
-use Rattle.call_runs.specs.Made.{ends-run, Says, Readable}
-use Rattle.call_runs.specs.Making.{end-tag, says-flush, says-final}
+use Rattle.rules.specs.Encoding.{flush_tag}
+use Rattle.call_runs.specs.Made.{ends_run, Says, Readable}
+use Rattle.call_runs.specs.Making.{end_tag, says_flush, says_final}
 use Rattle.buffer.specs.declared.Guide.{Guide}
 use Rattle.session.specs.Storage.{Storage}
 use Rattle.ascending_session.specs.declared.Ascending.{Ascending}
-use Rattle.ascending_session.specs.Promise.{Asks, Called, Numbers, MayDo, Does, called-refused, may-do, called-done}
-use Rattle.ascending_adding.specs.Adding.{with-added}
+use Rattle.ascending_session.specs.Promise.{Asks, Called, Numbers, MayDo, Does, called_refused, may_do, called_done}
+use Rattle.ascending_adding.specs.Adding.{with_added}
 use Rattle.ascending_calls.specs.Setting.{risen, marked}
 use Rattle.ascending_list.specs.declared.Admission.{Admission}
 
@@ -22,15 +22,15 @@ pub record Made (l : List ℕ) (at n next : ℕ) (s s' : Ascending) (σ σ' : St
   pub called : Called call n s s' σ σ'
 
 -- the lists of an add that was read
-abbrev pub ins-of : List ℕ → Admission → List ℕ
-ins-of l d = take (d.middle - d.inputs) (drop d.inputs l)
+abbrev pub ins_of : List ℕ → Admission → List ℕ
+ins_of l d = take (d.middle - d.inputs) (drop d.inputs l)
 
-abbrev pub outs-of : List ℕ → Admission → List ℕ
-outs-of l d = take (d.next - (d.middle + 1)) (drop (d.middle + 1) l)
+abbrev pub outs_of : List ℕ → Admission → List ℕ
+outs_of l d = take (d.next - (d.middle + 1)) (drop (d.middle + 1) l)
 
 -- an add was read: the call is that of its lane and lists, which lie within the numbers
 pub record Adds (l : List ℕ) (d : Admission) (c : Call) : Type 0 where
-  pub is : c ≡ add d.lane (ins-of l d) (outs-of l d)
+  pub is : c ≡ add d.lane (ins_of l d) (outs_of l d)
   pub first : d.inputs ≤ d.middle
   pub second : d.middle + 1 ≤ d.next
 
@@ -66,30 +66,30 @@ AdmitsCall l at d s m m' = (σ : Storage) → Asks s (marked σ m) → AdmitsAt 
 
 -- where a whole storage is at hand
 module _ {s : Ascending} {σ : Storage} (q : Asks s σ) where
-  pub call-asked : AsksCall s σ.marks
-  call-asked = record { around = σ; asks = q }
+  pub call_asked : AsksCall s σ.marks
+  call_asked = record { around = σ; asks = q }
 
-  pub call-admitted : {l : List ℕ} {at : ℕ} {d : Admission} {m : List ℕ} → AdmitsCall l at d s σ.marks m → AdmitsAt l at d s σ (marked σ m)
-  call-admitted h = h σ q
+  pub call_admitted : {l : List ℕ} {at : ℕ} {d : Admission} {m : List ℕ} → AdmitsCall l at d s σ.marks m → AdmitsAt l at d s σ (marked σ m)
+  call_admitted h = h σ q
 
 module _ {x n : ℕ} {s : Ascending} {σ : Storage} (h : Numbers (set x) n s σ) where
-  pub set-refused : (n ≡ 0 → ⊥) → SetAt x n s σ σ
-  set-refused z = record { numbers = h; refused = λ y. refl; does = λ e. absurd (z e); low = λ e. absurd (z e) }
+  pub set_refused : (n ≡ 0 → ⊥) → SetAt x n s σ σ
+  set_refused z = record { numbers = h; refused = λ y. refl; does = λ e. absurd (z e); low = λ e. absurd (z e) }
 
-  pub set-done : {τ : Storage} → n ≡ 0 → s.lowest < 2 ^ 32 → Does (set x) s (risen s) σ τ → SetAt x 0 s σ τ
-  set-done z y D = record { numbers = λ P N W k R Q. sym z ∙ h P N W k R Q; refused = λ y. absurd (y refl); does = λ e. D; low = λ e. y }
+  pub set_done : {τ : Storage} → n ≡ 0 → s.lowest < 2 ^ 32 → Does (set x) s (risen s) σ τ → SetAt x 0 s σ τ
+  set_done z y D = record { numbers = λ P N W k R Q. sym z ∙ h P N W k R Q; refused = λ y. absurd (y refl); does = λ e. D; low = λ e. y }
 
 -- what is read at `at` and looked at
 module _ {l : List ℕ} {at : ℕ} {d : Admission} {s : Ascending} {σ : Storage} where
-  pub admits-set : {τ : Storage} → Says l at (set (get_or l (at + 1) 0)) d.next → d.adds ≡ false → SetAt (get_or l (at + 1) 0) d.number s σ τ → AdmitsAt l at d s σ τ
-  admits-set r e A =
+  pub admits_set : {τ : Storage} → Says l at (set (get_or l (at + 1) 0)) d.next → d.adds ≡ false → SetAt (get_or l (at + 1) 0) d.number s σ τ → AdmitsAt l at d s σ τ
+  admits_set r e A =
       record { call = set (get_or l (at + 1) 0); says = r; numbers = A.numbers; refused = A.refused; sets = λ z y. A.does z; low = λ z y. A.low z; adds = λ y. absurd (false≢true (sym e ∙ y)) }
 
-  pub admits-add : {τ : Storage} → Says l at (add d.lane (ins-of l d) (outs-of l d)) d.next → d.adds ≡ true → d.inputs ≤ d.middle → d.middle + 1 ≤ d.next
-      → Numbers (add d.lane (ins-of l d) (outs-of l d)) d.number s σ → τ ≡ σ → AdmitsAt l at d s σ τ
-  admits-add r e x y h same =
+  pub admits_add : {τ : Storage} → Says l at (add d.lane (ins_of l d) (outs_of l d)) d.next → d.adds ≡ true → d.inputs ≤ d.middle → d.middle + 1 ≤ d.next
+      → Numbers (add d.lane (ins_of l d) (outs_of l d)) d.number s σ → τ ≡ σ → AdmitsAt l at d s σ τ
+  admits_add r e x y h same =
       record {
-        call = add d.lane (ins-of l d) (outs-of l d);
+        call = add d.lane (ins_of l d) (outs_of l d);
         says = r;
         numbers = h;
         refused = λ z. same;
@@ -100,30 +100,30 @@ module _ {l : List ℕ} {at : ℕ} {d : Admission} {s : Ascending} {σ : Storage
 
 -- a flush or a final is made
 module _ {l : List ℕ} {at : ℕ} (R : Readable l at) {n : ℕ} {s s' : Ascending} {σ σ' : Storage} where
-  pub made-flush : get_or l at 0 ≡ flush-tag → Called flush n s s' σ σ' → Made l at n (at + 1) s s' σ σ'
-  made-flush e c = record { call = flush; says = says-flush R e; called = c }
+  pub made_flush : get_or l at 0 ≡ flush_tag → Called flush n s s' σ σ' → Made l at n (at + 1) s s' σ σ'
+  made_flush e c = record { call = flush; says = says_flush R e; called = c }
 
-  pub made-final : ends-run (get_or l at 0) ≡ true → (get_or l at 0 ≡ flush-tag → ⊥) → Called final n s s' σ σ' → Made l at n (at + 1) s s' σ σ'
-  made-final e z c = let t = end-tag e in record { call = final; says = says-final R t.0 t.1 t.2 z; called = c }
+  pub made_final : ends_run (get_or l at 0) ≡ true → (get_or l at 0 ≡ flush_tag → ⊥) → Called final n s s' σ σ' → Made l at n (at + 1) s s' σ σ'
+  made_final e z c = let t = end_tag e in record { call = final; says = says_final R t.0 t.1 t.2 z; called = c }
 
 -- a set or an add is made
 module _ {l : List ℕ} {at : ℕ} {d : Admission} {s : Ascending} {σ τ : Storage} (A : AdmitsAt l at d s σ τ) where
-  pub made-refused : (d.number ≡ 0 → ⊥) → Made l at d.number d.next s s σ τ
-  made-refused x =
-      subst (λ (υ : Storage). Made l at d.number d.next s s σ υ) (sym (A.refused x)) (record { call = A.call; says = A.says; called = called-refused A.numbers x })
+  pub made_refused : (d.number ≡ 0 → ⊥) → Made l at d.number d.next s s σ τ
+  made_refused x =
+      subst (λ (υ : Storage). Made l at d.number d.next s s σ υ) (sym (A.refused x)) (record { call = A.call; says = A.says; called = called_refused A.numbers x })
 
   module _ (z : d.number ≡ 0) where
     done : {s' : Ascending} {υ : Storage} → Does A.call s s' σ υ → Made l at d.number d.next s s' σ υ
-    done {s'} {υ} D = rw z (record { call = A.call; says = A.says; called = called-done A.numbers z D })
+    done {s'} {υ} D = rw z (record { call = A.call; says = A.says; called = called_done A.numbers z D })
 
-    pub made-set : d.adds ≡ false → Made l at d.number d.next s (risen s) σ τ
-    made-set e = done (A.sets z e)
+    pub made_set : d.adds ≡ false → Made l at d.number d.next s (risen s) σ τ
+    made_set e = done (A.sets z e)
 
     -- an add's placing may be done, and makes it
     module _ (e : d.adds ≡ true) where
-      pub may-place : Asks s σ → MayDo (add d.lane (ins-of l d) (outs-of l d)) s τ
-      may-place q = rw ((A.adds e).1, ← (A.adds e).0.is) (may-do A.numbers z q)
+      pub may_place : Asks s σ → MayDo (add d.lane (ins_of l d) (outs_of l d)) s τ
+      may_place q = rw ((A.adds e).1, ← (A.adds e).0.is) (may_do A.numbers z q)
 
-      pub made-add : {h : Guide} {υ : Storage} → Does (add d.lane (ins-of l d) (outs-of l d)) s (with-added s h (length (ins-of l d)) (length (outs-of l d))) τ υ
-          → Made l at d.number d.next s (with-added s h (length (ins-of l d)) (length (outs-of l d))) σ υ
-      made-add {h} {υ} D = done (rw (← (A.adds e).1, (A.adds e).0.is) D)
+      pub made_add : {h : Guide} {υ : Storage} → Does (add d.lane (ins_of l d) (outs_of l d)) s (with_added s h (length (ins_of l d)) (length (outs_of l d))) τ υ
+          → Made l at d.number d.next s (with_added s h (length (ins_of l d)) (length (outs_of l d))) σ υ
+      made_add {h} {υ} D = done (rw (← (A.adds e).1, (A.adds e).0.is) D)

@@ -9,24 +9,24 @@ use Rattle.rules.specs.Ascending.{answer, step, run, answers}
 use Rattle.rules.specs.Encoding.{decode}
 use Rattle.ascending.specs.Claims.{Reached}
 use Rattle.ascending.specs.Proof.{reached}
-use Rattle.call_runs.specs.Made.{ends-run, Readable}
-use Rattle.call_runs.specs.Continuing.{call-there, rest_of}
-use Rattle.session.specs.Storage.{Storage, Frame, frame-trans}
+use Rattle.call_runs.specs.Made.{ends_run, Readable}
+use Rattle.call_runs.specs.Continuing.{call_there, rest_of}
+use Rattle.session.specs.Storage.{Storage, Frame, frame_trans}
 use Rattle.ascending_session.specs.declared.Ascending.{Ascending}
 use Rattle.ascending_session.specs.Slices.{lean}
 use Rattle.ascending_session.specs.Rep.{Rep}
 use Rattle.ascending_session.specs.Promise.{Asks}
 use Rattle.ascending_list.specs.Made.{Made}
 
-run-last : (P N W : ℕ) (cs : List Call) (c : Call) (k : Model) → run P N W (cs ++ (c ∷ [])) k ≡ step P N W c (run P N W cs k)
+run_last : (P N W : ℕ) (cs : List Call) (c : Call) (k : Model) → run P N W (cs ++ (c ∷ [])) k ≡ step P N W c (run P N W cs k)
 unfolding run
-run-last P N W [] c k = refl
-run-last P N W (d ∷ cs) c k = run-last P N W cs c (step P N W d k)
+run_last P N W [] c k = refl
+run_last P N W (d ∷ cs) c k = run_last P N W cs c (step P N W d k)
 
-answers-last : (P N W : ℕ) (cs : List Call) (c : Call) (k : Model) → answers P N W (cs ++ (c ∷ [])) k ≡ answers P N W cs k ++ (answer N W c (run P N W cs k) ∷ [])
+answers_last : (P N W : ℕ) (cs : List Call) (c : Call) (k : Model) → answers P N W (cs ++ (c ∷ [])) k ≡ answers P N W cs k ++ (answer N W c (run P N W cs k) ∷ [])
 unfolding run answers
-answers-last P N W [] c k = refl
-answers-last P N W (d ∷ cs) c k = ap (λ t. answer N W d k ∷ t) (answers-last P N W cs c (step P N W d k))
+answers_last P N W [] c k = refl
+answers_last P N W (d ∷ cs) c k = ap (λ t. answer N W d k ∷ t) (answers_last P N W cs c (step P N W d k))
 
 -- before the call at `at`: n calls of all were made, the rest is still encoded
 pub record Running (P N W : ℕ) (l : List ℕ) (all : List Call) (σ₀ : Storage) (out₀ : List ℕ) (s : Ascending) (σ : Storage) (out : List ℕ) (at n : ℕ) : Type 0 where
@@ -60,7 +60,7 @@ Leads l s σ out at n s' σ' out' at' n' =
 
 -- the same, up to a flush, a final or the end
 abbrev pub Continues : List ℕ → Ascending → Storage → List ℕ → ℕ → ℕ → Ascending → Storage → List ℕ → ℕ → ℕ → Type 0
-Continues l s σ out at n s' σ' out' at' n' = Leads l s σ out at n s' σ' out' at' n' × ((at ≤ at') × (at' < length l → ends-run (get_or l at' 0) ≡ true))
+Continues l s σ out at n s' σ' out' at' n' = Leads l s σ out at n s' σ' out' at' n' × ((at ≤ at') × (at' < length l → ends_run (get_or l at' 0) ≡ true))
 
 module _ {P N W : ℕ} {l : List ℕ} {all : List Call} {σ₀ : Storage} {out₀ : List ℕ} {s : Ascending} {σ : Storage} {out : List ℕ} {at n : ℕ}
     (R : Running P N W l all σ₀ out₀ s σ out at n) where
@@ -68,47 +68,47 @@ module _ {P N W : ℕ} {l : List ℕ} {all : List Call} {σ₀ : Storage} {out�
   come = reached P N W R.positive R.made
 
   module _ {s' : Ascending} {σ' : Storage} {num next : ℕ} (M : Made l at num next s s' σ σ') where
-    left-of : (cs : List Call) × (decode (drop next l) ≡ some cs) × (R.left ≡ M.call ∷ cs)
-    left-of = rest_of (drop at l) R.left (record { call = M.call; rest = drop next l }) R.is M.says.is
+    left_of : (cs : List Call) × (decode (drop next l) ≡ some cs) × (R.left ≡ M.call ∷ cs)
+    left_of = rest_of (drop at l) R.left (record { call = M.call; rest = drop next l }) R.is M.says.is
 
     -- there is room for its number
     few : n < length all
-    few = omega (arith, ap length R.split, ap length left-of.2, length-append R.made R.left, R.many)
+    few = omega (arith, ap length R.split, ap length left_of.2, length-append R.made R.left, R.many)
 
     stepped : (num ≡ answer N W M.call (run P N W R.made initial)) × Rep P N W (step P N W M.call (run P N W R.made initial)) s' σ'
     stepped = M.called.keeps P N W (run P N W R.made initial) R.rep come
 
     framed : Frame P N s.guide.written s'.guide.written σ σ'
-    framed = subst (λ (x : ℕ). Frame x N s.guide.written s'.guide.written σ σ') R.rep.base.guided.p-is
-        (subst (λ (x : ℕ). Frame s.guide.p x s.guide.written s'.guide.written σ σ') R.rep.base.guided.v-is M.called.frame)
+    framed = subst (λ (x : ℕ). Frame x N s.guide.written s'.guide.written σ σ') R.rep.base.guided.p_is
+        (subst (λ (x : ℕ). Frame s.guide.p x s.guide.written s'.guide.written σ σ') R.rep.base.guided.v_is M.called.frame)
 
-    running-turn : Running P N W l all σ₀ out₀ s' σ' (set out n num) next (n + 1)
-    running-turn =
+    running_turn : Running P N W l all σ₀ out₀ s' σ' (set out n num) next (n + 1)
+    running_turn =
         record {
           positive = R.positive;
           made = R.made ++ (M.call ∷ []);
-          left = left-of.0;
-          split = R.split ∙ ap (λ x. R.made ++ x) left-of.2 ∙ sym (append_assoc R.made (M.call ∷ []) left-of.0);
-          is = left-of.1;
+          left = left_of.0;
+          split = R.split ∙ ap (λ x. R.made ++ x) left_of.2 ∙ sym (append_assoc R.made (M.call ∷ []) left_of.0);
+          is = left_of.1;
           many = length-append R.made (M.call ∷ []) ∙ omega (arith, R.many);
-          rep = rw (run-last P N W R.made M.call initial) stepped.1;
-          frame = frame-trans P N 0 s.guide.written s'.guide.written σ₀ σ σ' R.frame framed;
-          told = rw (add-one n, take-suc-set out n num (omega (arith, few, R.room, R.long)), answers-last P N W R.made M.call initial, R.told, stepped.0);
+          rep = rw (run_last P N W R.made M.call initial) stepped.1;
+          frame = frame_trans P N 0 s.guide.written s'.guide.written σ₀ σ σ' R.frame framed;
+          told = rw (add-one n, take-suc-set out n num (omega (arith, few, R.room, R.long)), answers_last P N W R.made M.call initial, R.told, stepped.0);
           room = R.room;
           long = length-set out n num ∙ R.long;
           beyond = drop-set-lt (length all) out n num few ∙ R.beyond;
         }
 
 -- a call that is made leads further; session and slices then have other names
-pub leads-next : {l : List ℕ} {s₀ s s' z : Ascending} {σ₀ σ : Storage} {out₀ out : List ℕ} {at₀ n₀ at n num next : ℕ} {sp o t rs m lo sp' o' t' rs' m' lo' : List ℕ}
+pub leads_next : {l : List ℕ} {s₀ s s' z : Ascending} {σ₀ σ : Storage} {out₀ out : List ℕ} {at₀ n₀ at n num next : ℕ} {sp o t rs m lo sp' o' t' rs' m' lo' : List ℕ}
     → Leads l s₀ σ₀ out₀ at₀ n₀ s σ out at n → Made l at num next s s' σ (lean sp' o' t' rs' m' lo') → z ≡ s' → sp ≡ sp' → o ≡ o' → t ≡ t' → rs ≡ rs' → m ≡ m' → lo ≡ lo'
     → Leads l s₀ σ₀ out₀ at₀ n₀ z (lean sp o t rs m lo) (set out n num) next (n + 1)
-leads-next {out = out} {n = n} L M e₀ e₁ e₂ e₃ e₄ e₅ e₆ P N W all σ₁ out₁ R = rw (e₀, e₁, e₂, e₃, e₄, e₅, e₆) (running-turn (L P N W all σ₁ out₁ R) M)
+leads_next {out = out} {n = n} L M e₀ e₁ e₂ e₃ e₄ e₅ e₆ P N W all σ₁ out₁ R = rw (e₀, e₁, e₂, e₃, e₄, e₅, e₆) (running_turn (L P N W all σ₁ out₁ R) M)
 
 -- what a list that is being made gives to its next call, and that it goes on
 module _ {l : List ℕ} {s : Ascending} {σ : Storage} {out : List ℕ} {at n : ℕ} (G : Going l s σ out at n) where
-  pub going-asks : Asks s σ
-  going-asks =
+  pub going_asks : Asks s σ
+  going_asks =
       record {
         parallelism = G.P;
         places = G.N;
@@ -118,13 +118,13 @@ module _ {l : List ℕ} {s : Ascending} {σ : Storage} {out : List ℕ} {at n : 
         reached = come G.running;
       }
 
-  pub going-readable : at < length l → Readable l at
-  going-readable h = call-there h G.running.is
+  pub going_readable : at < length l → Readable l at
+  going_readable h = call_there h G.running.is
 
-  pub going-room : at < length l → n < length out
-  going-room h =
+  pub going_room : at < length l → n < length out
+  going_room h =
       let R = G.running in
-      let f = going-readable h in
+      let f = going_readable h in
       let r = rest_of (drop at l) R.left f.read R.is f.is in
       omega (arith, ap length R.split, ap length r.2, length-append R.made R.left, R.many, R.room, R.long)
 

@@ -1,10 +1,10 @@
 // A list of calls, encoded as numbers, made on a fresh session under the ascending profile: the claim about every such list, as a function
 // that runs.
 ghost use Rattle.std.specs.Prelude.{◌≡◌, true, false, ◌+◌, ◌<◌, length, get_or};
-ghost use Rattle.call_runs.specs.Made.{ends-run, Readable};
+ghost use Rattle.call_runs.specs.Made.{ends_run, Readable};
 ghost use Rattle.ascending_session.specs.Slices.{given, across};
 ghost use Rattle.ascending_session.specs.Promise.{Asks};
-ghost use Rattle.ascending_opening.specs.Opened.{first-session};
+ghost use Rattle.ascending_opening.specs.Opened.{first_session};
 ghost use Rattle.ascending_list.specs.Made.{AsksCall, AdmitsSet, AdmitsCall, Made};
 ghost use Rattle.ascending_list.specs.Progress.{Going, Leads, Continues};
 ghost use Rattle.ascending_list.specs.Running.{MayRun, Runs};
@@ -54,7 +54,7 @@ fn admit_set(s: Ascending, marks: &mut [u16], x: u64) -> u64
 // Reads the set or add that starts at `at` and works out its number. An accepted set is made, but that the lowest place moves.
 fn admit_call(s: Ascending, marks: &mut [u16], calls: &[u64], at: usize) -> Admission
     requires asks_call { AsksCall s marks.old }
-    requires readable { (Readable calls.now at) × (ends-run (get_or calls.now at 0) ≡ false) }
+    requires readable { (Readable calls.now at) × (ends_run (get_or calls.now at 0) ≡ false) }
     ensures { AdmitsCall calls.now at result s marks.old marks.new }
 {
     if calls[at] == encoding::SET {
@@ -157,7 +157,7 @@ fn make_end(
     at: usize,
 ) -> Answer
     requires asks { Asks s (given spans order tally rows marks locations) }
-    requires readable { (Readable calls.now at) × (ends-run (get_or calls.now at 0) ≡ true) }
+    requires readable { (Readable calls.now at) × (ends_run (get_or calls.now at 0) ≡ true) }
     ensures { across spans order tally rows marks locations (λ σ τ. Made calls.now at result.number (at + 1) s result.session σ τ) }
 {
     if calls[at] == encoding::FLUSH {
@@ -236,7 +236,7 @@ fn run_calls(
 // A refusal's answer: its number, and the fresh session of parallelism 0, 0 places and no room.
 fn refused(n: u64) -> Answer
     ensures number { result.number ≡ n }
-    ensures session { result.session ≡ first-session 0 0 0 }
+    ensures session { result.session ≡ first_session 0 0 0 }
 {
     let s = ascending_opening::fresh(0, 0, 0);
     Answer {

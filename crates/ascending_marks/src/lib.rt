@@ -3,7 +3,7 @@
 ghost use Rattle.std.specs.Prelude.{◌≡◌, ◌+◌, ◌≤◌, length};
 ghost use Rattle.lists.specs.Part.{Below};
 ghost use Rattle.tracking.specs.Tracking.{peak, Stamped};
-ghost use Rattle.ascending.specs.Claims.{places-from};
+ghost use Rattle.ascending.specs.Claims.{places_from};
 ghost use Rattle.ascending_marks.specs.Raised.{Unraised, Raises, Lowering, Lowers, Repeats};
 
 // The greatest location of the places, 0 where there are none.
@@ -26,7 +26,7 @@ pub fn top_among(locations: &[u64], places: &[u64]) -> u64
 // Marks the n places from `from` on as written, each with the location; no other place is touched.
 pub fn stamp_run(marks: &mut [u16], locations: &mut [u64], from: usize, n: usize, loc: u64)
     requires { (from + n ≤ length marks.old) × (from + n ≤ length locations.old) }
-    ensures { Stamped marks.old locations.old (places-from from n) loc marks.new locations.new }
+    ensures { Stamped marks.old locations.old (places_from from n) loc marks.new locations.new }
 {
     for j in 0..n {
         marks[from + j] = rules::MARK_WRITTEN;

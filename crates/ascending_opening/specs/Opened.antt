@@ -4,34 +4,34 @@ use Rattle.std.specs.Prelude.{◌≡◌, List, false, ℕ, ◌+◌, ◌≤◌, �
 use Rattle.std.proofs.Math.Path.{refl}
 use Rattle.std.proofs.Common.{sym, ap, ◌∙◌, subst, arith}
 use Rattle.std.proofs.lemmas.List.{length-replicate}
-use Rattle.rules.specs.Limits.{most-parallelism, most-places}
-use Rattle.rules.specs.Checks.{pooled, verdict, spans-needed, waiting-needed}
-use Rattle.rules.specs.Ascending.{check-open}
+use Rattle.rules.specs.Limits.{most_parallelism, most_places}
+use Rattle.rules.specs.Checks.{pooled, verdict, spans_needed, waiting_needed}
+use Rattle.rules.specs.Ascending.{check_open}
 use Rattle.rules.specs.Model.{initial}
-use Rattle.guide.specs.Fresh.{first-guide}
+use Rattle.guide.specs.Fresh.{first_guide}
 use Rattle.entries.specs.Entries.{fits}
-use Rattle.records.specs.Filling.{row-extent, rows_fit}
+use Rattle.records.specs.Filling.{row_extent, rows_fit}
 use Rattle.zeros.specs.Zeros.{Cleared}
 use Rattle.placing.specs.Slices.{Borrowed}
-use Rattle.session.specs.Storage.{Storage, with-waiting, Frame, beyond-refl}
-use Rattle.opening.specs.Parts.{fresh-guided, fresh-rowed, fresh-tracked, cleared-beyond}
-use Rattle.opening.specs.Opened.{sizes, enough-of as every-enough}
+use Rattle.session.specs.Storage.{Storage, with_waiting, Frame, beyond_refl}
+use Rattle.opening.specs.Parts.{fresh_guided, fresh_rowed, fresh_tracked, cleared_beyond}
+use Rattle.opening.specs.Opened.{sizes, enough_of as every_enough}
 use Rattle.ascending_session.specs.declared.Ascending.{Ascending}
 use Rattle.ascending_session.specs.Slices.{lean, across}
 use Rattle.ascending_session.specs.Rep.{Rep}
-use Rattle.ascending_opening.specs.Refusal.{open-as-ever}
+use Rattle.ascending_opening.specs.Refusal.{open_as_ever}
 
 -- a session just opened, which takes W list numbers in all
-abbrev pub first-session : ℕ → ℕ → ℕ → Ascending
-first-session P N W =
-    record { guide = first-guide P N; lowest = 0; added = 0; used = 0; room = W; flushes = 0; closed = false; registrations = 0; places = 0 }
+abbrev pub first_session : ℕ → ℕ → ℕ → Ascending
+first_session P N W =
+    record { guide = first_guide P N; lowest = 0; added = 0; used = 0; room = W; flushes = 0; closed = false; registrations = 0; places = 0 }
 
 -- rows, places with their locations, and tally are zeros over the needed lengths, and all else is as it was
 pub record Fresh (P N : ℕ) (σ τ : Storage) : Type 0 where
   pub spans : τ.spans ≡ σ.spans
   pub order : τ.order ≡ σ.order
   pub tally : Cleared 0 (P + 1) σ.tally τ.tally
-  pub rows : Cleared 0 (row-extent N) σ.rows τ.rows
+  pub rows : Cleared 0 (row_extent N) σ.rows τ.rows
   pub marks : Cleared 0 N σ.marks τ.marks
   pub locations : Cleared 0 N σ.locations τ.locations
   pub waiting : τ.waiting ≡ σ.waiting
@@ -40,10 +40,10 @@ pub record Fresh (P N : ℕ) (σ τ : Storage) : Type 0 where
 -- what opening promises: its number is that of the checks; refused, it leaves the storage as it was, and the session is the fresh one of P 0,
 -- V 0 and W 0; accepted, the session is the fresh one of P, N and W and stands, with the storage, for the model at the start
 pub record Opens (P N W n : ℕ) (s : Ascending) (σ τ : Storage) : Type 0 where
-  pub number : n ≡ verdict (check-open P N (sizes σ))
+  pub number : n ≡ verdict (check_open P N (sizes σ))
   pub refused : (n ≡ 0 → ⊥) → τ ≡ σ
-  pub unopened : (n ≡ 0 → ⊥) → s ≡ first-session 0 0 0
-  pub session : n ≡ 0 → s ≡ first-session P N W
+  pub unopened : (n ≡ 0 → ⊥) → s ≡ first_session 0 0 0
+  pub session : n ≡ 0 → s ≡ first_session P N W
   pub cleared : n ≡ 0 → Fresh P N σ τ
   pub rep : n ≡ 0 → Rep P N W initial s τ
   pub frame : n ≡ 0 → Frame P N 0 0 σ τ
@@ -51,10 +51,10 @@ pub record Opens (P N W n : ℕ) (s : Ascending) (σ τ : Storage) : Type 0 wher
 -- what the checks tell
 pub record Enough (P N : ℕ) (σ : Storage) : Type 0 where
   pub one : 1 ≤ P
-  pub few : P ≤ most-parallelism
+  pub few : P ≤ most_parallelism
   pub places : 1 ≤ N
-  pub small : N ≤ most-places
-  pub spans : fits σ.spans (spans-needed P)
+  pub small : N ≤ most_places
+  pub spans : fits σ.spans (spans_needed P)
   pub order : fits σ.order N
   pub tally : P < length σ.tally
   pub rows : rows_fit σ.rows N
@@ -62,10 +62,10 @@ pub record Enough (P N : ℕ) (σ : Storage) : Type 0 where
   pub locations : N ≤ length σ.locations
 
 -- as with waiting storage that suffices
-pub enough-of : (P N : ℕ) (σ : Storage) → 0 ≡ verdict (check-open P N (sizes σ)) → Enough P N σ
-enough-of P N σ e =
-    let w : List ℕ = replicate (waiting-needed N) 0 in
-    let E = every-enough P N (with-waiting σ w) (rw (length-replicate {A = ℕ} (waiting-needed N) 0) (e ∙ open-as-ever P N (sizes σ))) in
+pub enough_of : (P N : ℕ) (σ : Storage) → 0 ≡ verdict (check_open P N (sizes σ)) → Enough P N σ
+enough_of P N σ e =
+    let w : List ℕ = replicate (waiting_needed N) 0 in
+    let E = every_enough P N (with_waiting σ w) (rw (length-replicate {A = ℕ} (waiting_needed N) 0) (e ∙ open_as_ever P N (sizes σ))) in
     record {
       one = E.one;
       few = E.few;
@@ -80,52 +80,52 @@ enough-of P N σ e =
     }
 
 module _ (P N W : ℕ) (σ τ : Storage) (E : Enough P N σ) (F : Fresh P N σ τ) where
-  fresh-rep : Rep P N W initial (first-session P N W) τ
+  fresh_rep : Rep P N W initial (first_session P N W) τ
   unfolding initial pooled
-  fresh-rep =
+  fresh_rep =
       record {
         base = record {
           guided =
-              fresh-guided P N σ.tally τ E.one E.few E.places E.small (rw F.spans E.spans) (rw F.order E.order) E.tally F.tally;
-          rowed = fresh-rowed N σ.rows τ E.rows F.rows;
-          tracked = fresh-tracked N σ.marks σ.locations τ E.marks E.locations F.marks F.locations;
+              fresh_guided P N σ.tally τ E.one E.few E.places E.small (rw F.spans E.spans) (rw F.order E.order) E.tally F.tally;
+          rowed = fresh_rowed N σ.rows τ E.rows F.rows;
+          tracked = fresh_tracked N σ.marks σ.locations τ E.marks E.locations F.marks F.locations;
         };
-        counted = record { added_is = refl; used-is = refl; room-is = refl; flushes-is = refl; closed_is = refl; registrations-is = refl; places_is = refl };
+        counted = record { added_is = refl; used_is = refl; room_is = refl; flushes_is = refl; closed_is = refl; registrations_is = refl; places_is = refl };
       }
 
-  fresh-frame : Frame P N 0 0 σ τ
-  fresh-frame =
+  fresh_frame : Frame P N 0 0 σ τ
+  fresh_frame =
       record {
         grows = omega arith;
-        spans = rw F.spans (beyond-refl _ σ.spans);
-        order = rw F.order (beyond-refl _ σ.order);
+        spans = rw F.spans (beyond_refl _ σ.spans);
+        order = rw F.order (beyond_refl _ σ.order);
         before = λ j h. absurd (omega arith);
-        tally = cleared-beyond (P + 1) σ.tally τ.tally F.tally;
-        rows = cleared-beyond (row-extent N) σ.rows τ.rows F.rows;
-        marks = cleared-beyond N σ.marks τ.marks F.marks;
-        locations = cleared-beyond N σ.locations τ.locations F.locations;
-        waiting = rw F.waiting (beyond-refl _ σ.waiting);
+        tally = cleared_beyond (P + 1) σ.tally τ.tally F.tally;
+        rows = cleared_beyond (row_extent N) σ.rows τ.rows F.rows;
+        marks = cleared_beyond N σ.marks τ.marks F.marks;
+        locations = cleared_beyond N σ.locations τ.locations F.locations;
+        waiting = rw F.waiting (beyond_refl _ σ.waiting);
         pool = ap length F.pool;
       }
 
 -- the lengths suffice for clearing
 pub record Lengths (p v tally rows marks locations : ℕ) : Type 0 where
-  pub low-p : p ≤ most-parallelism
-  pub low-v : v ≤ most-places
-  pub tally-long : p + 1 ≤ tally
-  pub rows_long : row-extent v ≤ rows
-  pub marks-long : v ≤ marks
-  pub locations-long : v ≤ locations
+  pub low_p : p ≤ most_parallelism
+  pub low_v : v ≤ most_places
+  pub tally_long : p + 1 ≤ tally
+  pub rows_long : row_extent v ≤ rows
+  pub marks_long : v ≤ marks
+  pub locations_long : v ≤ locations
 
-pub lengths-of : (P N : ℕ) (sp o t rs m l : List ℕ) → 0 ≡ verdict (check-open P N (sizes (lean sp o t rs m l))) → Lengths P N (length t) (length rs) (length m) (length l)
-lengths-of P N sp o t rs m l e =
-    let E = enough-of P N (lean sp o t rs m l) e in
-    record { low-p = E.few; low-v = E.small; tally-long = omega (arith, E.tally); rows_long = E.rows; marks-long = E.marks; locations-long = E.locations }
+pub lengths_of : (P N : ℕ) (sp o t rs m l : List ℕ) → 0 ≡ verdict (check_open P N (sizes (lean sp o t rs m l))) → Lengths P N (length t) (length rs) (length m) (length l)
+lengths_of P N sp o t rs m l e =
+    let E = enough_of P N (lean sp o t rs m l) e in
+    record { low_p = E.few; low_v = E.small; tally_long = omega (arith, E.tally); rows_long = E.rows; marks_long = E.marks; locations_long = E.locations }
 
 -- what clearing promises
 pub record Clears (p v : ℕ) (t rs m l t' rs' m' l' : List ℕ) : Type 0 where
   pub tally : Cleared 0 (p + 1) t t'
-  pub rows : Cleared 0 (row-extent v) rs rs'
+  pub rows : Cleared 0 (row_extent v) rs rs'
   pub marks : Cleared 0 v m m'
   pub locations : Cleared 0 v l l'
 
@@ -137,26 +137,26 @@ ClearsOver p v tally rows marks locations =
 
 -- refused, and accepted
 module _ (P N W : ℕ) (sp o t rs m l : List ℕ) where
-  pub opens-refused : (n : ℕ) (s : Ascending) → n ≡ verdict (check-open P N (sizes (lean sp o t rs m l))) → (n ≡ 0 → ⊥) → s ≡ first-session 0 0 0
+  pub opens_refused : (n : ℕ) (s : Ascending) → n ≡ verdict (check_open P N (sizes (lean sp o t rs m l))) → (n ≡ 0 → ⊥) → s ≡ first_session 0 0 0
       → Opens P N W n s (lean sp o t rs m l) (lean sp o t rs m l)
-  opens-refused n s e z es =
+  opens_refused n s e z es =
       record { number = e; refused = λ x. refl; unopened = λ x. es; session = λ x. absurd (z x); cleared = λ x. absurd (z x); rep = λ x. absurd (z x); frame = λ x. absurd (z x) }
 
-  opens-done : (s : Ascending) (t' rs' m' l' : List ℕ) → 0 ≡ verdict (check-open P N (sizes (lean sp o t rs m l))) → s ≡ first-session P N W → Clears P N t rs m l t' rs' m' l'
+  opens_done : (s : Ascending) (t' rs' m' l' : List ℕ) → 0 ≡ verdict (check_open P N (sizes (lean sp o t rs m l))) → s ≡ first_session P N W → Clears P N t rs m l t' rs' m' l'
       → Opens P N W 0 s (lean sp o t rs m l) (lean sp o t' rs' m' l')
-  opens-done s t' rs' m' l' e es c =
+  opens_done s t' rs' m' l' e es c =
       record {
         number = e;
         refused = λ x. absurd (x refl);
         unopened = λ x. absurd (x refl);
         session = λ x. es;
         cleared = λ x. F;
-        rep = λ x. subst (λ (z : Ascending). Rep P N W initial z (lean sp o t' rs' m' l')) (sym es) (fresh-rep P N W (lean sp o t rs m l) (lean sp o t' rs' m' l') E F);
-        frame = λ x. fresh-frame P N W (lean sp o t rs m l) (lean sp o t' rs' m' l') E F;
+        rep = λ x. subst (λ (z : Ascending). Rep P N W initial z (lean sp o t' rs' m' l')) (sym es) (fresh_rep P N W (lean sp o t rs m l) (lean sp o t' rs' m' l') E F);
+        frame = λ x. fresh_frame P N W (lean sp o t rs m l) (lean sp o t' rs' m' l') E F;
       }
     where
       E : Enough P N (lean sp o t rs m l)
-      E = enough-of P N (lean sp o t rs m l) e
+      E = enough_of P N (lean sp o t rs m l) e
 
       F : Fresh P N (lean sp o t rs m l) (lean sp o t' rs' m' l')
       F =
@@ -173,7 +173,7 @@ module _ (P N W : ℕ) (sp o t rs m l : List ℕ) where
 
 -- what the work of an accepted opening promises: of every storage that passes the checks and has these slices, what opening promises
 pub record Begins (P N W : ℕ) (s : Ascending) (t rs m l t' rs' m' l' : List ℕ) : Type 0 where
-  pub opens : (sp o : List ℕ) → 0 ≡ verdict (check-open P N (sizes (lean sp o t rs m l))) → Opens P N W 0 s (lean sp o t rs m l) (lean sp o t' rs' m' l')
+  pub opens : (sp o : List ℕ) → 0 ≡ verdict (check_open P N (sizes (lean sp o t rs m l))) → Opens P N W 0 s (lean sp o t rs m l) (lean sp o t' rs' m' l')
 
 -- the same of a function's slices
 abbrev pub BeginsOver : ℕ → ℕ → ℕ → Ascending → Borrowed → Borrowed → Borrowed → Borrowed → Type 0
@@ -181,8 +181,8 @@ BeginsOver P N W s tally rows marks locations =
     Begins P N W s tally.entry.now rows.entry.now marks.entry.now locations.entry.now
     tally.exit.now rows.exit.now marks.exit.now locations.exit.now
 
-pub begins : {P N W : ℕ} {s : Ascending} {t rs m l t' rs' m' l' : List ℕ} → s ≡ first-session P N W → Clears P N t rs m l t' rs' m' l' → Begins P N W s t rs m l t' rs' m' l'
-begins {P} {N} {W} {s} {t} {rs} {m} {l} {t'} {rs'} {m'} {l'} es c = record { opens = λ sp o e. opens-done P N W sp o t rs m l s t' rs' m' l' e es c }
+pub begins : {P N W : ℕ} {s : Ascending} {t rs m l t' rs' m' l' : List ℕ} → s ≡ first_session P N W → Clears P N t rs m l t' rs' m' l' → Begins P N W s t rs m l t' rs' m' l'
+begins {P} {N} {W} {s} {t} {rs} {m} {l} {t'} {rs'} {m'} {l'} es c = record { opens = λ sp o e. opens_done P N W sp o t rs m l s t' rs' m' l' e es c }
 
 -- what opening promises, of a function's slices
 abbrev pub OpensOver : ℕ → ℕ → ℕ → ℕ → Ascending → Borrowed → Borrowed → Borrowed → Borrowed → Borrowed → Borrowed → Type 0

@@ -1,12 +1,12 @@
 // Opening a session under the ascending profile on storage that the caller provides: refusals 1 and 2, and the fresh state. No waiting
 // storage is asked for.
 ghost use Rattle.std.specs.Prelude.{◌≡◌, ◌≤◌, length};
-ghost use Rattle.rules.specs.Limits.{most-parallelism};
+ghost use Rattle.rules.specs.Limits.{most_parallelism};
 ghost use Rattle.rules.specs.Checks.{verdict};
-ghost use Rattle.rules.specs.Ascending.{check-open};
-ghost use Rattle.opening.specs.Opened.{sizes-of};
+ghost use Rattle.rules.specs.Ascending.{check_open};
+ghost use Rattle.opening.specs.Opened.{sizes_of};
 ghost use Rattle.ascending_opening.specs.Refusal.{too_short};
-ghost use Rattle.ascending_opening.specs.Opened.{Lengths, ClearsOver, BeginsOver, OpensOver, first-session};
+ghost use Rattle.ascending_opening.specs.Opened.{Lengths, ClearsOver, BeginsOver, OpensOver, first_session};
 
 use ascending_session::{Answer, Ascending};
 
@@ -21,8 +21,8 @@ fn too_short(
     p: usize,
     v: usize,
 ) -> bool
-    requires { p ≤ most-parallelism }
-    ensures { result ≡ too_short p v (sizes-of spans order tally rows marks locations 0) }
+    requires { p ≤ most_parallelism }
+    ensures { result ≡ too_short p v (sizes_of spans order tally rows marks locations 0) }
 {
     if spans / entries::SIZE < window::SPANS * (p + 1) {
         return true;
@@ -53,7 +53,7 @@ pub fn check_open(
     p: u64,
     v: u64,
 ) -> u64
-    ensures { result ≡ verdict (check-open p v (sizes-of spans order tally rows marks locations 0)) }
+    ensures { result ≡ verdict (check_open p v (sizes_of spans order tally rows marks locations 0)) }
 {
     if p < 1 {
         return rules::OUT_OF_RANGE;
@@ -95,7 +95,7 @@ fn clear(
 
 // A session of parallelism p and v places just opened, which takes w list numbers in all.
 pub fn fresh(p: u32, v: u32, w: u64) -> Ascending
-    ensures { result ≡ first-session p v w }
+    ensures { result ≡ first_session p v w }
 {
     let g = guide::fresh(p, v);
     Ascending {

@@ -4,12 +4,12 @@
 use Rattle.std.specs.Prelude.{◌≡◌, refl, ℕ, ◌≤◌}
 use Rattle.std.proofs.Common.{sym, ◌∙◌, arith}
 use Rattle.rules.specs.Model.{Model}
-use Rattle.rules.specs.Limits.{most-places}
-use Rattle.rules.specs.Calls.{Call, apply-call}
+use Rattle.rules.specs.Limits.{most_places}
+use Rattle.rules.specs.Calls.{Call, apply_call}
 use Rattle.rules.specs.Ascending.{answer, step}
 use Rattle.ascending.specs.Claims.{Reached}
-use Rattle.ascending.specs.Same.{step-refused, step-accepted}
-use Rattle.session.specs.Storage.{Storage, Frame, frame-refl}
+use Rattle.ascending.specs.Same.{step_refused, step_accepted}
+use Rattle.session.specs.Storage.{Storage, Frame, frame_refl}
 use Rattle.ascending_session.specs.declared.Ascending.{Ascending}
 use Rattle.ascending_session.specs.Rep.{Rep}
 use Rattle.ascending_session.specs.Shows.{Shows}
@@ -42,39 +42,39 @@ pub record MayDo (c : Call) (s : Ascending) (σ : Storage) : Type 0 where
   pub accepted : answer asks.places asks.room c asks.model ≡ 0
 
 pub record Does (c : Call) (s s' : Ascending) (σ σ' : Storage) : Type 0 where
-  pub rep : (P N W : ℕ) (k : Model) → Rep P N W k s σ → Reached P N W k → answer N W c k ≡ 0 → Rep P N W (apply-call P N c k) s' σ'
+  pub rep : (P N W : ℕ) (k : Model) → Rep P N W k s σ → Reached P N W k → answer N W c k ≡ 0 → Rep P N W (apply_call P N c k) s' σ'
   pub frame : Frame s.guide.p s.guide.v s.guide.written s'.guide.written σ σ'
 
 -- the promise from the others of its parts: what is kept is shown
-called-by : {c : Call} {n : ℕ} {s s' : Ascending} {σ σ' : Storage}
+called_by : {c : Call} {n : ℕ} {s s' : Ascending} {σ σ' : Storage}
     → ((P N W : ℕ) (k : Model) → Rep P N W k s σ → Reached P N W k → (n ≡ answer N W c k) × Rep P N W (step P N W c k) s' σ')
     → ((n ≡ 0 → ⊥) → (s' ≡ s) × (σ' ≡ σ)) → Frame s.guide.p s.guide.v s.guide.written s'.guide.written σ σ' → Called c n s s' σ σ'
-called-by keeps refused f = record { keeps = keeps; shows = λ P N W k R Q. shows (keeps P N W k R Q).1; refused = refused; frame = f }
+called_by keeps refused f = record { keeps = keeps; shows = λ P N W k R Q. shows (keeps P N W k R Q).1; refused = refused; frame = f }
 
 module _ {c : Call} {n : ℕ} {s : Ascending} {σ : Storage} (h : Numbers c n s σ) where
   -- a refused call: nothing has changed
-  pub called-refused : (n ≡ 0 → ⊥) → Called c n s s σ σ
-  called-refused z =
-      called-by (λ P N W k R Q. (h P N W k R Q, rw (step-refused P N W c k (λ e. z (h P N W k R Q ∙ e))) R)) (λ x. (refl, refl))
-      (frame-refl s.guide.p s.guide.v s.guide.written σ)
+  pub called_refused : (n ≡ 0 → ⊥) → Called c n s s σ σ
+  called_refused z =
+      called_by (λ P N W k R Q. (h P N W k R Q, rw (step_refused P N W c k (λ e. z (h P N W k R Q ∙ e))) R)) (λ x. (refl, refl))
+      (frame_refl s.guide.p s.guide.v s.guide.written σ)
 
   module _ (z : n ≡ 0) where
     -- 0 lets the work be done, and that makes the call
-    pub may-do : Asks s σ → MayDo c s σ
-    may-do a = record { asks = a; accepted = sym (h a.parallelism a.places a.room a.model a.rep a.reached) ∙ z }
+    pub may_do : Asks s σ → MayDo c s σ
+    may_do a = record { asks = a; accepted = sym (h a.parallelism a.places a.room a.model a.rep a.reached) ∙ z }
 
-    pub called-done : {s' : Ascending} {σ' : Storage} → Does c s s' σ σ' → Called c 0 s s' σ σ'
-    called-done d =
-        called-by
+    pub called_done : {s' : Ascending} {σ' : Storage} → Does c s s' σ σ' → Called c 0 s s' σ σ'
+    called_done d =
+        called_by
         (λ P N W k R Q.
         let e = h P N W k R Q in
-        (sym z ∙ e, rw (step-accepted P N W c k (sym e ∙ z)) (d.rep P N W k R Q (sym e ∙ z))))
+        (sym z ∙ e, rw (step_accepted P N W c k (sym e ∙ z)) (d.rep P N W k R Q (sym e ∙ z))))
         (λ x. absurd (x refl)) d.frame
 
 -- P and V of a session are in their ranges
 module _ {P N W : ℕ} {k : Model} {s : Ascending} {σ : Storage} (R : Rep P N W k s σ) where
   pub positive : 1 ≤ P
-  positive = omega (arith, R.base.guided.stands.laid.one, R.base.guided.p-is)
+  positive = omega (arith, R.base.guided.stands.laid.one, R.base.guided.p_is)
 
-  pub small : N ≤ most-places
-  small = omega (arith, R.base.guided.stands.small, R.base.guided.v-is)
+  pub small : N ≤ most_places
+  small = omega (arith, R.base.guided.stands.small, R.base.guided.v_is)

@@ -10,11 +10,11 @@ use Rattle.ascending_session.specs.declared.Ascending.{Ascending}
 -- the counts of the session, W list numbers being its room
 pub record Counted (W : ℕ) (k : Model) (s : Ascending) : Type 0 where
   pub added_is : s.added ≡ length k.adds
-  pub used-is : s.used ≡ pooled k.adds
-  pub room-is : s.room ≡ W
-  pub flushes-is : s.flushes ≡ k.flushes
+  pub used_is : s.used ≡ pooled k.adds
+  pub room_is : s.room ≡ W
+  pub flushes_is : s.flushes ≡ k.flushes
   pub closed_is : s.closed ≡ k.closed
-  pub registrations-is : s.registrations ≡ registrations k
+  pub registrations_is : s.registrations ≡ registrations k
   pub places_is : s.places ≡ k.recorded.places
 
 -- window, order, tally, rows, marks and locations with the lowest place, and the counts

@@ -1,9 +1,9 @@
 // The guide over its storage: spans as rows of one slice, the order as another. `release` appends span 0's entries to the order and
 // rotates the window.
 ghost use Rattle.std.specs.Prelude.{◌≡◌};
-ghost use Rattle.buffer.specs.View.{row-start};
+ghost use Rattle.buffer.specs.View.{row_start};
 ghost use Rattle.buffer.specs.Fit.{Fit};
-ghost use Rattle.buffer.specs.Moves.{released-guide, released-order};
+ghost use Rattle.buffer.specs.Moves.{released_guide, released_order};
 
 use window::Window;
 
@@ -19,7 +19,7 @@ pub struct Guide {
 
 // Where a row of p + 1 entries begins in the span storage.
 pub fn row_start(row: u8, p: u32) -> usize
-    ensures { result ≡ row-start row p }
+    ensures { result ≡ row_start row p }
 {
     (row as usize) * (p as usize + 1)
 }
@@ -27,8 +27,8 @@ pub fn row_start(row: u8, p: u32) -> usize
 // Releases span 0: its entries are appended in the old window, each with its parallelism, and then the window is rotated.
 pub fn release(g: Guide, spans: &[u32], order: &mut [u32]) -> Guide
     requires { Fit g spans.now order.old }
-    ensures rotated { result ≡ released-guide g }
-    ensures appended { order.new ≡ released-order g spans.now order.old }
+    ensures rotated { result ≡ released_guide g }
+    ensures appended { order.new ≡ released_order g spans.now order.old }
 {
     let w = g.window;
     let start = row_start(w.rows[0], g.p);

@@ -4,7 +4,7 @@ use Rattle.std.specs.Prelude.{◌≡◌, List, [], ◌∷◌, ◌++◌, ℕ, len
 use Rattle.std.proofs.Math.Option.{Option, some, none}
 use Rattle.rules.specs.Model.{initial}
 use Rattle.rules.specs.Refusals as refusal
-use Rattle.rules.specs.Checks.{Sizes, verdict, check-open}
+use Rattle.rules.specs.Checks.{Sizes, verdict, check_open}
 use Rattle.rules.specs.Calls.{Call, run, answers}
 use Rattle.rules.specs.Encoding.{decode}
 use Rattle.laws.specs.Demand.{Demand}
@@ -12,13 +12,13 @@ use Rattle.session.specs.declared.Session.{Session}
 use Rattle.session.specs.Storage.{Storage, Frame}
 use Rattle.session.specs.Rep.{Rep}
 use Rattle.session.specs.Shows.{Shows}
-use Rattle.opening.specs.Opened.{sizes, first-session}
+use Rattle.opening.specs.Opened.{sizes, first_session}
 
 -- the number of a replay: 15 for numbers that are no list of calls; then what opening refuses, and 2 where there is no room for the
 -- calls' numbers
-unfoldable pub replay-number : ℕ → ℕ → Sizes → ℕ → Option (List Call) → ℕ
-replay-number P N s room none = refusal.malformed
-replay-number P N s room (some cs) = verdict (check-open P N s ++ (record { fails = ltb room (length cs); number = refusal.too_short } ∷ []))
+unfoldable pub replay_number : ℕ → ℕ → Sizes → ℕ → Option (List Call) → ℕ
+replay_number P N s room none = refusal.malformed
+replay_number P N s room (some cs) = verdict (check_open P N s ++ (record { fails = ltb room (length cs); number = refusal.too_short } ∷ []))
 
 -- after the calls cs: the numbers written are the model's, session and storage stand for the model's state and show it, demand 3 holds
 -- of it, and what lies beyond is untouched
@@ -34,7 +34,7 @@ pub record Ran (P N : ℕ) (cs : List Call) (s : Session) (σ τ : Storage) (out
 -- the promise: l are the encoded calls, n is the number. Refused, storage and answers are as they were, and the session is the fresh one
 -- of P 0 and V 0, as opening has it
 pub record Replays (P N : ℕ) (l : List ℕ) (n : ℕ) (s : Session) (σ τ : Storage) (out out' : List ℕ) : Type 0 where
-  pub number_is : n ≡ replay-number P N (sizes σ) (length out) (decode l)
+  pub number_is : n ≡ replay_number P N (sizes σ) (length out) (decode l)
   pub refused : (n ≡ 0 → ⊥) → (τ ≡ σ) × (out' ≡ out)
-  pub unopened : (n ≡ 0 → ⊥) → s ≡ first-session 0 0
+  pub unopened : (n ≡ 0 → ⊥) → s ≡ first_session 0 0
   pub ran : n ≡ 0 → (cs : List Call) × (decode l ≡ some cs) × Ran P N cs s σ τ out out'

@@ -2,8 +2,8 @@
 ghost use Rattle.std.specs.Prelude.{◌≡◌, true, ◌+◌, ◌<◌, get_or};
 ghost use Rattle.session.specs.Storage.{given, across};
 ghost use Rattle.admitting.specs.Promise.{Asks};
-ghost use Rattle.opening.specs.Opened.{first-session};
-ghost use Rattle.call_runs.specs.Made.{ends-run, Made, Readable};
+ghost use Rattle.opening.specs.Opened.{first_session};
+ghost use Rattle.call_runs.specs.Made.{ends_run, Made, Readable};
 ghost use Rattle.call_list.specs.Replay.{Replays};
 ghost use Rattle.call_list.specs.Running.{MayPass, Passes, MayRun, Runs};
 
@@ -26,7 +26,7 @@ fn make_end(
     at: usize,
 ) -> Answer
     requires asks { Asks s (given spans order tally rows marks locations waiting pool) }
-    requires readable { (Readable calls.now at) × (ends-run (get_or calls.now at 0) ≡ true) }
+    requires readable { (Readable calls.now at) × (ends_run (get_or calls.now at 0) ≡ true) }
     ensures { across spans order tally rows marks locations waiting pool (λ σ τ. Made calls.now at result.number (at + 1) s result.session σ τ) }
 {
     if calls[at] == encoding::FLUSH {
@@ -113,7 +113,7 @@ fn run_calls(
 // A refusal's answer: its number, and the fresh session of parallelism 0 and 0 places.
 fn refused(n: u64) -> Answer
     ensures number { result.number ≡ n }
-    ensures session { result.session ≡ first-session 0 0 }
+    ensures session { result.session ≡ first_session 0 0 }
 {
     let s = opening::fresh(0, 0);
     Answer {

@@ -6,16 +6,16 @@ use mathlib.Core.List.{List, [], ◌∷◌}
 use Rattle.std.proofs.lemmas.Bool.{false≢true}
 use Rattle.std.proofs.Math.Option.{Option, some, none}
 use Rattle.rules.specs.Calls.{Call, step}
-use Rattle.rules.specs.Encoding.{front, Front, before-all, decode, decode-from, unless-empty}
-use Rattle.encoding.specs.Decode.{decode-none, decode-some}
+use Rattle.rules.specs.Encoding.{front, Front, before_all, decode, decode_from, unless_empty}
+use Rattle.encoding.specs.Decode.{decode_none, decode_some}
 use Rattle.session.specs.declared.Session.{Session}
 use Rattle.session.specs.Storage.{Storage, storage}
 use Rattle.admitting.specs.declared.Admitted.{Admitted}
 use Rattle.admitting.specs.Promise.{Asks, Called, positive}
 use Rattle.admitting.specs.Admitted.{Places}
-use Rattle.sorter.specs.Chain.{follows-step}
-use Rattle.call_runs.specs.Made.{ends-run, Made, AdmitsAt, Readable}
-use Rattle.call_runs.specs.Making.{made-refused, made-placed}
+use Rattle.sorter.specs.Chain.{follows_step}
+use Rattle.call_runs.specs.Made.{ends_run, Made, AdmitsAt, Readable}
+use Rattle.call_runs.specs.Making.{made_refused, made_placed}
 
 -- calls may be made: session and storage are as those before left them, the numbers from `at` on are calls, and from n on there is room for
 -- their answers
@@ -34,7 +34,7 @@ pub data Onward : List ℕ → Session → Storage → List ℕ → ℕ → ℕ 
 -- the same, up to a flush, a final or the end
 pub record Continues (l : List ℕ) (s : Session) (σ : Storage) (out : List ℕ) (at n : ℕ) (s' : Session) (σ' : Storage) (out' : List ℕ) (at' n' : ℕ) : Type 0 where
   pub onward : Onward l s σ out at n s' σ' out' at' n'
-  pub stops : at' < length l → ends-run (get_or l at' 0) ≡ true
+  pub stops : at' < length l → ends_run (get_or l at' 0) ≡ true
 
 -- storage and answers have kept their lengths
 pub record Kept (σ : Storage) (out : List ℕ) (σ' : Storage) (out' : List ℕ) : Type 0 where
@@ -49,10 +49,10 @@ pub record Kept (σ : Storage) (out : List ℕ) (σ' : Storage) (out' : List ℕ
   pub answers : length out' ≡ length out
 
 -- a call that was made leaves session and storage for the next
-asks-next : {c : Call} {num : ℕ} {s s' : Session} {σ σ' : Storage} → Asks s σ → Called c num s s' σ σ' → Asks s' σ'
-asks-next {c} {num} {s} {s'} {σ} {σ'} q d =
+asks_next : {c : Call} {num : ℕ} {s s' : Session} {σ σ' : Storage} → Asks s σ → Called c num s s' σ σ' → Asks s' σ'
+asks_next {c} {num} {s} {s'} {σ} {σ'} q d =
     let one = positive q.parallelism q.places q.model s σ q.rep in
-    let f = follows-step q.parallelism q.places (length σ.pool) one c q.model num s s' σ σ' refl q.rep q.between d in
+    let f = follows_step q.parallelism q.places (length σ.pool) one c q.model num s s' σ σ' refl q.rep q.between d in
     record {
       parallelism = q.parallelism;
       places = q.places;
@@ -61,18 +61,18 @@ asks-next {c} {num} {s} {s'} {σ} {σ'} q d =
       between = rw f.3 f.2;
     }
 
-before-some : (c : Call) (o : Option (List Call)) (ds : List Call) → before-all c o ≡ some ds → (cs : List Call) × (o ≡ some cs) × (ds ≡ c ∷ cs)
-unfolding before-all
-before-some c none ds e = let z : ◌≡◌ {A = ℕ} 0 1 = cc in absurd (omega arith)
-before-some c (some cs) ds e = (cs, refl, cc)
+before_some : (c : Call) (o : Option (List Call)) (ds : List Call) → before_all c o ≡ some ds → (cs : List Call) × (o ≡ some cs) × (ds ≡ c ∷ cs)
+unfolding before_all
+before_some c none ds e = let z : ◌≡◌ {A = ℕ} 0 1 = cc in absurd (omega arith)
+before_some c (some cs) ds e = (cs, refl, cc)
 
 -- there is a call to read
-pub call-there : {l : List ℕ} {at : ℕ} {left : List Call} → at < length l → decode (drop at l) ≡ some left → Readable l at
-call-there {l} {at} {left} h is = go (front (drop at l)) refl
+pub call_there : {l : List ℕ} {at : ℕ} {left : List Call} → at < length l → decode (drop at l) ≡ some left → Readable l at
+call_there {l} {at} {left} h is = go (front (drop at l)) refl
   where
     go : (o : Option Front) → front (drop at l) ≡ o → Readable l at
     go none e =
-        let d = decode-none (drop at l) (omega (arith, length-drop at l)) e in
+        let d = decode_none (drop at l) (omega (arith, length-drop at l)) e in
         let b : none ≡ some left = sym d ∙ is in
         let z : ◌≡◌ {A = ℕ} 0 1 = cc in
         absurd (omega arith)
@@ -81,21 +81,21 @@ call-there {l} {at} {left} h is = go (front (drop at l)) refl
 -- the calls that numbers are begin with the one that is read
 pub rest_of : (numbers : List ℕ) (calls : List Call) (f : Front) → decode numbers ≡ some calls → front numbers ≡ some f
     → (cs : List Call) × (decode f.rest ≡ some cs) × (calls ≡ f.call ∷ cs)
-rest_of numbers calls f is e = before-some f.call (decode f.rest) calls (sym (decode-some numbers f e) ∙ is)
+rest_of numbers calls f is e = before_some f.call (decode f.rest) calls (sym (decode_some numbers f e) ∙ is)
 
 module _ {l : List ℕ} {s : Session} {σ : Storage} {out : List ℕ} {at n : ℕ} (may : MayContinue l s σ out at n) (h : at < length l) where
-  may-readable : Readable l at
-  may-readable = call-there h may.is
+  may_readable : Readable l at
+  may_readable = call_there h may.is
 
-  may-room : n < length out
-  may-room =
-      let r = rest_of (drop at l) may.left may-readable.read may.is may-readable.is in
+  may_room : n < length out
+  may_room =
+      let r = rest_of (drop at l) may.left may_readable.read may.is may_readable.is in
       omega (arith, may.room, ap length r.2)
 
-  may-next : {s' : Session} {σ' : Storage} {num next : ℕ} → Made l at num next s s' σ σ' → MayContinue l s' σ' (set out n num) next (n + 1)
-  may-next {s'} {σ'} {num} {next} M =
+  may_next : {s' : Session} {σ' : Storage} {num next : ℕ} → Made l at num next s s' σ σ' → MayContinue l s' σ' (set out n num) next (n + 1)
+  may_next {s'} {σ'} {num} {next} M =
       let r = rest_of (drop at l) may.left (record { call = M.call; rest = drop next l }) may.is M.is in
-      record { asks = asks-next may.asks M.called; left = r.0; is = r.1; room = omega (arith, may.room, ap length r.2, length-set out n num) }
+      record { asks = asks_next may.asks M.called; left = r.0; is = r.1; room = omega (arith, may.room, ap length r.2, length-set out n num) }
 
 kept_next : {l : List ℕ} {s s' : Session} {σ σ' : Storage} {at num next : ℕ} (out : List ℕ) (n : ℕ) → Made l at num next s s' σ σ' → Kept σ out σ' (set out n num)
 kept_next {num = num} out n M =
@@ -127,14 +127,14 @@ kept_trans k m =
     }
 
 -- one call more at the end
-onward-last : {l : List ℕ} {s₀ s s' : Session} {σ₀ σ σ' : Storage} {out₀ out : List ℕ} {at₀ n₀ at n num next : ℕ} → Onward l s₀ σ₀ out₀ at₀ n₀ s σ out at n
+onward_last : {l : List ℕ} {s₀ s s' : Session} {σ₀ σ σ' : Storage} {out₀ out : List ℕ} {at₀ n₀ at n num next : ℕ} → Onward l s₀ σ₀ out₀ at₀ n₀ s σ out at n
     → at < length l → Made l at num next s s' σ σ' → Onward l s₀ σ₀ out₀ at₀ n₀ s' σ' (set out n num) next (n + 1)
-onward-last here h M = then h M here
-onward-last (then h₀ M₀ X) h M = then h₀ M₀ (onward-last X h M)
+onward_last here h M = then h M here
+onward_last (then h₀ M₀ X) h M = then h₀ M₀ (onward_last X h M)
 
-pub onward-upto : {l : List ℕ} {s₀ s : Session} {σ₀ σ : Storage} {out₀ out : List ℕ} {at₀ n₀ at n : ℕ} → Onward l s₀ σ₀ out₀ at₀ n₀ s σ out at n → at₀ ≤ at
-onward-upto here = omega arith
-onward-upto (then h₀ M₀ X) = omega (arith, M₀.past, onward-upto X)
+pub onward_upto : {l : List ℕ} {s₀ s : Session} {σ₀ σ : Storage} {out₀ out : List ℕ} {at₀ n₀ at n : ℕ} → Onward l s₀ σ₀ out₀ at₀ n₀ s σ out at n → at₀ ≤ at
+onward_upto here = omega arith
+onward_upto (then h₀ M₀ X) = omega (arith, M₀.past, onward_upto X)
 
 -- midway, having begun at s₁, σ₁, out₁, at₁ and n₁
 pub record Going (l : List ℕ) (s₁ : Session) (σ₁ : Storage) (out₁ : List ℕ) (at₁ n₁ : ℕ) (s : Session) (σ : Storage) (out : List ℕ) (at n : ℕ) : Type 0 where
@@ -142,8 +142,8 @@ pub record Going (l : List ℕ) (s₁ : Session) (σ₁ : Storage) (out₁ : Lis
   pub may : MayContinue l s σ out at n
   pub kept : Kept σ₁ out₁ σ out
 
-pub going-begins : {l : List ℕ} {s : Session} {σ : Storage} {out : List ℕ} {at n : ℕ} → MayContinue l s σ out at n → Going l s σ out at n s σ out at n
-going-begins ask =
+pub going_begins : {l : List ℕ} {s : Session} {σ : Storage} {out : List ℕ} {at n : ℕ} → MayContinue l s σ out at n → Going l s σ out at n s σ out at n
+going_begins ask =
     record {
       onward = here;
       may = ask;
@@ -155,7 +155,7 @@ module _ {l : List ℕ} {s₁ : Session} {σ₁ : Storage} {out₁ : List ℕ} {
   pub going_next : {s s' : Session} {σ σ' : Storage} {out : List ℕ} {at n num next : ℕ} → Going l s₁ σ₁ out₁ at₁ n₁ s σ out at n → at < length l → Made l at num next s s' σ σ'
       → Going l s₁ σ₁ out₁ at₁ n₁ s' σ' (set out n num) next (n + 1)
   going_next {out = out} {n = n} G h M =
-      record { onward = onward-last G.onward h M; may = may-next G.may h M; kept = kept_trans G.kept (kept_next out n M) }
+      record { onward = onward_last G.onward h M; may = may_next G.may h M; kept = kept_trans G.kept (kept_next out n M) }
 
   -- calls more
   pub going_on : {s s' : Session} {σ σ' : Storage} {out out' : List ℕ} {at n at' n' : ℕ} → Going l s₁ σ₁ out₁ at₁ n₁ s σ out at n → Onward l s σ out at n s' σ' out' at' n'
@@ -164,15 +164,15 @@ module _ {l : List ℕ} {s₁ : Session} {σ₁ : Storage} {out₁ : List ℕ} {
   going_on G (then h M X) = going_on (going_next G h M) X
 
 module _ {l : List ℕ} {s₁ : Session} {σ₁ : Storage} {out₁ : List ℕ} {at₁ n₁ : ℕ} {s : Session} {σ : Storage} {out : List ℕ} {at n : ℕ} (G : Going l s₁ σ₁ out₁ at₁ n₁ s σ out at n) where
-  pub going-asks : Asks s σ
-  going-asks = G.may.asks
+  pub going_asks : Asks s σ
+  going_asks = G.may.asks
 
   module _ (h : at < length l) where
-    pub going-readable : Readable l at
-    going-readable = may-readable G.may h
+    pub going_readable : Readable l at
+    going_readable = may_readable G.may h
 
-    pub going-room : n < length out
-    going-room = may-room G.may h
+    pub going_room : n < length out
+    going_room = may_room G.may h
 
     -- a set or an add is refused, or admitted and placed; then session and slices have other names
     module _ {a : Admitted} {next : ℕ} {τ : Storage} (E : AdmitsAt l at a next s σ τ) {z : Session} {sp o t rs m lo w : List ℕ} where
@@ -181,45 +181,45 @@ module _ {l : List ℕ} {s₁ : Session} {σ₁ : Storage} {out₁ : List ℕ} {
           → Going l s₁ σ₁ out₁ at₁ n₁ z (storage sp o t rs m lo w υ.pool) (set out n a.number) next (n + 1)
       made_as M e₀ e₁ e₂ e₃ e₄ e₅ e₆ e₇ = rw (e₀, e₁, e₂, e₃, e₄, e₅, e₆, e₇) (going_next G h M)
 
-      pub going-refused : (a.number ≡ 0 → ⊥) → z ≡ s → sp ≡ τ.spans → o ≡ τ.order → t ≡ τ.tally → rs ≡ τ.rows → m ≡ τ.marks → lo ≡ τ.locations → w ≡ τ.waiting
+      pub going_refused : (a.number ≡ 0 → ⊥) → z ≡ s → sp ≡ τ.spans → o ≡ τ.order → t ≡ τ.tally → rs ≡ τ.rows → m ≡ τ.marks → lo ≡ τ.locations → w ≡ τ.waiting
           → Going l s₁ σ₁ out₁ at₁ n₁ z (storage sp o t rs m lo w τ.pool) (set out n a.number) next (n + 1)
-      going-refused x = made_as (made-refused E x)
+      going_refused x = made_as (made_refused E x)
 
-      pub going-placed : {s' : Session} {υ : Storage} → a.number ≡ 0 → Places s a s' τ υ → z ≡ s' → sp ≡ υ.spans → o ≡ υ.order →
+      pub going_placed : {s' : Session} {υ : Storage} → a.number ≡ 0 → Places s a s' τ υ → z ≡ s' → sp ≡ υ.spans → o ≡ υ.order →
           t ≡ υ.tally → rs ≡ υ.rows → m ≡ υ.marks → lo ≡ υ.locations → w ≡ υ.waiting
           → Going l s₁ σ₁ out₁ at₁ n₁ z (storage sp o t rs m lo w υ.pool) (set out n a.number) next (n + 1)
-      going-placed x Q = made_as (made-placed E x Q)
+      going_placed x Q = made_as (made_placed E x Q)
 
 -- numbers that are one call, a set or an add; and that it was made
 pub record OneCall (l : List ℕ) : Type 0 where
   pub call : Call
   pub is : front l ≡ some (record { call = call; rest = [] })
-  pub goes_on : ends-run (get_or l 0 0) ≡ false
+  pub goes_on : ends_run (get_or l 0 0) ≡ false
 
 abbrev pub MadeOne : List ℕ → ℕ → Session → Session → Storage → Storage → Type 0
 MadeOne l num s s' σ σ' = (c : Call) → front l ≡ some (record { call = c; rest = [] }) → Called c num s s' σ σ'
 
-one-there : (l : List ℕ) (f : Front) → front l ≡ some f → 0 < length l
+one_there : (l : List ℕ) (f : Front) → front l ≡ some f → 0 < length l
 unfolding front
-one-there [] f e = let z : ◌≡◌ {A = ℕ} 0 1 = cc in absurd (omega arith)
-one-there (x ∷ l) f e = omega arith
+one_there [] f e = let z : ◌≡◌ {A = ℕ} 0 1 = cc in absurd (omega arith)
+one_there (x ∷ l) f e = omega arith
 
-same-front : {f g : Front} {o : Option Front} → o ≡ some f → o ≡ some g → f ≡ g
-same-front d e = cc
+same_front : {f g : Front} {o : Option Front} → o ≡ some f → o ≡ some g → f ≡ g
+same_front d e = cc
 
 module _ {l : List ℕ} (one : OneCall l) where
-  pub one-may : {s : Session} {σ : Storage} (out : List ℕ) → Asks s σ → 1 ≤ length out → MayContinue l s σ out 0 0
-  unfolding decode decode-from unless-empty before-all
-  one-may out q h = record { asks = q; left = one.call ∷ []; is = decode-some l (record { call = one.call; rest = [] }) one.is; room = omega (arith, h) }
+  pub one_may : {s : Session} {σ : Storage} (out : List ℕ) → Asks s σ → 1 ≤ length out → MayContinue l s σ out 0 0
+  unfolding decode decode_from unless_empty before_all
+  one_may out q h = record { asks = q; left = one.call ∷ []; is = decode_some l (record { call = one.call; rest = [] }) one.is; room = omega (arith, h) }
 
-  pub one-made : {s s' : Session} {σ σ' : Storage} {out out' : List ℕ} {at n : ℕ} → 1 ≤ length out → Continues l s σ out 0 0 s' σ' out' at n → MadeOne l (get_or out' 0 0) s s' σ σ'
-  one-made {s} {s'} {σ} {σ'} {out} {out'} h C c e = go C.onward C.stops
+  pub one_made : {s s' : Session} {σ σ' : Storage} {out out' : List ℕ} {at n : ℕ} → 1 ≤ length out → Continues l s σ out 0 0 s' σ' out' at n → MadeOne l (get_or out' 0 0) s s' σ σ'
+  one_made {s} {s'} {σ} {σ'} {out} {out'} h C c e = go C.onward C.stops
     where
-      go : {at n : ℕ} {out' : List ℕ} {s' : Session} {σ' : Storage} → Onward l s σ out 0 0 s' σ' out' at n → (at < length l → ends-run (get_or l at 0) ≡ true) → Called c (get_or out' 0 0) s s' σ σ'
-      go here stops = absurd (false≢true (sym one.goes_on ∙ stops (one-there l _ e)))
+      go : {at n : ℕ} {out' : List ℕ} {s' : Session} {σ' : Storage} → Onward l s σ out 0 0 s' σ' out' at n → (at < length l → ends_run (get_or l at 0) ≡ true) → Called c (get_or out' 0 0) s s' σ σ'
+      go here stops = absurd (false≢true (sym one.goes_on ∙ stops (one_there l _ e)))
       go (then {num = num} {next = next} i M here) stops =
-          let f : M.call ≡ c = ap (λ (x : Front). x.call) (same-front M.is e) in
+          let f : M.call ≡ c = ap (λ (x : Front). x.call) (same_front M.is e) in
           rw (get_or-set_same out 0 num 0 h, sym f) M.called
       go (then {next = next} i M (then j N X)) stops =
-          let f : drop next l ≡ [] = ap (λ (x : Front). x.rest) (same-front M.is e) in
+          let f : drop next l ≡ [] = ap (λ (x : Front). x.rest) (same_front M.is e) in
           absurd (omega (arith, j, ap length f, length-drop next l))

@@ -3,16 +3,16 @@
 use Rattle.std.specs.Prelude.{◌≡◌, List, Bool, not, ◌&&◌, ℕ, ◌≤◌, ◌<◌, length, drop, ltb, eqb}
 use Rattle.std.proofs.Math.Option.{some}
 use Rattle.rules.specs.Calls.{Call}
-use Rattle.rules.specs.Encoding.{add-tag, lane-add-tag, counted, add-front, front, Front}
+use Rattle.rules.specs.Encoding.{add_tag, lane_add_tag, counted, add_front, front, Front}
 use Rattle.session.specs.declared.Session.{Session}
-use Rattle.session.specs.Storage.{Storage, with-admitted}
+use Rattle.session.specs.Storage.{Storage, with_admitted}
 use Rattle.admitting.specs.declared.Admitted.{Admitted}
 use Rattle.admitting.specs.Promise.{Asks, Called}
 use Rattle.admitting.specs.Admitted.{Admits}
 
 -- a tag that ends a run of sets and adds, which have the lowest tags, but for an add with a lane
-unfoldable pub ends-run : ℕ → Bool
-ends-run tag = ltb add-tag tag && not (eqb tag lane-add-tag)
+unfoldable pub ends_run : ℕ → Bool
+ends_run tag = ltb add_tag tag && not (eqb tag lane_add_tag)
 
 -- a call starts at `at`
 pub record Readable (l : List ℕ) (at : ℕ) : Type 0 where
@@ -22,7 +22,7 @@ pub record Readable (l : List ℕ) (at : ℕ) : Type 0 where
 
 -- the add at `at` is in this lane, and its lists start at `lists`
 pub record AddAt (l : List ℕ) (at lane lists : ℕ) : Type 0 where
-  pub is : front (drop at l) ≡ add-front lane (counted (drop lists l))
+  pub is : front (drop at l) ≡ add_front lane (counted (drop lists l))
   pub past : at < lists
   pub within : lists ≤ length l
 
@@ -52,17 +52,17 @@ pub record AdmitsAt (l : List ℕ) (at : ℕ) (a : Admitted) (next : ℕ) (s : S
 -- storage with these contents, and promised of every one.
 pub record AsksCall (s : Session) (m w pool : List ℕ) : Type 0 where
   pub around : Storage
-  pub asks : Asks s (with-admitted around m w pool)
+  pub asks : Asks s (with_admitted around m w pool)
 
 abbrev pub AdmitsCall : List ℕ → ℕ → Admitted → ℕ → Session → List ℕ → List ℕ → List ℕ → List ℕ → List ℕ → List ℕ → Type 0
 AdmitsCall l at a next s m w pool m' w' pool' =
-    (σ : Storage) → Asks s (with-admitted σ m w pool) → AdmitsAt l at a next s (with-admitted σ m w pool) (with-admitted σ m' w' pool')
+    (σ : Storage) → Asks s (with_admitted σ m w pool) → AdmitsAt l at a next s (with_admitted σ m w pool) (with_admitted σ m' w' pool')
 
 -- where a whole storage is at hand
 module _ {s : Session} {σ : Storage} (q : Asks s σ) where
-  pub call-asked : AsksCall s σ.marks σ.waiting σ.pool
-  call-asked = record { around = σ; asks = q }
+  pub call_asked : AsksCall s σ.marks σ.waiting σ.pool
+  call_asked = record { around = σ; asks = q }
 
-  pub call-admitted : {l : List ℕ} {at next : ℕ} {a : Admitted} {m w pool : List ℕ} →
-      AdmitsCall l at a next s σ.marks σ.waiting σ.pool m w pool → AdmitsAt l at a next s σ (with-admitted σ m w pool)
-  call-admitted h = h σ q
+  pub call_admitted : {l : List ℕ} {at next : ℕ} {a : Admitted} {m w pool : List ℕ} →
+      AdmitsCall l at a next s σ.marks σ.waiting σ.pool m w pool → AdmitsAt l at a next s σ (with_admitted σ m w pool)
+  call_admitted h = h σ q

@@ -1,8 +1,8 @@
 // The sets and adds of an encoded list, made one after another on a session, up to the first flush or final.
 ghost use Rattle.std.specs.Prelude.{◌≡◌, false, get_or};
-ghost use Rattle.rules.specs.Encoding.{set-tag};
+ghost use Rattle.rules.specs.Encoding.{set_tag};
 ghost use Rattle.session.specs.Storage.{given, across};
-ghost use Rattle.call_runs.specs.Made.{ends-run, Readable, AddAt, AsksCall, AdmitsCall};
+ghost use Rattle.call_runs.specs.Made.{ends_run, Readable, AddAt, AsksCall, AdmitsCall};
 ghost use Rattle.admitting.specs.Promise.{Asks};
 ghost use Rattle.call_runs.specs.Continuing.{MayContinue, Continues, OneCall, MadeOne};
 
@@ -27,7 +27,7 @@ pub struct Run {
 
 // Whether a tag ends a run of sets and adds: their tags are the lowest, but for that of an add with a lane.
 pub fn ends_run(tag: u64) -> bool
-    ensures { result ≡ ends-run tag }
+    ensures { result ≡ ends_run tag }
 {
     if tag == encoding::LANE_ADD {
         return false;
@@ -44,7 +44,7 @@ pub struct AddStart {
 
 // Those of the add that starts at `at`: after its tag come its lists, or its lane and then they.
 pub fn add_start(calls: &[u64], at: usize) -> AddStart
-    requires { (Readable calls.now at) × (ends-run (get_or calls.now at 0) ≡ false) × (get_or calls.now at 0 ≡ set-tag → ⊥) }
+    requires { (Readable calls.now at) × (ends_run (get_or calls.now at 0) ≡ false) × (get_or calls.now at 0 ≡ set_tag → ⊥) }
     ensures { AddAt calls.now at result.lane result.lists }
 {
     if calls[at] == encoding::LANE_ADD {
@@ -70,7 +70,7 @@ fn admit_call(
     at: usize,
 ) -> Admission
     requires asks_call { AsksCall s marks.old waiting.old pool.old }
-    requires readable { (Readable calls.now at) × (ends-run (get_or calls.now at 0) ≡ false) }
+    requires readable { (Readable calls.now at) × (ends_run (get_or calls.now at 0) ≡ false) }
     ensures { AdmitsCall calls.now at result.admitted result.next s marks.old waiting.old pool.old
         marks.new waiting.new pool.new }
 {

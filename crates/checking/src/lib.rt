@@ -1,12 +1,12 @@
 // The checks of set, flush and final, in document 01's order: each function gives the number of the first that fails, or 0, and changes
 // nothing. Those of add are in add_checks.
 ghost use Rattle.std.specs.Prelude.{◌≡◌, ◌≤◌, length};
-ghost use Rattle.rules.specs.Checks.{verdict, waiting-needed};
-ghost use Rattle.checking.specs.Parts.{ChecksSet, flush-checks, final-checks};
+ghost use Rattle.rules.specs.Checks.{verdict, waiting_needed};
+ghost use Rattle.checking.specs.Parts.{ChecksSet, flush_checks, final_checks};
 
 // set: 7, 4, 5, 8.
 pub fn check_set(waiting: &[u64], closed: bool, v: usize, x: u64) -> u64
-    requires { waiting-needed v ≤ length waiting.now }
+    requires { waiting_needed v ≤ length waiting.now }
     ensures { ChecksSet waiting.now closed v x result }
 {
     if closed {
@@ -26,7 +26,7 @@ pub fn check_set(waiting: &[u64], closed: bool, v: usize, x: u64) -> u64
 
 // flush: 7, 11.
 pub fn check_flush(closed: bool, flushes: u32) -> u64
-    ensures { result ≡ verdict (flush-checks closed flushes) }
+    ensures { result ≡ verdict (flush_checks closed flushes) }
 {
     if closed {
         return rules::CLOSED;
@@ -39,7 +39,7 @@ pub fn check_flush(closed: bool, flushes: u32) -> u64
 
 // final: 7, 12.
 pub fn check_final(closed: bool, delayed: u32) -> u64
-    ensures { result ≡ verdict (final-checks closed delayed) }
+    ensures { result ≡ verdict (final_checks closed delayed) }
 {
     if closed {
         return rules::CLOSED;

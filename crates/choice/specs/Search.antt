@@ -4,14 +4,14 @@ use Rattle.std.specs.Prelude.{Bool, true, false, List, [], ◌∷◌, ℕ, suc, 
 use Rattle.choice.specs.declared.MatchedSpan.{MatchedSpan}
 use Rattle.choice.specs.declared.MatchedSpan.TheVariants.{Existing, New}
 
-abbrev pub pick-span : Bool → MatchedSpan → MatchedSpan → MatchedSpan
-pick-span true x y = x
-pick-span false x y = y
+abbrev pub pick_span : Bool → MatchedSpan → MatchedSpan → MatchedSpan
+pick_span true x y = x
+pick_span false x y = y
 
 -- the first of `lens` below p, its index counted from i
 unfoldable pub first_below : List ℕ → ℕ → ℕ → MatchedSpan
 first_below [] i p = New 1
-first_below (l ∷ ls) i p = pick-span (ltb l p) (Existing i) (first_below ls (suc i) p)
+first_below (l ∷ ls) i p = pick_span (ltb l p) (Existing i) (first_below ls (suc i) p)
 
 unfoldable pub matched : List ℕ → ℕ → ℕ → MatchedSpan
 matched lens from p = first_below (drop from lens) from p

@@ -1,6 +1,6 @@
 // The parallelism rule, and the choice of a span for a value, by the window's numbers and lengths.
 ghost use Rattle.std.specs.Prelude.{◌≡◌, true, ◌+◌, ◌≤◌, ◌<◌};
-ghost use Rattle.rules.specs.Limits.{most-parallelism};
+ghost use Rattle.rules.specs.Limits.{most_parallelism};
 ghost use Rattle.rules.specs.Guide.{parallelism};
 ghost use Rattle.choice.specs.Search.{matched};
 ghost use Rattle.choice.specs.Chosen.{chosen_by};
@@ -15,7 +15,7 @@ pub enum MatchedSpan {
 // Parallelism of the entry at position q of a span of a entries, the next holding b (the Rust's calculate_parallelism). The sums are 32 bits
 // wide, so that none wraps where a + b passes 65,535.
 pub fn parallelism_of(p: u32, a: u32, b: u32, q: u32) -> u32
-    requires { (q < a) × ((a ≤ p + 1) × ((b ≤ p + 1) × (p ≤ most-parallelism))) }
+    requires { (q < a) × ((a ≤ p + 1) × ((b ≤ p + 1) × (p ≤ most_parallelism))) }
     ensures { result ≡ parallelism p a b q }
 {
     if p <= a {

@@ -1,3 +1,3 @@
 -- What flagging an add's outputs asks and promises, and the laws by which its proofs go.
-pub mod Contracts
+pub mod Promises
 pub mod Claiming

@@ -4,7 +4,7 @@ ghost use Rattle.std.proofs.Math.Option.{none};
 ghost use Rattle.rules.specs.Calls.{set as set-call, add as add-call};
 ghost use Rattle.rules.specs.Encoding.{front, counted};
 ghost use Rattle.encoding.specs.Ends.{ListEnds, AddEnds, Ends, Counts};
-ghost use Rattle.encoding.specs.Put.{before-inputs, Put};
+ghost use Rattle.encoding.specs.Put.{before_inputs, Put};
 
 // The tags that calls begin with.
 pub const SET: u64 = 1;
@@ -132,7 +132,7 @@ pub fn put_set(into: &mut [u64], x: u64) -> usize
 // How many numbers it takes.
 pub fn put_add(into: &mut [u64], lane: u64, inputs: usize, outputs: usize) -> usize
     requires { inputs + outputs + 4 ≤ length into.old }
-    ensures put { Put (add-call lane (take inputs (drop before-inputs into.old)) (take outputs (drop (inputs + 4) into.old)))
+    ensures put { Put (add-call lane (take inputs (drop before_inputs into.old)) (take outputs (drop (inputs + 4) into.old)))
         into.old into.new result }
     ensures takes { result ≡ inputs + outputs + 4 }
 {

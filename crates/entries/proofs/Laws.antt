@@ -5,7 +5,7 @@ use Prim.Native.Nat.{ℕ, suc, ◌+◌, ◌-◌, ◌≤◌, ◌<◌}
 use native.Mathlib.Nat.{add-zero, sub-zero}
 use native.Mathlib.Omega.{arith}
 use Rattle.rules.specs.Guide.{parallelism}
-use Rattle.entries.specs.Entries.{entry_at, with-parallelism, with-entry, row, annotated, appended}
+use Rattle.entries.specs.Entries.{entry_at, with_parallelism, with_entry, row, annotated, appended}
 use Rattle.entries.specs.declared.Entry.{Entry}
 
 module _ (s : List ℕ) (p a b n base : ℕ) where
@@ -18,7 +18,7 @@ module _ (s : List ℕ) (p a b n base : ℕ) where
 
   -- a turn appends one entry
   pub turn : (o o' : List ℕ) (q : ℕ) (e : Entry) (w : ℕ) → q < a → e ≡ entry_at s (base + q) → w ≡ parallelism p a b q
-      → o' ≡ with-entry o (n + q) (with-parallelism e w) → rest o q ≡ rest o' (q + 1)
+      → o' ≡ with_entry o (n + q) (with_parallelism e w) → rest o q ≡ rest o' (q + 1)
   turn o o' q e w h f g k =
       let e1 : a - q ≡ suc (a - (q + 1)) = omega arith in
       let e2 : n + (q + 1) ≡ suc (n + q) = omega arith in

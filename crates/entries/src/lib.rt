@@ -1,8 +1,8 @@
 // Entries in flat slices, SIZE numbers each: value, added, accepted, and parallelism and lane in one. A span's entry has its parallelism
 // only once it is appended to the order, and 0 until then.
 ghost use Rattle.std.specs.Prelude.{◌≡◌, ◌+◌, ◌≤◌};
-ghost use Rattle.rules.specs.Limits.{most-parallelism};
-ghost use Rattle.entries.specs.Entries.{packed, unpacked, capacity, entry_at, fits, has-entry, with-parallelism, held-entry, with-entry, row, annotated, appended};
+ghost use Rattle.rules.specs.Limits.{most_parallelism};
+ghost use Rattle.entries.specs.Entries.{packed, unpacked, capacity, entry_at, fits, has_entry, with_parallelism, held_entry, with_entry, row, annotated, appended};
 
 // The numbers of an entry.
 pub const SIZE: usize = 4;
@@ -48,7 +48,7 @@ fn unpacked(value: u32, added: u32, accepted: u32, last: u32) -> Entry
 
 // The entry at index k.
 pub fn load(s: &[u32], k: usize) -> Entry
-    requires { has-entry s.now k }
+    requires { has_entry s.now k }
     ensures { result ≡ entry_at s.now k }
 {
     let i = SIZE * k;
@@ -57,7 +57,7 @@ pub fn load(s: &[u32], k: usize) -> Entry
 
 // The parallelism of the entry at index k.
 pub fn parallelism_at(s: &[u32], k: usize) -> u32
-    requires { has-entry s.now k }
+    requires { has_entry s.now k }
     ensures { result ≡ (entry_at s.now k).parallelism }
 {
     s[SIZE * k + 3] % LANE_RADIX
@@ -65,7 +65,7 @@ pub fn parallelism_at(s: &[u32], k: usize) -> u32
 
 // An entry with another parallelism.
 pub fn with_parallelism(e: Entry, parallelism: u16) -> Entry
-    ensures { result ≡ with-parallelism e parallelism }
+    ensures { result ≡ with_parallelism e parallelism }
 {
     Entry {
         value: e.value,
@@ -78,8 +78,8 @@ pub fn with_parallelism(e: Entry, parallelism: u16) -> Entry
 
 // Stores an entry at index k; all else stays.
 pub fn store(s: &mut [u32], k: usize, e: Entry)
-    requires { has-entry s.old k }
-    ensures { s.new ≡ with-entry s.old k e }
+    requires { has_entry s.old k }
+    ensures { s.new ≡ with_entry s.old k e }
 {
     let i = SIZE * k;
     s[i] = e.value;
@@ -90,15 +90,15 @@ pub fn store(s: &mut [u32], k: usize, e: Entry)
 
 // Stores an entry as a span holds it, with 0 for its parallelism.
 pub fn store_held(s: &mut [u32], k: usize, e: Entry)
-    requires { has-entry s.old k }
-    ensures { s.new ≡ with-entry s.old k (held-entry e) }
+    requires { has_entry s.old k }
+    ensures { s.new ≡ with_entry s.old k (held_entry e) }
 {
     store(s, k, with_parallelism(e, 0));
 }
 
 // Appends the a entries of the row at base to the order at n, each with its parallelism, the next span having b.
 pub fn append_row(spans: &[u32], order: &mut [u32], base: usize, n: usize, p: u32, a: u32, b: u32)
-    requires le_p { (1 ≤ p) × ((a ≤ p + 1) × ((b ≤ p + 1) × (p ≤ most-parallelism))) }
+    requires le_p { (1 ≤ p) × ((a ≤ p + 1) × ((b ≤ p + 1) × (p ≤ most_parallelism))) }
     requires fits { fits spans.now (base + a) }
     requires fits_2 { fits order.old (n + a) }
     ensures { order.new ≡ appended order.old n (annotated p a b 0 (row spans.now base a)) }

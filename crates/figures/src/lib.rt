@@ -3,7 +3,7 @@
 ghost use Rattle.std.specs.Prelude.{◌≡◌, false, ◌≤◌};
 ghost use Rattle.std.specs.Float.{binary32};
 ghost use Rattle.std.specs.Float.Ieee.{round};
-ghost use Rattle.rules.specs.Limits.{most-places, average-divisor, low-counts, sums-of-thousands};
+ghost use Rattle.rules.specs.Limits.{most_places, average_divisor, low_counts, sums_of_thousands};
 ghost use Rattle.rules.specs.Summary as rules;
 ghost use Rattle.figures.specs.Small.{Small};
 
@@ -24,8 +24,8 @@ pub fn sum(t: &[u32]) -> u32
 
 // The sum divided by the average's divisor: its conversion to binary32 is exact, so the quotient is rounded once.
 pub fn average(sum: u32) -> f32
-    requires { sum ≤ most-places }
-    ensures { result ≡ round binary32 false sum average-divisor }
+    requires { sum ≤ most_places }
+    ensures { result ≡ round binary32 false sum average_divisor }
 {
     sum as f32 / rules::AVERAGE_DIVISOR
 }
@@ -47,7 +47,7 @@ pub fn median(t: &[u32], all: u32) -> u32
 
 // The first counts; those that the tally does not store are 0.
 pub fn low_counts(t: &[u32]) -> [u32; rules::LOW_COUNTS]
-    ensures { result ≡ rules.counts low-counts 0 t.now }
+    ensures { result ≡ rules.counts low_counts 0 t.now }
 {
     let mut low = [0u32; rules::LOW_COUNTS];
     for i in 0..rules::LOW_COUNTS {
@@ -61,7 +61,7 @@ pub fn low_counts(t: &[u32]) -> [u32; rules::LOW_COUNTS]
 // The sum of each thousand of counts, in one pass.
 pub fn thousands(t: &[u32]) -> [u32; rules::SUMS_OF_THOUSANDS]
     requires { Small t.now }
-    ensures { result ≡ rules.thousands sums-of-thousands 0 t.now }
+    ensures { result ≡ rules.thousands sums_of_thousands 0 t.now }
 {
     let mut sums = [0u32; rules::SUMS_OF_THOUSANDS];
     for i in 0..t.len() {

@@ -4,9 +4,9 @@ ghost use Rattle.std.specs.Prelude.{◌≡◌};
 ghost use Rattle.rules.specs.Guide.{flush as flush-guide};
 ghost use Rattle.entries.specs.Entries.{item_of};
 ghost use Rattle.placing.specs.Slices.{Standing, shown, Becomes};
-ghost use Rattle.guide.specs.Ready.{Ready, Near, after-of};
+ghost use Rattle.guide.specs.Ready.{Ready, Near, after_of};
 ghost use Rattle.guide.specs.Pushes.{Lands};
-ghost use Rattle.guide.specs.Fresh.{first-guide};
+ghost use Rattle.guide.specs.Fresh.{first_guide};
 
 use buffer::Guide;
 use choice::MatchedSpan;
@@ -27,7 +27,7 @@ const FIRST_ROWS: [u8; window::SPANS] = [
 
 // The window at the start: spans 0 to 31, all empty, span i in row i.
 pub fn fresh(p: u32, v: u32) -> Guide
-    ensures { result ≡ first-guide p v }
+    ensures { result ≡ first_guide p v }
 {
     let ids = FIRST_IDS;
     let lens = [0u16; window::SPANS];
@@ -59,8 +59,8 @@ pub fn push(
 ) -> Pushed
     requires standing { Standing g spans order tally }
     requires ready { Ready g.p g.v (shown g spans order) }
-    requires near { Near (shown g spans order) (after-of has span pos) }
-    ensures { Lands g result.guide spans order tally (after-of has span pos) (item_of e) result.span result.pos }
+    requires near { Near (shown g spans order) (after_of has span pos) }
+    ensures { Lands g result.guide spans order tally (after_of has span pos) (item_of e) result.span result.pos }
 {
     let w = g.window;
     let m = choice::choose(w.ids[0], w.lens, g.p, has, span, pos);

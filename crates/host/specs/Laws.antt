@@ -3,7 +3,7 @@ use Rattle.std.specs.Prelude.{List, ◌≡◌, ℕ, ◌+◌, ◌*◌, take}
 use Rattle.std.proofs.Math.Path.{ap}
 use Rattle.std.proofs.Common.{◌∙◌, subst, arith}
 use Rattle.std.proofs.Math.ListN.{length, length-take}
-use Rattle.rules.specs.Limits.{reply-radix}
+use Rattle.rules.specs.Limits.{reply_radix}
 use Rattle.rules.specs.Listing as rule
 use Rattle.job_reply.specs.declared.Reply.{Reply}
 use Rattle.job_reply.specs.declared.Reply.TheVariants as reply
@@ -11,16 +11,16 @@ use Rattle.job_reply.specs.Reply.{Replied}
 use Rattle.host.specs.Called.{Called}
 
 -- a reply by what is told of it
-pub replied-as : {job entry exit : List ℕ} {x y : Reply} → Replied job entry exit x → x ≡ y → Replied job entry exit y
-replied-as {job} {entry} {exit} r e = subst (λ (z : Reply). Replied job entry exit z) e r
+pub replied_as : {job entry exit : List ℕ} {x y : Reply} → Replied job entry exit x → x ≡ y → Replied job entry exit y
+replied_as {job} {entry} {exit} r e = subst (λ (z : Reply). Replied job entry exit z) e r
 
 module _ {job entry exit : List ℕ} where
-  pub called-listed : (n : ℕ) → Replied job entry exit (reply.Listed n) → Called job entry exit (reply-radix * n)
+  pub called_listed : (n : ℕ) → Replied job entry exit (reply.Listed n) → Called job entry exit (reply_radix * n)
   unfolding rule.result
-  called-listed n r =
+  called_listed n r =
       let q : n ≡ length (take n exit) = omega (arith, length-take n exit, r.small.0) in
-      record { result = ap (λ (i : ℕ). reply-radix * i) q ∙ ap rule.result r.is; bytes = r.bytes }
+      record { result = ap (λ (i : ℕ). reply_radix * i) q ∙ ap rule.result r.is; bytes = r.bytes }
 
-  pub called-refused : (line code : ℕ) → Replied job entry exit (reply.Refused line code) → Called job entry exit (reply-radix * line + code)
+  pub called_refused : (line code : ℕ) → Replied job entry exit (reply.Refused line code) → Called job entry exit (reply_radix * line + code)
   unfolding rule.result
-  called-refused line code r = record { result = ap rule.result r.is; bytes = r.bytes }
+  called_refused line code r = record { result = ap rule.result r.is; bytes = r.bytes }

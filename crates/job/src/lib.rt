@@ -1,7 +1,7 @@
 // A job run on a session: its head, opening, then call by call to its end.
 ghost use Rattle.std.specs.Prelude.{◌≡◌, length};
 ghost use Rattle.session.specs.Storage.{given, across};
-ghost use Rattle.job.specs.Run.{MayRun, Runs, unopened-at, Room, Ran};
+ghost use Rattle.job.specs.Run.{MayRun, Runs, unopened_at, Room, Ran};
 
 use jobcalls::Head;
 use jobturn::{End, Step};
@@ -64,7 +64,7 @@ fn run_calls(
 
 // A job refused on `line` before a session was opened.
 fn unopened(line: u64, code: u64) -> Ended
-    ensures { result ≡ unopened-at line code }
+    ensures { result ≡ unopened_at line code }
 {
     let end = End::Rejected { line, code };
     let session = opening::fresh(0, 0);

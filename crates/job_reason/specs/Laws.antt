@@ -6,14 +6,14 @@ use Rattle.std.proofs.Common.{◌∙◌, arith}
 use borrow.Author.Tests.{ne_eqb}
 use Rattle.rules.specs.Refusals as refusal
 use Rattle.rules.specs.Job.{Outcome, rejected, outcome, Reached, reached}
-use Rattle.rules.specs.Listing.{line, word-status}
+use Rattle.rules.specs.Listing.{line, word_status}
 use Rattle.rules.specs.Reason as rule
-use Rattle.rules.specs.Reason.{explained, of-session, after-job, job-explained, reason-lines, reason-program, word-input, word-place}
-use Rattle.laws.specs.JobSession.{waiting-opened}
+use Rattle.rules.specs.Reason.{explained, of_session, after_job, job_explained, reason_lines, reason_program, word_input, word_place}
+use Rattle.laws.specs.JobSession.{waiting_opened}
 use Rattle.session.specs.declared.Session.{Session}
 use Rattle.session.specs.Storage.{Storage, storage}
-use Rattle.writer.specs.Wrote.{Wrote, wrote_then, wrote-in, wrote-whole}
-use Rattle.explaining.specs.Explaining.{explained-as, MayExplain, Explains}
+use Rattle.writer.specs.Wrote.{Wrote, wrote_then, wrote_in, wrote_whole}
+use Rattle.explaining.specs.Explaining.{explained_as, MayExplain, Explains}
 use Rattle.explaining.specs.declared.Reason.{Reason}
 use Rattle.explaining.specs.declared.Reason.TheVariants as why
 use Rattle.jobturn.specs.declared.End.{End}
@@ -21,43 +21,43 @@ use Rattle.jobturn.specs.declared.End.TheVariants as end
 use Rattle.job.specs.Run.{StandsReached, Left, Ran}
 use Rattle.job_reason.specs.declared.JobReason.{JobReason}
 use Rattle.job_reason.specs.declared.JobReason.TheVariants as reason
-use Rattle.job_reason.specs.Explains.{job-explained-as, ExplainsJob, Ended, answer-bytes, Answered}
+use Rattle.job_reason.specs.Explains.{job_explained_as, ExplainsJob, Ended, answer_bytes, Answered}
 
 -- the session is asked of a job that is finished, or refused with 12
 abbrev pub Asked : End → Type 0
 Asked (end.Finished f) = Unit {0}
-Asked (end.Rejected n code) = code ≡ refusal.still-waiting
+Asked (end.Rejected n code) = code ≡ refusal.still_waiting
 
 -- then it was opened: it stands for the model that the job reaches, and the answer is that model's
 record Stops (job : List ℕ) (s : Session) (σ τ : Storage) : Type 0 where
   last : Reached
   standing : StandsReached last s σ τ
-  is : (r : ℕ) → job-explained r job ≡ rule.stopped (explained last.places r last.model)
+  is : (r : ℕ) → job_explained r job ≡ rule.stopped (explained last.places r last.model)
 
 stops : {job : List ℕ} (e : End) {s : Session} {σ τ : Storage} {a b : List ℕ} → Ran job e s σ τ a b → Asked e → Stops job s σ τ
-unfolding job-explained after-job of-session
+unfolding job_explained after_job of_session
 stops {job} (end.Finished f) h q =
     let c = h.tells in
     record {
       last = c.last;
       standing = c.standing;
-      is = λ r. ap (λ (x : Outcome). after-job r x (reached job)) c.is ∙ ap (λ (x : Option Reached). rule.stopped (of-session r x)) c.reached-is;
+      is = λ r. ap (λ (x : Outcome). after_job r x (reached job)) c.is ∙ ap (λ (x : Option Reached). rule.stopped (of_session r x)) c.reached_is;
     }
 stops {job} (end.Rejected n code) {s} {σ} {τ} h q =
-    let o : outcome job ≡ rejected n refusal.still-waiting = h.tells.is ∙ ap (rejected n) q in
-    let y = waiting-opened job n o in
+    let o : outcome job ≡ rejected n refusal.still_waiting = h.tells.is ∙ ap (rejected n) q in
+    let y = waiting_opened job n o in
     record {
       last = y.0;
       standing = subst (λ (x : Option Reached). Left x s σ τ) y.1 h.tells.left;
-      is = λ r. ap (λ (x : Outcome). after-job r x (reached job)) o ∙ ap (λ (x : Option Reached). rule.stopped (of-session r x)) y.1;
+      is = λ r. ap (λ (x : Outcome). after_job r x (reached job)) o ∙ ap (λ (x : Option Reached). rule.stopped (of_session r x)) y.1;
     }
 
 module _ {e : End} {s : Session} {job sp o t rs m l w pool a b : List ℕ} {σ : Storage} (h : Ran job e s σ (storage sp o t rs m l w pool) a b) where
   pub has_ended : Ended e s w pool
   has_ended = record { job = job; lent = σ; around = storage sp o t rs m l w pool; a = a; b = b; ran = h }
 
-  pub may-explain : Asked e → MayExplain s w pool
-  may-explain q =
+  pub may_explain : Asked e → MayExplain s w pool
+  may_explain q =
       let k = stops e h q in
       let g = k.standing.stands in
       record {
@@ -65,8 +65,8 @@ module _ {e : End} {s : Session} {job sp o t rs m l w pool a b : List ℕ} {σ :
         asks = record { parallelism = k.last.parallelism; places = k.last.places; model = k.last.model; rep = g.rep; between = rw g.pool g.between };
       }
 
-  pub explains-stopped : Asked e → {r : ℕ} {x : Reason} → Explains s w pool r x → ExplainsJob job r (reason.Stopped x)
-  explains-stopped q {r} {x} p =
+  pub explains_stopped : Asked e → {r : ℕ} {x : Reason} → Explains s w pool r x → ExplainsJob job r (reason.Stopped x)
+  explains_stopped q {r} {x} p =
       let k = stops e h q in
       let g = k.standing.stands in
       let u = storage sp o t rs m l w pool in
@@ -75,31 +75,31 @@ module _ {e : End} {s : Session} {job sp o t rs m l w pool a b : List ℕ} {σ :
         small = p.small;
       }
 
-  pub explains-refused : {n code : ℕ} → e ≡ end.Rejected n code → code ≢ refusal.still-waiting → (r : ℕ) → ExplainsJob job r (reason.Refused n code)
-  unfolding job-explained after-job
-  explains-refused {n} {code} i q r =
+  pub explains_refused : {n code : ℕ} → e ≡ end.Rejected n code → code ≢ refusal.still_waiting → (r : ℕ) → ExplainsJob job r (reason.Refused n code)
+  unfolding job_explained after_job
+  explains_refused {n} {code} i q r =
       let h' = subst (λ (y : End). Ran job y s σ (storage sp o t rs m l w pool) a b) i h in
-      let o : job-explained r job ≡ after-job r (rejected n code) (reached job) = ap (λ (x : Outcome). after-job r x (reached job)) h'.tells.is in
-      record { is = sym (o ∙ rw (after-job, ne_eqb code refusal.still-waiting q)); small = h'.low }
+      let o : job_explained r job ≡ after_job r (rejected n code) (reached job) = ap (λ (x : Outcome). after_job r x (reached job)) h'.tells.is in
+      record { is = sym (o ∙ rw (after_job, ne_eqb code refusal.still_waiting q)); small = h'.low }
 
 -- what is printed of a reason, and of a number
-pub wrote-reason : {o a b c : List ℕ} {p q r : ℕ} {x : Reason} (input place : ℕ) → x ≡ why.Waits input place
-    → Wrote o a 0 p (line word-status 0) → Wrote a b p q (line word-input input) → Wrote b c q r (line word-place place)
-    → Wrote o c 0 r (reason-lines (rule.stopped (explained-as x)))
-unfolding reason-lines
-wrote-reason {o} {c = c} {r = r} input place e u v w =
-    subst (λ (y : Reason). Wrote o c 0 r (reason-lines (rule.stopped (explained-as y)))) (sym e) (wrote_then u (wrote_then v w))
+pub wrote_reason : {o a b c : List ℕ} {p q r : ℕ} {x : Reason} (input place : ℕ) → x ≡ why.Waits input place
+    → Wrote o a 0 p (line word_status 0) → Wrote a b p q (line word_input input) → Wrote b c q r (line word_place place)
+    → Wrote o c 0 r (reason_lines (rule.stopped (explained_as x)))
+unfolding reason_lines
+wrote_reason {o} {c = c} {r = r} input place e u v w =
+    subst (λ (y : Reason). Wrote o c 0 r (reason_lines (rule.stopped (explained_as y)))) (sym e) (wrote_then u (wrote_then v w))
 
-pub wrote-number : {o a : List ℕ} {p : ℕ} {x : Reason} (number : ℕ) → x ≡ why.Refused number → Wrote o a 0 p (line word-status number)
-    → Wrote o a 0 p (reason-lines (rule.stopped (explained-as x)))
-unfolding reason-lines
-wrote-number {o} {a} {p} number e w = subst (λ (y : Reason). Wrote o a 0 p (reason-lines (rule.stopped (explained-as y)))) (sym e) w
+pub wrote_number : {o a : List ℕ} {p : ℕ} {x : Reason} (number : ℕ) → x ≡ why.Refused number → Wrote o a 0 p (line word_status number)
+    → Wrote o a 0 p (reason_lines (rule.stopped (explained_as x)))
+unfolding reason_lines
+wrote_number {o} {a} {p} number e w = subst (λ (y : Reason). Wrote o a 0 p (reason_lines (rule.stopped (explained_as y)))) (sym e) w
 
 -- what was written is what the program prints
-pub answered : {job : List ℕ} {r : ℕ} {x y : JobReason} {entry exit : List ℕ} {n : ℕ} → ExplainsJob job r x → x ≡ y → length exit ≡ answer-bytes
-    → Wrote entry exit 0 n (reason-lines (job-explained-as y)) → Answered job r entry exit n
-unfolding reason-program
+pub answered : {job : List ℕ} {r : ℕ} {x y : JobReason} {entry exit : List ℕ} {n : ℕ} → ExplainsJob job r x → x ≡ y → length exit ≡ answer_bytes
+    → Wrote entry exit 0 n (reason_lines (job_explained_as y)) → Answered job r entry exit n
+unfolding reason_program
 answered {job} {r} {x} {y} {entry} {exit} {n} h e l w =
-    let t : reason-lines (job-explained-as y) ≡ reason-program r job = ap (λ (z : JobReason). reason-lines (job-explained-as z)) (sym e) ∙ ap reason-lines h.is in
+    let t : reason_lines (job_explained_as y) ≡ reason_program r job = ap (λ (z : JobReason). reason_lines (job_explained_as z)) (sym e) ∙ ap reason_lines h.is in
     let w' = subst (λ (z : List ℕ). Wrote entry exit 0 n z) t w in
-    record { small = omega (arith, wrote-in w', l); text = w'.holds; bytes = wrote-whole w' }
+    record { small = omega (arith, wrote_in w', l); text = w'.holds; bytes = wrote_whole w' }

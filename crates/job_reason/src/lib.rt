@@ -1,9 +1,9 @@
 // Why a registration waits after a job: the job is run, on storage of its own like job_reply's, and its session asked where it stopped.
 ghost use Rattle.std.specs.Prelude.{◌≡◌, ◌≤◌, length};
-ghost use Rattle.rules.specs.Reason.{stopped, reason-lines};
+ghost use Rattle.rules.specs.Reason.{stopped, reason_lines};
 ghost use Rattle.writer.specs.Wrote.{Wrote};
-ghost use Rattle.explaining.specs.Explaining.{explained-as, Small};
-ghost use Rattle.job_reason.specs.Explains.{ExplainsJob, Ended as HasEnded, ExplainsEnd, answer-bytes, Answered};
+ghost use Rattle.explaining.specs.Explaining.{explained_as, Small};
+ghost use Rattle.job_reason.specs.Explains.{ExplainsJob, Ended as HasEnded, ExplainsEnd, answer_bytes, Answered};
 
 use explaining::Reason;
 use jobturn::End;
@@ -66,8 +66,8 @@ pub const ANSWER_BYTES: usize = 64;
 
 // What is printed of a session's answer.
 fn put_reason(out: &mut [u8], reason: Reason) -> usize
-    requires { (Small reason) × (answer-bytes ≤ length out.old) }
-    ensures { Wrote out.old out.new 0 result (reason-lines (stopped (explained-as reason))) }
+    requires { (Small reason) × (answer_bytes ≤ length out.old) }
+    ensures { Wrote out.old out.new 0 result (reason_lines (stopped (explained_as reason))) }
 {
     match reason {
         Reason::Waits { input, place } => {
@@ -81,7 +81,7 @@ fn put_reason(out: &mut [u8], reason: Reason) -> usize
 
 // What the program prints for a job and registration r stands at the start of `out`; its length is returned, and what stands past it is left.
 pub fn answer(job: &[u8], r: u64, out: &mut [u8]) -> usize
-    requires { length out.old ≡ answer-bytes }
+    requires { length out.old ≡ answer_bytes }
     ensures { Answered job.now r out.old out.new result }
 {
     let x = explain_job(job, r);

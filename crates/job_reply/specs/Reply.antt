@@ -1,29 +1,29 @@
 -- What the answer to a job promises, by the rules' reply to the job where so many listing bytes are lent (rules, Listing). Assumes nothing.
 use Rattle.std.specs.Prelude.{List, ◌++◌, ◌≡◌, ℕ, ◌≤◌, length, take, drop}
-use Rattle.rules.specs.Limits.{program-listing-bytes}
+use Rattle.rules.specs.Limits.{program_listing_bytes}
 use Rattle.rules.specs.Listing as rule
 use Rattle.laws.specs.Accepted.{Code}
-use Rattle.job.specs.Run.{most-lines}
+use Rattle.job.specs.Run.{most_lines}
 use Rattle.job_reply.specs.declared.Reply.{Reply}
 use Rattle.job_reply.specs.declared.Reply.TheVariants as reply
 
 -- the rules' reply that an answer tells, the listing standing at the start of the bytes
-abbrev pub reply-as : Reply → List ℕ → rule.Reply
-reply-as (reply.Listed n) bytes = rule.listed (take n bytes)
-reply-as (reply.Refused line code) bytes = rule.refused line code
+abbrev pub reply_as : Reply → List ℕ → rule.Reply
+reply_as (reply.Listed n) bytes = rule.listed (take n bytes)
+reply_as (reply.Refused line code) bytes = rule.refused line code
 
 -- the numbers are small, and the listing lies within the bytes
 abbrev pub Small : Reply → List ℕ → Type 0
-Small (reply.Listed n) bytes = (n ≤ length bytes) × (n ≤ program-listing-bytes)
-Small (reply.Refused line code) bytes = (line ≤ most-lines) × Code code
+Small (reply.Listed n) bytes = (n ≤ length bytes) × (n ≤ program_listing_bytes)
+Small (reply.Refused line code) bytes = (line ≤ most_lines) × Code code
 
 pub record Replied (job entry exit : List ℕ) (r : Reply) : Type 0 where
-  pub is : reply-as r exit ≡ rule.reply (length entry) job
+  pub is : reply_as r exit ≡ rule.reply (length entry) job
   pub bytes : exit ≡ rule.bytes_after (rule.reply (length entry) job) entry
   pub small : Small r exit
 
 -- the program's answer: what it prints stands at the start of the bytes, and what stands past it is as it was
 pub record Answered (job entry exit : List ℕ) (r : ℕ) : Type 0 where
-  pub small : r ≤ program-listing-bytes
+  pub small : r ≤ program_listing_bytes
   pub text : take r exit ≡ rule.program job
   pub bytes : exit ≡ rule.program job ++ drop r entry

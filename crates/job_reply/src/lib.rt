@@ -1,6 +1,6 @@
 // The answer to a job: job bytes in, listing bytes out, on storage of its own for the greatest P and V and the W of a job (crate rules).
 ghost use Rattle.std.specs.Prelude.{◌≡◌, length};
-ghost use Rattle.rules.specs.Limits.{program-listing-bytes};
+ghost use Rattle.rules.specs.Limits.{program_listing_bytes};
 ghost use Rattle.job_reply.specs.Reply.{Replied, Answered};
 
 use jobturn::End;
@@ -56,7 +56,7 @@ pub fn reply_to(text: &[u8], listing: &mut [u8]) -> Reply
 
 // What the program prints for a job stands at the start of `out`; its length is returned, and what stands past it is left.
 pub fn answer(job: &[u8], out: &mut [u8]) -> usize
-    requires { length out.old ≡ program-listing-bytes }
+    requires { length out.old ≡ program_listing_bytes }
     ensures { Answered job.now out.old out.new result }
 {
     let r = reply_to(job, out);

@@ -19,69 +19,69 @@ Tagged ks l = OneOf ks (tag_of the_type l)
 abbrev pub starts_none : List ℕ
 starts_none = 0 ∷ 1 ∷ 5 ∷ 8 ∷ []
 
-pub no-start-of : (l : Line) → Tagged starts_none l → (read : List ℕ) → rule.start_of (line_as l read) ≡ none
-no-start-of (line.Parallelism n) h read = refl
-no-start-of (line.Places n) h read = refl
-no-start-of (line.Set n) h read = absurd (miss starts_none 2 tt h)
-no-start-of (line.Lane n) h read = absurd (miss starts_none 3 tt h)
-no-start-of (line.Inputs n) h read = absurd (miss starts_none 4 tt h)
-no-start-of (line.Outputs n) h read = refl
-no-start-of line.Flush h read = absurd (miss starts_none 6 tt h)
-no-start-of line.Final h read = absurd (miss starts_none 7 tt h)
-no-start-of line.Malformed h read = refl
+pub no_start_of : (l : Line) → Tagged starts_none l → (read : List ℕ) → rule.start_of (line_as l read) ≡ none
+no_start_of (line.Parallelism n) h read = refl
+no_start_of (line.Places n) h read = refl
+no_start_of (line.Set n) h read = absurd (miss starts_none 2 tt h)
+no_start_of (line.Lane n) h read = absurd (miss starts_none 3 tt h)
+no_start_of (line.Inputs n) h read = absurd (miss starts_none 4 tt h)
+no_start_of (line.Outputs n) h read = refl
+no_start_of line.Flush h read = absurd (miss starts_none 6 tt h)
+no_start_of line.Final h read = absurd (miss starts_none 7 tt h)
+no_start_of line.Malformed h read = refl
 
-abbrev pub but-inputs : List ℕ
-but-inputs = 0 ∷ 1 ∷ 2 ∷ 3 ∷ 5 ∷ 6 ∷ 7 ∷ 8 ∷ []
+abbrev pub but_inputs : List ℕ
+but_inputs = 0 ∷ 1 ∷ 2 ∷ 3 ∷ 5 ∷ 6 ∷ 7 ∷ 8 ∷ []
 
-pub no-inputs-of : (l : Line) → Tagged but-inputs l → (read : List ℕ) → rule.inputs-of (line_as l read) ≡ none
-no-inputs-of (line.Parallelism n) h read = refl
-no-inputs-of (line.Places n) h read = refl
-no-inputs-of (line.Set n) h read = refl
-no-inputs-of (line.Lane n) h read = refl
-no-inputs-of (line.Inputs n) h read = absurd (miss but-inputs 4 tt h)
-no-inputs-of (line.Outputs n) h read = refl
-no-inputs-of line.Flush h read = refl
-no-inputs-of line.Final h read = refl
-no-inputs-of line.Malformed h read = refl
+pub no_inputs_of : (l : Line) → Tagged but_inputs l → (read : List ℕ) → rule.inputs_of (line_as l read) ≡ none
+no_inputs_of (line.Parallelism n) h read = refl
+no_inputs_of (line.Places n) h read = refl
+no_inputs_of (line.Set n) h read = refl
+no_inputs_of (line.Lane n) h read = refl
+no_inputs_of (line.Inputs n) h read = absurd (miss but_inputs 4 tt h)
+no_inputs_of (line.Outputs n) h read = refl
+no_inputs_of line.Flush h read = refl
+no_inputs_of line.Final h read = refl
+no_inputs_of line.Malformed h read = refl
 
-abbrev pub but-outputs : List ℕ
-but-outputs = 0 ∷ 1 ∷ 2 ∷ 3 ∷ 4 ∷ 6 ∷ 7 ∷ 8 ∷ []
+abbrev pub but_outputs : List ℕ
+but_outputs = 0 ∷ 1 ∷ 2 ∷ 3 ∷ 4 ∷ 6 ∷ 7 ∷ 8 ∷ []
 
-pub no-outputs-of : (l : Line) → Tagged but-outputs l → (read : List ℕ) → rule.outputs-of (line_as l read) ≡ none
-no-outputs-of (line.Parallelism n) h read = refl
-no-outputs-of (line.Places n) h read = refl
-no-outputs-of (line.Set n) h read = refl
-no-outputs-of (line.Lane n) h read = refl
-no-outputs-of (line.Inputs n) h read = refl
-no-outputs-of (line.Outputs n) h read = absurd (miss but-outputs 5 tt h)
-no-outputs-of line.Flush h read = refl
-no-outputs-of line.Final h read = refl
-no-outputs-of line.Malformed h read = refl
+pub no_outputs_of : (l : Line) → Tagged but_outputs l → (read : List ℕ) → rule.outputs_of (line_as l read) ≡ none
+no_outputs_of (line.Parallelism n) h read = refl
+no_outputs_of (line.Places n) h read = refl
+no_outputs_of (line.Set n) h read = refl
+no_outputs_of (line.Lane n) h read = refl
+no_outputs_of (line.Inputs n) h read = refl
+no_outputs_of (line.Outputs n) h read = absurd (miss but_outputs 5 tt h)
+no_outputs_of line.Flush h read = refl
+no_outputs_of line.Final h read = refl
+no_outputs_of line.Malformed h read = refl
 
-abbrev pub but-parallelism : List ℕ
-but-parallelism = 1 ∷ 2 ∷ 3 ∷ 4 ∷ 5 ∷ 6 ∷ 7 ∷ 8 ∷ []
+abbrev pub but_parallelism : List ℕ
+but_parallelism = 1 ∷ 2 ∷ 3 ∷ 4 ∷ 5 ∷ 6 ∷ 7 ∷ 8 ∷ []
 
-pub no-parallelism-of : (l : Line) → Tagged but-parallelism l → (read : List ℕ) → rule.parallelism-of (line_as l read) ≡ none
-no-parallelism-of (line.Parallelism n) h read = absurd (miss but-parallelism 0 tt h)
-no-parallelism-of (line.Places n) h read = refl
-no-parallelism-of (line.Set n) h read = refl
-no-parallelism-of (line.Lane n) h read = refl
-no-parallelism-of (line.Inputs n) h read = refl
-no-parallelism-of (line.Outputs n) h read = refl
-no-parallelism-of line.Flush h read = refl
-no-parallelism-of line.Final h read = refl
-no-parallelism-of line.Malformed h read = refl
+pub no_parallelism_of : (l : Line) → Tagged but_parallelism l → (read : List ℕ) → rule.parallelism_of (line_as l read) ≡ none
+no_parallelism_of (line.Parallelism n) h read = absurd (miss but_parallelism 0 tt h)
+no_parallelism_of (line.Places n) h read = refl
+no_parallelism_of (line.Set n) h read = refl
+no_parallelism_of (line.Lane n) h read = refl
+no_parallelism_of (line.Inputs n) h read = refl
+no_parallelism_of (line.Outputs n) h read = refl
+no_parallelism_of line.Flush h read = refl
+no_parallelism_of line.Final h read = refl
+no_parallelism_of line.Malformed h read = refl
 
-abbrev pub but-places : List ℕ
-but-places = 0 ∷ 2 ∷ 3 ∷ 4 ∷ 5 ∷ 6 ∷ 7 ∷ 8 ∷ []
+abbrev pub but_places : List ℕ
+but_places = 0 ∷ 2 ∷ 3 ∷ 4 ∷ 5 ∷ 6 ∷ 7 ∷ 8 ∷ []
 
-pub no-places-of : (l : Line) → Tagged but-places l → (read : List ℕ) → rule.places_of (line_as l read) ≡ none
-no-places-of (line.Parallelism n) h read = refl
-no-places-of (line.Places n) h read = absurd (miss but-places 1 tt h)
-no-places-of (line.Set n) h read = refl
-no-places-of (line.Lane n) h read = refl
-no-places-of (line.Inputs n) h read = refl
-no-places-of (line.Outputs n) h read = refl
-no-places-of line.Flush h read = refl
-no-places-of line.Final h read = refl
-no-places-of line.Malformed h read = refl
+pub no_places_of : (l : Line) → Tagged but_places l → (read : List ℕ) → rule.places_of (line_as l read) ≡ none
+no_places_of (line.Parallelism n) h read = refl
+no_places_of (line.Places n) h read = absurd (miss but_places 1 tt h)
+no_places_of (line.Set n) h read = refl
+no_places_of (line.Lane n) h read = refl
+no_places_of (line.Inputs n) h read = refl
+no_places_of (line.Outputs n) h read = refl
+no_places_of line.Flush h read = refl
+no_places_of line.Final h read = refl
+no_places_of line.Malformed h read = refl

@@ -15,12 +15,12 @@ use Rattle.rules.specs.Job as rule
 use Rattle.rules.specs.Job.{lines, ragged}
 use Rattle.jobtext.specs.Text.{before}
 use Rattle.jobtext.specs.Lists.{drop_past}
-use Rattle.jobtext.specs.Pieces.{before-le, lines_more, lines-last, ragged-more, ragged-last}
+use Rattle.jobtext.specs.Pieces.{before_le, lines_more, lines_last, ragged_more, ragged_last}
 use Rattle.jobline.specs.declared.Line.{Line}
 use Rattle.jobline.specs.declared.Line.TheVariants as line
 use Rattle.jobline.specs.Lines.{line_as, listed, LineRead}
-use Rattle.jobcalls.specs.Told.{first-line, other-lines, LineAt, FirstCall, found, malformed, added, after-lane, started, first-call, Follows, NextCall, Begins, AddRead}
-use Rattle.jobcalls.specs.Told.{heading-2, heading-1, heading, HeadRead}
+use Rattle.jobcalls.specs.Told.{first_line, other_lines, LineAt, FirstCall, found, malformed, added, after_lane, started, first_call, Follows, NextCall, Begins, AddRead}
+use Rattle.jobcalls.specs.Told.{heading_2, heading_1, heading, HeadRead}
 use Rattle.jobcalls.specs.declared.Call.TheVariants as call
 use Rattle.jobcalls.specs.declared.Next.{Next}
 use Rattle.jobcalls.specs.declared.Next.TheVariants as next
@@ -28,19 +28,19 @@ use Rattle.jobcalls.specs.declared.Head.TheVariants as head
 
 -- the line that ends at e, or that nothing ends
 module _ (s into : List ℕ) (at off e : ℕ) (inside : at ≤ length s) (half : 2 * off + length s ≤ 2 * length into + at) (found' : e ≡ at + before 10 (drop at s)) where
-  pub line-missing : e ≡ length s → LineAt s at into into off line.Malformed at
-  unfolding lines first-line other-lines
-  line-missing d =
-      let n : lines (drop at s) ≡ [] = lines-last [] (drop at s) (rw (length-drop at s) (omega (arith, d, found'))) in
-      record { reads = rw n; others = rw n; end = refl; within = inside; past = inl refl; room = omega arith; kept = refl; into-past = λ x. refl; into-beyond = refl }
+  pub line_missing : e ≡ length s → LineAt s at into into off line.Malformed at
+  unfolding lines first_line other_lines
+  line_missing d =
+      let n : lines (drop at s) ≡ [] = lines_last [] (drop at s) (rw (length-drop at s) (omega (arith, d, found'))) in
+      record { reads = rw n; others = rw n; end = refl; within = inside; past = inl refl; room = omega arith; kept = refl; into_past = λ x. refl; into_beyond = refl }
 
-  pub line-end : (e ≡ length s → ⊥) → e < length s
-  line-end d = omega (arith, d, found', simp length-drop at (before-le 10 (drop at s)))
+  pub line_end : (e ≡ length s → ⊥) → e < length s
+  line_end d = omega (arith, d, found', simp length-drop at (before_le 10 (drop at s)))
 
-  pub line-found : (exit : List ℕ) (l : Line) → (e ≡ length s → ⊥) → LineRead into exit off (take (e - at) (drop at s)) l → LineAt s at into exit off l (e + 1)
-  unfolding lines first-line other-lines
-  line-found exit l d r =
-      let lt : before 10 (drop at s) < length (drop at s) = rw (length-drop at s) (omega (arith, line-end d, found')) in
+  pub line_found : (exit : List ℕ) (l : Line) → (e ≡ length s → ⊥) → LineRead into exit off (take (e - at) (drop at s)) l → LineAt s at into exit off l (e + 1)
+  unfolding lines first_line other_lines
+  line_found exit l d r =
+      let lt : before 10 (drop at s) < length (drop at s) = rw (length-drop at s) (omega (arith, line_end d, found')) in
       let k : at + suc (before 10 (drop at s)) ≡ e + 1 = omega (arith, found') in
       let j : e - at ≡ before 10 (drop at s) = omega (arith, found') in
       let f : drop (suc (before 10 (drop at s))) (drop at s) ≡ drop (e + 1) s = drop-drop (suc (before 10 (drop at s))) at s ∙ ap (λ (i : ℕ). drop i s) k in
@@ -51,19 +51,19 @@ module _ (s into : List ℕ) (at off e : ℕ) (inside : at ≤ length s) (half :
       record {
         reads = rw n r.reads;
         others = rw n;
-        end = ap ragged (sym f) ∙ sym (ragged-more (drop at s) lt);
-        within = omega (arith, line-end d);
-        past = inr (omega (arith, found', line-end d, simp (length-take, length-drop) at r.few));
+        end = ap ragged (sym f) ∙ sym (ragged_more (drop at s) lt);
+        within = omega (arith, line_end d);
+        past = inr (omega (arith, found', line_end d, simp (length-take, length-drop) at r.few));
         room = r.within;
         kept = r.kept;
-        into-past = r.past;
-        into-beyond = drop_past (off + length (take (e - at) (drop at s)) / 2) (off + (length s - at) / 2) exit into
-            (simp (length-take, length-drop) (omega (arith, line-end d))) r.beyond;
+        into_past = r.past;
+        into_beyond = drop_past (off + length (take (e - at) (drop at s)) / 2) (off + (length s - at) / 2) exit into
+            (simp (length-take, length-drop) (omega (arith, line_end d))) r.beyond;
       }
 
 -- a line by what is told of it
-pub told-as : {s entry exit : List ℕ} {at off after : ℕ} {l m : Line} → LineAt s at entry exit off l after → l ≡ m → LineAt s at entry exit off m after
-told-as {s} {entry} {exit} {at} {off} {after} a e = subst (λ (x : Line). LineAt s at entry exit off x after) e a
+pub told_as : {s entry exit : List ℕ} {at off after : ℕ} {l m : Line} → LineAt s at entry exit off l after → l ≡ m → LineAt s at entry exit off m after
+told_as {s} {entry} {exit} {at} {off} {after} a e = subst (λ (x : Line). LineAt s at entry exit off x after) e a
 
 -- a line that is not malformed: how far it reaches, and what it has left alone
 module _ {s entry exit : List ℕ} {at off after : ℕ} {l : Line} (a : LineAt s at entry exit off l after) (well : l ≡ line.Malformed → ⊥) where
@@ -74,139 +74,139 @@ module _ {s entry exit : List ℕ} {at off after : ℕ} {l : Line} (a : LineAt s
       go (inl e) = absurd (well e)
       go (inr h) = h
 
-  keeps-past : (j : ℕ) → off + listed l ≤ j → drop j exit ≡ drop j entry
-  keeps-past j h = drop_past (off + listed l) j exit entry h (a.into-past well)
+  keeps_past : (j : ℕ) → off + listed l ≤ j → drop j exit ≡ drop j entry
+  keeps_past j h = drop_past (off + listed l) j exit entry h (a.into_past well)
 
 module _ {s entry read : List ℕ} {at after : ℕ} where
   -- the first call, with the first line read
-  starts_with : (n : ℕ) {l : Line} → LineAt s at entry read 0 l after → first-call n (lines (drop at s)) ≡ started n (line_as l read) (lines (drop after s))
-  unfolding first-call
+  starts_with : (n : ℕ) {l : Line} → LineAt s at entry read 0 l after → first_call n (lines (drop at s)) ≡ started n (line_as l read) (lines (drop after s))
+  unfolding first_call
   starts_with n {l} a =
-      ap (λ (x : rule.Line). started n x (other-lines (lines (drop at s)))) (sym a.reads) ∙ ap (started n (line_as l read)) (sym a.others)
+      ap (λ (x : rule.Line). started n x (other_lines (lines (drop at s)))) (sym a.reads) ∙ ap (started n (line_as l read)) (sym a.others)
 
   beyond : (j : ℕ) → length s / 2 ≤ j → {l : Line} → LineAt s at entry read 0 l after → drop j read ≡ drop j entry
-  beyond j h a = drop_past (0 + (length s - at) / 2) j read entry (omega arith) a.into-beyond
+  beyond j h a = drop_past (0 + (length s - at) / 2) j read entry (omega arith) a.into_beyond
 
-  call-beyond : {l : Line} → LineAt s at entry read 0 l after → drop (length s / 2 + 1) read ≡ drop (length s / 2 + 1) entry
-  call-beyond a = beyond (length s / 2 + 1) (omega arith) a
+  call_beyond : {l : Line} → LineAt s at entry read 0 l after → drop (length s / 2 + 1) read ≡ drop (length s / 2 + 1) entry
+  call_beyond a = beyond (length s / 2 + 1) (omega arith) a
 
-  head-beyond : {l : Line} → LineAt s at entry read 0 l after → drop (length s / 2) read ≡ drop (length s / 2) entry
-  head-beyond a = beyond (length s / 2) (omega arith) a
+  head_beyond : {l : Line} → LineAt s at entry read 0 l after → drop (length s / 2) read ≡ drop (length s / 2) entry
+  head_beyond a = beyond (length s / 2) (omega arith) a
 
   -- a call of one line, whose line has no list
   module _ (n : ℕ) {l : Line} (a : LineAt s at entry read 0 l after) (well : l ≡ line.Malformed → ⊥) (bare : listed l ≡ 0) where
     one_follows : Follows s at n n after
     one_follows = record { end = a.end; within = a.within; past = omega (arith, reaches a well) }
 
-    one-keeps : read ≡ entry
-    one-keeps = keeps-past a well 0 (omega (arith, bare))
+    one_keeps : read ≡ entry
+    one_keeps = keeps_past a well 0 (omega (arith, bare))
 
-  pub a-set : (n x : ℕ) → LineAt s at entry read 0 (line.Set x) after → NextCall s at n entry read (next.Call (call.Set x) n after)
+  pub a_set : (n x : ℕ) → LineAt s at entry read 0 (line.Set x) after → NextCall s at n entry read (next.Call (call.Set x) n after)
   unfolding started
-  a-set n x a =
+  a_set n x a =
       let well : line.Set x ≡ line.Malformed → ⊥ = λ e. let z : ◌≡◌ {A = ℕ} 0 1 = cc in omega arith in
-      record { is = starts_with n a; next = one_follows n a well refl; into = (omega arith, one-keeps n a well refl); listed = omega arith; into-beyond = call-beyond a }
+      record { is = starts_with n a; next = one_follows n a well refl; into = (omega arith, one_keeps n a well refl); listed = omega arith; into_beyond = call_beyond a }
 
-  pub a-flush : (n : ℕ) → LineAt s at entry read 0 line.Flush after → NextCall s at n entry read (next.Call call.Flush n after)
+  pub a_flush : (n : ℕ) → LineAt s at entry read 0 line.Flush after → NextCall s at n entry read (next.Call call.Flush n after)
   unfolding started
-  a-flush n a =
+  a_flush n a =
       let well : line.Flush ≡ line.Malformed → ⊥ = λ e. let z : ◌≡◌ {A = ℕ} 0 1 = cc in omega arith in
-      record { is = starts_with n a; next = one_follows n a well refl; into = (omega arith, one-keeps n a well refl); listed = omega arith; into-beyond = call-beyond a }
+      record { is = starts_with n a; next = one_follows n a well refl; into = (omega arith, one_keeps n a well refl); listed = omega arith; into_beyond = call_beyond a }
 
-  pub a-final : (n : ℕ) → LineAt s at entry read 0 line.Final after → NextCall s at n entry read (next.Final n after)
+  pub a_final : (n : ℕ) → LineAt s at entry read 0 line.Final after → NextCall s at n entry read (next.Final n after)
   unfolding started
-  a-final n a =
+  a_final n a =
       let well : line.Final ≡ line.Malformed → ⊥ = λ e. let z : ◌≡◌ {A = ℕ} 0 1 = cc in omega arith in
-      record { is = starts_with n a; next = one_follows n a well refl; into = one-keeps n a well refl; listed = tt; into-beyond = call-beyond a }
+      record { is = starts_with n a; next = one_follows n a well refl; into = one_keeps n a well refl; listed = tt; into_beyond = call_beyond a }
 
   -- a line with which no call starts
   pub no_start : (n : ℕ) {l : Line} → ((r : List ℕ) → rule.start_of (line_as l r) ≡ none) → LineAt s at entry read 0 l after → NextCall s at n entry read (next.Malformed n)
   unfolding started
-  no_start n e a = record { is = starts_with n a ∙ rw (started, e read); next = tt; into = tt; listed = tt; into-beyond = call-beyond a }
+  no_start n e a = record { is = starts_with n a ∙ rw (started, e read); next = tt; into = tt; listed = tt; into_beyond = call_beyond a }
 
 -- an add begins with its i inputs
 module _ {s entry mid : List ℕ} {at after : ℕ} (i : ℕ) (a : LineAt s at entry mid 0 (line.Inputs i) after) where
-  well-in : line.Inputs i ≡ line.Malformed → ⊥
-  well-in e = let z : ◌≡◌ {A = ℕ} 0 1 = cc in omega arith
+  well_in : line.Inputs i ≡ line.Malformed → ⊥
+  well_in e = let z : ◌≡◌ {A = ℕ} 0 1 = cc in omega arith
 
   -- what reading its last line asks
-  pub inputs-half : 2 * i ≤ after
-  inputs-half = omega (arith, reaches a well-in)
+  pub inputs_half : 2 * i ≤ after
+  inputs_half = omega (arith, reaches a well_in)
 
-  pub with-inputs : (n : ℕ) → Begins s at n entry mid 0 i (n + 1) after
+  pub with_inputs : (n : ℕ) → Begins s at n entry mid 0 i (n + 1) after
   unfolding started
-  with-inputs n =
+  with_inputs n =
       record {
-        is = starts_with n a ∙ ap (λ (j : ℕ). added j 0 (take i mid) (first-line (lines (drop after s))) (other-lines (lines (drop after s)))) (sym (add-one n));
+        is = starts_with n a ∙ ap (λ (j : ℕ). added j 0 (take i mid) (first_line (lines (drop after s))) (other_lines (lines (drop after s)))) (sym (add-one n));
         end = a.end;
-        past = omega (arith, reaches a well-in);
-        into-past = keeps-past a well-in i (omega arith);
+        past = omega (arith, reaches a well_in);
+        into_past = keeps_past a well_in i (omega arith);
       }
 
 -- an add begins with its lane: then its inputs must come
 module _ {s entry mid : List ℕ} {at after : ℕ} (lane : ℕ) (a : LineAt s at entry mid 0 (line.Lane lane) after) where
-  well-lane : line.Lane lane ≡ line.Malformed → ⊥
-  well-lane e = let z : ◌≡◌ {A = ℕ} 0 1 = cc in omega arith
+  well_lane : line.Lane lane ≡ line.Malformed → ⊥
+  well_lane e = let z : ◌≡◌ {A = ℕ} 0 1 = cc in omega arith
 
-  lane-keeps : mid ≡ entry
-  lane-keeps = keeps-past a well-lane 0 (omega arith)
+  lane_keeps : mid ≡ entry
+  lane_keeps = keeps_past a well_lane 0 (omega arith)
 
   module _ (n : ℕ) {read : List ℕ} {end : ℕ} {m : Line} (b : LineAt s after mid read 0 m end) where
-    goes_with : first-call n (lines (drop at s)) ≡ after-lane (n + 1) lane (line_as m read) (lines (drop end s))
+    goes_with : first_call n (lines (drop at s)) ≡ after_lane (n + 1) lane (line_as m read) (lines (drop end s))
     unfolding started
     goes_with =
-        starts_with n a ∙ ap (λ (j : ℕ). after-lane j lane (first-line (lines (drop after s))) (other-lines (lines (drop after s)))) (sym (add-one n))
-        ∙ ap (λ (x : rule.Line). after-lane (n + 1) lane x (other-lines (lines (drop after s)))) (sym b.reads)
-        ∙ ap (after-lane (n + 1) lane (line_as m read)) (sym b.others)
+        starts_with n a ∙ ap (λ (j : ℕ). after_lane j lane (first_line (lines (drop after s))) (other_lines (lines (drop after s)))) (sym (add-one n))
+        ∙ ap (λ (x : rule.Line). after_lane (n + 1) lane x (other_lines (lines (drop after s)))) (sym b.reads)
+        ∙ ap (after_lane (n + 1) lane (line_as m read)) (sym b.others)
 
-    pub no-inputs : ((r : List ℕ) → rule.inputs-of (line_as m r) ≡ none) → NextCall s at n entry read (next.Malformed (n + 1))
-    unfolding after-lane
-    no-inputs e = record { is = goes_with ∙ rw (after-lane, e read); next = tt; into = tt; listed = tt; into-beyond = call-beyond b ∙ ap (drop (length s / 2 + 1)) lane-keeps }
+    pub no_inputs : ((r : List ℕ) → rule.inputs_of (line_as m r) ≡ none) → NextCall s at n entry read (next.Malformed (n + 1))
+    unfolding after_lane
+    no_inputs e = record { is = goes_with ∙ rw (after_lane, e read); next = tt; into = tt; listed = tt; into_beyond = call_beyond b ∙ ap (drop (length s / 2 + 1)) lane_keeps }
 
-  pub with-lane : (n : ℕ) {read : List ℕ} {end : ℕ} (i : ℕ) → LineAt s after mid read 0 (line.Inputs i) end → Begins s at n entry read lane i (n + 2) end
-  unfolding after-lane
-  with-lane n {read} {end} i b =
+  pub with_lane : (n : ℕ) {read : List ℕ} {end : ℕ} (i : ℕ) → LineAt s after mid read 0 (line.Inputs i) end → Begins s at n entry read lane i (n + 2) end
+  unfolding after_lane
+  with_lane n {read} {end} i b =
       let k : suc (n + 1) ≡ n + 2 = omega arith in
       record {
-        is = goes_with n b ∙ ap (λ (j : ℕ). added j lane (take i read) (first-line (lines (drop end s))) (other-lines (lines (drop end s)))) k;
+        is = goes_with n b ∙ ap (λ (j : ℕ). added j lane (take i read) (first_line (lines (drop end s))) (other_lines (lines (drop end s)))) k;
         end = b.end ∙ a.end;
-        past = omega (arith, reaches a well-lane, reaches b (well-in i b));
-        into-past = keeps-past b (well-in i b) i (omega arith) ∙ ap (drop i) lane-keeps;
+        past = omega (arith, reaches a well_lane, reaches b (well_in i b));
+        into_past = keeps_past b (well_in i b) i (omega arith) ∙ ap (drop i) lane_keeps;
       }
 
 -- the last line of an add: its outputs go behind its i inputs and a free number
 module _ {s mid read : List ℕ} {after end : ℕ} (m lane i : ℕ) (low : 2 * i ≤ after) (inside : after ≤ length s) where
   module _ {l : Line} (b : LineAt s after mid read (i + 1) l end) {at n : ℕ} {entry : List ℕ} (a : Begins s at n entry mid lane i m after) where
-    ends_with : first-call n (lines (drop at s)) ≡ added m lane (take i mid) (line_as l (drop (i + 1) read)) (lines (drop end s))
+    ends_with : first_call n (lines (drop at s)) ≡ added m lane (take i mid) (line_as l (drop (i + 1) read)) (lines (drop end s))
     ends_with =
-        a.is ∙ ap (λ (x : rule.Line). added m lane (take i mid) x (other-lines (lines (drop after s)))) (sym b.reads)
+        a.is ∙ ap (λ (x : rule.Line). added m lane (take i mid) x (other_lines (lines (drop after s)))) (sym b.reads)
         ∙ ap (added m lane (take i mid) (line_as l (drop (i + 1) read))) (sym b.others)
 
-    begun-past : (j : ℕ) → i ≤ j → drop j mid ≡ drop j entry
-    begun-past j h = drop_past i j mid entry h a.into-past
+    begun_past : (j : ℕ) → i ≤ j → drop j mid ≡ drop j entry
+    begun_past j h = drop_past i j mid entry h a.into_past
 
     -- the inputs were left alone
-    inputs-stay : take i mid ≡ take i read
-    inputs-stay = sym (take-take i (i + 1) mid (omega arith)) ∙ ap (take i) (sym b.kept) ∙ take-take i (i + 1) read (omega arith)
+    inputs_stay : take i mid ≡ take i read
+    inputs_stay = sym (take-take i (i + 1) mid (omega arith)) ∙ ap (take i) (sym b.kept) ∙ take-take i (i + 1) read (omega arith)
 
-    both-beyond : drop (length s / 2 + 1) read ≡ drop (length s / 2 + 1) entry
-    both-beyond =
-        drop_past (i + 1 + (length s - after) / 2) (length s / 2 + 1) read mid (omega arith) b.into-beyond ∙ begun-past (length s / 2 + 1) (omega arith)
+    both_beyond : drop (length s / 2 + 1) read ≡ drop (length s / 2 + 1) entry
+    both_beyond =
+        drop_past (i + 1 + (length s - after) / 2) (length s / 2 + 1) read mid (omega arith) b.into_beyond ∙ begun_past (length s / 2 + 1) (omega arith)
 
-  pub no-outputs : {l : Line} → LineAt s after mid read (i + 1) l end → ((r : List ℕ) → rule.outputs-of (line_as l r) ≡ none) → AddRead s after m lane i mid read (next.Malformed m)
+  pub no_outputs : {l : Line} → LineAt s after mid read (i + 1) l end → ((r : List ℕ) → rule.outputs_of (line_as l r) ≡ none) → AddRead s after m lane i mid read (next.Malformed m)
   unfolding added
-  no-outputs b e at n entry a = record { is = ends_with b a ∙ rw (added, e (drop (i + 1) read)); next = tt; into = tt; listed = tt; into-beyond = both-beyond b a }
+  no_outputs b e at n entry a = record { is = ends_with b a ∙ rw (added, e (drop (i + 1) read)); next = tt; into = tt; listed = tt; into_beyond = both_beyond b a }
 
-  pub an-add : (o : ℕ) → LineAt s after mid read (i + 1) (line.Outputs o) end → AddRead s after m lane i mid read (next.Call (call.Add lane i o) m end)
+  pub an_add : (o : ℕ) → LineAt s after mid read (i + 1) (line.Outputs o) end → AddRead s after m lane i mid read (next.Call (call.Add lane i o) m end)
   unfolding added
-  an-add o b at n entry a =
+  an_add o b at n entry a =
       let well : line.Outputs o ≡ line.Malformed → ⊥ = λ e. let z : ◌≡◌ {A = ℕ} 0 1 = cc in omega arith in
       record {
-        is = ends_with b a ∙ ap (λ (y : List ℕ). found (calls.add lane y (take o (drop (i + 1) read))) m (lines (drop end s))) (inputs-stay b a);
+        is = ends_with b a ∙ ap (λ (y : List ℕ). found (calls.add lane y (take o (drop (i + 1) read))) m (lines (drop end s))) (inputs_stay b a);
         next = record { end = b.end ∙ a.end; within = b.within; past = omega (arith, a.past, reaches b well) };
-        into = (b.room, keeps-past b well (i + 1 + o) (omega arith) ∙ begun-past b a (i + 1 + o) (omega arith));
+        into = (b.room, keeps_past b well (i + 1 + o) (omega arith) ∙ begun_past b a (i + 1 + o) (omega arith));
         listed = omega (arith, low, reaches b well, b.within);
-        into-beyond = both-beyond b a;
+        into_beyond = both_beyond b a;
       }
 
 -- a call by what is told of it
@@ -228,7 +228,7 @@ some_left [] h = absurd (h refl)
 some_left (b ∷ l) h =
     elim (dec_lt (before 10 (b ∷ l)) (length (b ∷ l))) [
       | yes lt ↦ inr (_, (_, lines_more [] (b ∷ l) lt))
-      | no ge ↦ inl (lines-last [] (b ∷ l) (omega arith), ragged-last b l (omega arith))
+      | no ge ↦ inl (lines_last [] (b ∷ l) (omega arith), ragged_last b l (omega arith))
     ]
 
 -- the line of a call is its first, or one of the two after it
@@ -239,9 +239,9 @@ line_of (malformed m) = m
 abbrev pub Near : ℕ → FirstCall → Type 0
 Near n f = (n ≤ line_of f) × (line_of f ≤ n + 2)
 
-pub line-near : (n : ℕ) (ls : List (List ℕ)) → Near n (first-call n ls)
-unfolding first-call started after-lane added
-line-near n ls = near (rule.start_of (first-line ls)) (other-lines ls)
+pub line_near : (n : ℕ) (ls : List (List ℕ)) → Near n (first_call n ls)
+unfolding first_call started after_lane added
+line_near n ls = near (rule.start_of (first_line ls)) (other_lines ls)
   where
     ends : (x : Option (List ℕ)) (m lane : ℕ) (ins : List ℕ) (rest : List (List ℕ)) → n ≤ m → m ≤ n + 2
         → Near n (elim x [ some outs ↦ found (calls.add lane ins outs) m rest | none ↦ malformed m ])
@@ -249,62 +249,62 @@ line-near n ls = near (rule.start_of (first-line ls)) (other-lines ls)
     ends (some outs) m lane ins rest a b = (a, b)
 
     goes_on : (x : Option (List ℕ)) (lane : ℕ) (rest : List (List ℕ))
-        → Near n (elim x [ some ins ↦ added (suc (suc n)) lane ins (first-line rest) (other-lines rest) | none ↦ malformed (suc n) ])
+        → Near n (elim x [ some ins ↦ added (suc (suc n)) lane ins (first_line rest) (other_lines rest) | none ↦ malformed (suc n) ])
     goes_on none lane rest = (omega arith, omega arith)
-    goes_on (some ins) lane rest = ends (rule.outputs-of (first-line rest)) (suc (suc n)) lane ins (other-lines rest) (omega arith) (omega arith)
+    goes_on (some ins) lane rest = ends (rule.outputs_of (first_line rest)) (suc (suc n)) lane ins (other_lines rest) (omega arith) (omega arith)
 
     near : (x : Option rule.Start) (rest : List (List ℕ))
         → Near n (
         elim x [
           | some (rule.single c) ↦ found c n rest
-          | some (rule.label lane) ↦ after-lane (suc n) lane (first-line rest) (other-lines rest)
-          | some (rule.inputs ins) ↦ added (suc n) 0 ins (first-line rest) (other-lines rest)
+          | some (rule.label lane) ↦ after_lane (suc n) lane (first_line rest) (other_lines rest)
+          | some (rule.inputs ins) ↦ added (suc n) 0 ins (first_line rest) (other_lines rest)
           | some rule.last ↦ found calls.final n rest
           | none ↦ malformed n
         ]
         )
     near none rest = (omega arith, omega arith)
     near (some (rule.single c)) rest = (omega arith, omega arith)
-    near (some (rule.label lane)) rest = goes_on (rule.inputs-of (first-line rest)) lane (other-lines rest)
-    near (some (rule.inputs ins)) rest = ends (rule.outputs-of (first-line rest)) (suc n) 0 ins (other-lines rest) (omega arith) (omega arith)
+    near (some (rule.label lane)) rest = goes_on (rule.inputs_of (first_line rest)) lane (other_lines rest)
+    near (some (rule.inputs ins)) rest = ends (rule.outputs_of (first_line rest)) (suc n) 0 ins (other_lines rest) (omega arith) (omega arith)
     near (some rule.last) rest = (omega arith, omega arith)
 
 -- the head: line 1, then line 2
 module _ {s entry mid : List ℕ} {after : ℕ} where
-  heads-with : {l : Line} → LineAt s 0 entry mid 0 l after → heading (lines s) ≡ heading-1 (line_as l mid) (lines (drop after s))
+  heads_with : {l : Line} → LineAt s 0 entry mid 0 l after → heading (lines s) ≡ heading_1 (line_as l mid) (lines (drop after s))
   unfolding heading
-  heads-with {l} a = ap (λ (x : rule.Line). heading-1 x (other-lines (lines s))) (sym a.reads) ∙ ap (heading-1 (line_as l mid)) (sym a.others)
+  heads_with {l} a = ap (λ (x : rule.Line). heading_1 x (other_lines (lines s))) (sym a.reads) ∙ ap (heading_1 (line_as l mid)) (sym a.others)
 
-  pub no-line-1 : {l : Line} → ((r : List ℕ) → rule.parallelism-of (line_as l r) ≡ none) → LineAt s 0 entry mid 0 l after → HeadRead s (head.Malformed 1) entry mid
-  unfolding heading-1
-  no-line-1 e a = record { is = heads-with a ∙ rw (heading-1, e mid); starts = omega arith; into = head-beyond a }
+  pub no_line_1 : {l : Line} → ((r : List ℕ) → rule.parallelism_of (line_as l r) ≡ none) → LineAt s 0 entry mid 0 l after → HeadRead s (head.Malformed 1) entry mid
+  unfolding heading_1
+  no_line_1 e a = record { is = heads_with a ∙ rw (heading_1, e mid); starts = omega arith; into = head_beyond a }
 
   module _ (P : ℕ) (a : LineAt s 0 entry mid 0 (line.Parallelism P) after) where
-    well-1 : line.Parallelism P ≡ line.Malformed → ⊥
-    well-1 e = let z : ◌≡◌ {A = ℕ} 0 1 = cc in omega arith
+    well_1 : line.Parallelism P ≡ line.Malformed → ⊥
+    well_1 e = let z : ◌≡◌ {A = ℕ} 0 1 = cc in omega arith
 
-    first-keeps : mid ≡ entry
-    first-keeps = keeps-past a well-1 0 (omega arith)
+    first_keeps : mid ≡ entry
+    first_keeps = keeps_past a well_1 0 (omega arith)
 
-    heads-on : {exit : List ℕ} {end : ℕ} {m : Line} → LineAt s after mid exit 0 m end → heading (lines s) ≡ heading-2 P (line_as m exit) (lines (drop end s))
-    unfolding heading-1
-    heads-on {exit} {end} {m} b =
-        heads-with a ∙ ap (λ (x : rule.Line). heading-2 P x (other-lines (lines (drop after s)))) (sym b.reads) ∙ ap (heading-2 P (line_as m exit)) (sym b.others)
+    heads_on : {exit : List ℕ} {end : ℕ} {m : Line} → LineAt s after mid exit 0 m end → heading (lines s) ≡ heading_2 P (line_as m exit) (lines (drop end s))
+    unfolding heading_1
+    heads_on {exit} {end} {m} b =
+        heads_with a ∙ ap (λ (x : rule.Line). heading_2 P x (other_lines (lines (drop after s)))) (sym b.reads) ∙ ap (heading_2 P (line_as m exit)) (sym b.others)
 
-    pub no-line-2 : {exit : List ℕ} {end : ℕ} {m : Line} → ((r : List ℕ) → rule.places_of (line_as m r) ≡ none) → LineAt s after mid exit 0 m end → HeadRead s (head.Malformed 2) entry exit
-    unfolding heading-2
-    no-line-2 {exit} e b = record { is = heads-on b ∙ rw (heading-2, e exit); starts = omega arith; into = head-beyond b ∙ ap (drop (length s / 2)) first-keeps }
+    pub no_line_2 : {exit : List ℕ} {end : ℕ} {m : Line} → ((r : List ℕ) → rule.places_of (line_as m r) ≡ none) → LineAt s after mid exit 0 m end → HeadRead s (head.Malformed 2) entry exit
+    unfolding heading_2
+    no_line_2 {exit} e b = record { is = heads_on b ∙ rw (heading_2, e exit); starts = omega arith; into = head_beyond b ∙ ap (drop (length s / 2)) first_keeps }
 
-    pub the-head : {exit : List ℕ} {end : ℕ} (N : ℕ) → LineAt s after mid exit 0 (line.Places N) end → HeadRead s (head.Sizes P N end) entry exit
-    unfolding heading-2
-    the-head N b =
-        let well-2 : line.Places N ≡ line.Malformed → ⊥ = λ e. let z : ◌≡◌ {A = ℕ} 0 1 = cc in omega arith in
+    pub the_head : {exit : List ℕ} {end : ℕ} (N : ℕ) → LineAt s after mid exit 0 (line.Places N) end → HeadRead s (head.Sizes P N end) entry exit
+    unfolding heading_2
+    the_head N b =
+        let well_2 : line.Places N ≡ line.Malformed → ⊥ = λ e. let z : ◌≡◌ {A = ℕ} 0 1 = cc in omega arith in
         record {
-          is = heads-on b;
-          starts = (omega (arith, reaches a well-1, reaches b well-2), (b.within, b.end ∙ a.end));
-          into = keeps-past b well-2 0 (omega arith) ∙ first-keeps;
+          is = heads_on b;
+          starts = (omega (arith, reaches a well_1, reaches b well_2), (b.within, b.end ∙ a.end));
+          into = keeps_past b well_2 0 (omega arith) ∙ first_keeps;
         }
 
 -- a wrong program shut out: a well-formed head that writes to the storage for numbers
-pub head-writes-none : {s : List ℕ} {P N after : ℕ} {a b : List ℕ} → HeadRead s (head.Sizes P N after) a b → b ≡ a
-head-writes-none r = r.into
+pub head_writes_none : {s : List ℕ} {P N after : ℕ} {a b : List ℕ} → HeadRead s (head.Sizes P N after) a b → b ≡ a
+head_writes_none r = r.into

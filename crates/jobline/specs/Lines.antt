@@ -11,23 +11,23 @@ is_some none = false
 is_some (some l) = true
 
 unfoldable pub begins : List ℕ → List ℕ → Bool
-begins ks s = is_some (rule.after-key ks s)
+begins ks s = is_some (rule.after_key ks s)
 
 -- the line s starts with no key of an add's lines
 pub record NoAdd (s : List ℕ) : Type 0 where
-  pub no-lane : begins rule.key-lane s ≡ false
-  pub no-in : begins rule.key_in s ≡ false
-  pub no-out : begins rule.key-out s ≡ false
+  pub no_lane : begins rule.key_lane s ≡ false
+  pub no_in : begins rule.key_in s ≡ false
+  pub no_out : begins rule.key_out s ≡ false
 
 -- the line that an answer tells, the numbers of its list standing at the start of `read`
 abbrev pub line_as : Line → List ℕ → rule.Line
-line_as (line.Parallelism n) read = rule.parallelism-line n
+line_as (line.Parallelism n) read = rule.parallelism_line n
 line_as (line.Places n) read = rule.places-line n
 line_as (line.Set n) read = rule.set_line n
 line_as (line.Lane n) read = rule.lane-line n
-line_as (line.Inputs n) read = rule.in-line (take n read)
+line_as (line.Inputs n) read = rule.in_line (take n read)
 line_as (line.Outputs n) read = rule.out_line (take n read)
-line_as line.Flush read = rule.flush-line
+line_as line.Flush read = rule.flush_line
 line_as line.Final read = rule.final-line
 line_as line.Malformed read = rule.malformed
 

@@ -1,8 +1,8 @@
 // What a job needs, read off its lines: registrations, the numbers in their lists and plain flushes. Nothing is run.
 ghost use Rattle.std.specs.Prelude.{◌≡◌, length};
 ghost use Rattle.rules.specs.Needs as rules;
-ghost use Rattle.jobneeds.specs.Told.{needs-of, reading-as, Countable, Counts, Few, remains, MayRead};
-ghost use Rattle.jobneeds.specs.Layout.{needs-result, needs-after};
+ghost use Rattle.jobneeds.specs.Told.{needs_of, reading_as, Countable, Counts, Few, remains, MayRead};
+ghost use Rattle.jobneeds.specs.Layout.{needs_result, needs_after};
 
 use jobcalls::{Call, Head, Next};
 
@@ -56,7 +56,7 @@ fn count(c: Needs, call: Call) -> Needs
 // Reads the calls from `start` on, which is line 3.
 fn read_calls(job: &[u8], start: usize, into: &mut [u64]) -> Reading
     requires { MayRead job.now (length into.old) start }
-    ensures { reading-as result ≡ remains job.now start 3 rules.no-needs }
+    ensures { reading_as result ≡ remains job.now start 3 rules.no_needs }
 {
     let mut needs = Needs {
         registrations: 0,
@@ -96,7 +96,7 @@ fn read_calls(job: &[u8], start: usize, into: &mut [u64]) -> Reading
 // What a job of any length needs. The lists of one that is not too long have at most half as many numbers as it has bytes, and between those of
 // an add one number is left free.
 pub fn read_needs(job: &[u8]) -> Reading
-    ensures { reading-as result ≡ rules.needs job.now }
+    ensures { reading_as result ≡ rules.needs job.now }
 {
     if job.len() > rules::MOST_JOB_BYTES {
         let code = rules::LONG_JOB;
@@ -115,8 +115,8 @@ pub fn read_needs(job: &[u8]) -> Reading
 
 // A ceiling on the spans that running the job releases; final flushes too.
 fn most_spans(c: Needs) -> u64
-    requires { Few (needs-of c) }
-    ensures { result ≡ rules.most-spans (needs-of c) }
+    requires { Few (needs_of c) }
+    ensures { result ≡ rules.most_spans (needs_of c) }
 {
     SPANS_A_PLACING * c.registrations + SPANS_A_FLUSH * (c.flushes + 1)
 }
@@ -125,8 +125,8 @@ fn most_spans(c: Needs) -> u64
 // running it releases; or for a refusal 64 times the line plus the number, and `needs` untouched.
 #[unsafe(no_mangle)]
 pub extern "C" fn job_needs(job: &[u8], needs: &mut [u64; 4]) -> u64
-    ensures result { result ≡ needs-result (rules.needs job.now) }
-    ensures written { needs.new ≡ needs-after (rules.needs job.now) needs.old }
+    ensures result { result ≡ needs_result (rules.needs job.now) }
+    ensures written { needs.new ≡ needs_after (rules.needs job.now) needs.old }
 {
     let read = read_needs(job);
     match read {

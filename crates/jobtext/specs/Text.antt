@@ -17,13 +17,13 @@ before b (x ∷ l) = elim (eqb x b) [ true ↦ 0 | false ↦ suc (before b l) ]
 
 -- "From any start it finds the first byte 10 there or later, or truly none" (document 02, M-102): its place, or the length where there is
 -- none; so too from a start past the bytes
-unfoldable pub line-end : List ℕ → ℕ → ℕ
-line-end s from = elim (leb from (length s)) [ true ↦ from + before newline (drop from s) | false ↦ length s ]
+unfoldable pub line_end : List ℕ → ℕ → ℕ
+line_end s from = elim (leb from (length s)) [ true ↦ from + before newline (drop from s) | false ↦ length s ]
 
 -- the n lowest bytes of a number, the lowest first
-unfoldable pub low-bytes : ℕ → ℕ → List ℕ
-low-bytes zero w = []
-low-bytes (suc n) w = (w % 256) ∷ low-bytes n (w / 256)
+unfoldable pub low_bytes : ℕ → ℕ → List ℕ
+low_bytes zero w = []
+low_bytes (suc n) w = (w % 256) ∷ low_bytes n (w / 256)
 
 -- bytes as one number, the first lowest: 128 for each that is 10, 0 for every other
 unfoldable pub marks : List ℕ → ℕ
@@ -39,7 +39,7 @@ pub record GoesOn (s : List ℕ) (from i : ℕ) : Type 0 where
 -- it has passed over bytes without a 10, as far as n at a time go: of the next n one is 10, or fewer are left
 pub record Passed (n : ℕ) (s : List ℕ) (from i : ℕ) : Type 0 where
   pub goes_on : GoesOn s from i
-  pub no-further : (member newline (take n (drop i s)) ≡ true) ⊎ (length s < i + n)
+  pub no_further : (member newline (take n (drop i s)) ≡ true) ⊎ (length s < i + n)
 
 -- the number that an answer tells
 abbrev pub value_of : Number → Option ℕ

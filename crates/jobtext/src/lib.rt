@@ -1,8 +1,8 @@
 // The text of a job below its lines: the first byte of a kind, the end of a line, a number, a list of numbers.
 ghost use Rattle.std.specs.Prelude.{[], ◌∷◌, ◌++◌, ◌≡◌, ◌+◌, ◌*◌, ◌≤◌, ◌<◌, length, take, drop};
 ghost use Rattle.rules.specs.Model.{member};
-ghost use Rattle.rules.specs.Job.{digits_from, in-64-bits, number as Job·number, list};
-ghost use Rattle.jobtext.specs.Text.{before, line-end, low-bytes, marks, Passed, value_of, ListRead};
+ghost use Rattle.rules.specs.Job.{digits_from, in_64_bits, number as Job·number, list};
+ghost use Rattle.jobtext.specs.Text.{before, line_end, low_bytes, marks, Passed, value_of, ListRead};
 
 // The place of the first byte `b` at or after `from`, or the length where there is none.
 pub fn find(s: &[u8], from: usize, b: u8) -> usize
@@ -21,7 +21,7 @@ pub fn find(s: &[u8], from: usize, b: u8) -> usize
 
 // Two bytes as one number, the first lowest.
 fn u16_of(a: u8, b: u8) -> u16
-    ensures { low-bytes 2 result ≡ a ∷ (b ∷ []) }
+    ensures { low_bytes 2 result ≡ a ∷ (b ∷ []) }
 {
     (b as u16) * 256 + (a as u16)
 }
@@ -29,14 +29,14 @@ fn u16_of(a: u8, b: u8) -> u16
 // The two bytes from i on; the four; the eight. The compiler makes one load of all.
 fn u16_at(s: &[u8], i: usize) -> u16
     requires { i + 2 ≤ length s.now }
-    ensures { low-bytes 2 result ≡ take 2 (drop i s.now) }
+    ensures { low_bytes 2 result ≡ take 2 (drop i s.now) }
 {
     u16_of(s[i], s[i + 1])
 }
 
 fn u32_at(s: &[u8], i: usize) -> u32
     requires { i + 4 ≤ length s.now }
-    ensures { low-bytes 4 result ≡ take 4 (drop i s.now) }
+    ensures { low_bytes 4 result ≡ take 4 (drop i s.now) }
 {
     let low = u16_at(s, i);
     let high = u16_at(s, i + 2);
@@ -45,7 +45,7 @@ fn u32_at(s: &[u8], i: usize) -> u32
 
 fn word_at(s: &[u8], i: usize) -> u64
     requires { i + 8 ≤ length s.now }
-    ensures { low-bytes 8 result ≡ take 8 (drop i s.now) }
+    ensures { low_bytes 8 result ≡ take 8 (drop i s.now) }
 {
     let low = u32_at(s, i);
     let high = u32_at(s, i + 4);
@@ -62,7 +62,7 @@ const EIGHTH: u64 = 0x8080808080808080;
 // The eighth bit of each byte of a word that is 10, and no other bit. A byte that differs from 10, in its low seven bits or in its eighth,
 // has its eighth bit set before the last step, and no sum carries from a byte into the next.
 fn newlines(w: u64) -> u64
-    ensures { result ≡ marks (low-bytes 8 w) }
+    ensures { result ≡ marks (low_bytes 8 w) }
 {
     let x = w ^ NEWLINES;
     let y = (x & LOW_SEVEN) + LOW_SEVEN;
@@ -71,7 +71,7 @@ fn newlines(w: u64) -> u64
 
 // How many of a word's bytes stand before its first 10: 8 where none is 10.
 fn newline_in(w: u64) -> usize
-    ensures { result ≡ before 10 (low-bytes 8 w) }
+    ensures { result ≡ before 10 (low_bytes 8 w) }
 {
     let m = newlines(w);
     (u64::trailing_zeros(m) / 8) as usize
@@ -79,7 +79,7 @@ fn newline_in(w: u64) -> usize
 
 // Whether one of two words' bytes is 10, by one test.
 fn either_has_newline(v: u64, w: u64) -> bool
-    ensures { result ≡ member 10 (low-bytes 8 v ++ low-bytes 8 w) }
+    ensures { result ≡ member 10 (low_bytes 8 v ++ low_bytes 8 w) }
 {
     (newlines(v) | newlines(w)) != 0
 }
@@ -122,7 +122,7 @@ pub fn line_end(s: &[u8], from: usize) -> usize
 // The same from any start: the length where it lies past the bytes.
 #[unsafe(no_mangle)]
 pub extern "C" fn job_line_end(job: &[u8], from: usize) -> usize
-    ensures { result ≡ line-end job.now from }
+    ensures { result ≡ line_end job.now from }
 {
     if job.len() < from {
         return job.len();
@@ -138,7 +138,7 @@ pub enum Number {
 
 // Digits, with a value of 64 bits; it stops at the first digit that passes them.
 fn digits(s: &[u8]) -> Number
-    ensures { value_of result ≡ in-64-bits (digits_from 0 s.now) }
+    ensures { value_of result ≡ in_64_bits (digits_from 0 s.now) }
 {
     let mut x: u64 = 0;
     let mut i = 0;

@@ -34,15 +34,15 @@ pub record AfterFinal (number m next long : ℕ) (f : EndFigures) (r : Step) : T
   pub last : number ≡ 0 → next ≡ long → r ≡ step'.Ended (end.Finished f)
 
 -- the numbers of a finished job, by the session after final and the figures of its summary
-abbrev pub end-figures : Session → rule.Figures → EndFigures
-end-figures s f = record { parallelism = s.guide.p; written = s.guide.written; places = s.places; median = f.median }
+abbrev pub end_figures : Session → rule.Figures → EndFigures
+end_figures s f = record { parallelism = s.guide.p; written = s.guide.written; places = s.places; median = f.median }
 
 -- final was made, and what follows it
 pub record FinalMade (m next long : ℕ) (s : Session) (r : Step) (s' : Session) (σ σ' : Storage) : Type 0 where
   pub number : ℕ
   pub figures : rule.Figures
   pub concludes : Concludes number s s' σ σ' figures
-  pub follows : AfterFinal number m next long (end-figures s' figures) r
+  pub follows : AfterFinal number m next long (end_figures s' figures) r
 
 -- what the rules make of the job from `at` on, which is line n, for the model k: how it ends, and the model that it reaches
 unfoldable pub remains : ℕ → ℕ → ℕ → List ℕ → ℕ → ℕ → Model → Run
@@ -73,10 +73,10 @@ pub record Surplus (P N W : ℕ) (k : Model) (s' : Session) (σ' : Storage) (m c
 
 -- the numbers that the end of a job tells: P, and of its model the order's length, the places that final fixed and the median of its summary
 pub record FiguresOf (P : ℕ) (k : Model) (f : EndFigures) : Type 0 where
-  pub parallelism-is : f.parallelism ≡ P
+  pub parallelism_is : f.parallelism ≡ P
   pub written_is : f.written ≡ length k.guide.order
   pub places_is : f.places ≡ k.recorded.places
-  pub median-is : f.median ≡ median (tally P k.guide.order)
+  pub median_is : f.median ≡ median (tally P k.guide.order)
 
 -- final was accepted, and nothing follows it
 pub record Finishes (P N W : ℕ) (k : Model) (s' : Session) (σ' : Storage) (f : EndFigures) (o : Run) : Type 0 where

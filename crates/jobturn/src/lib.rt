@@ -1,10 +1,10 @@
 // One turn of a job: its next call is read and made.
 ghost use Rattle.std.specs.Prelude.{◌+◌, ◌*◌, ◌≤◌, ◌<◌, ◌^◌, length, drop};
-ghost use Rattle.encoding.specs.Put.{before-inputs};
+ghost use Rattle.encoding.specs.Put.{before_inputs};
 ghost use Rattle.session.specs.Storage.{given, across};
 ghost use Rattle.admitting.specs.Promise.{Asks};
 ghost use Rattle.call_runs.specs.Continuing.{OneCall};
-ghost use Rattle.jobcalls.specs.Told.{taken-by, NextCall};
+ghost use Rattle.jobcalls.specs.Told.{taken_by, NextCall};
 ghost use Rattle.jobturn.specs.Turned.{AfterCall, AfterFinal, FinalMade, MayTurn, Turned};
 ghost use Rattle.jobturn.specs.Putting.{Puts, Makes};
 
@@ -15,7 +15,7 @@ use sorter::Answer;
 // Reads the call at `at`, whose first line is `line`; the lists of an add go where they stand in an encoded one.
 fn read_call(job: &[u8], at: usize, line: u64, into: &mut [u64]) -> Next
     requires { (at ≤ length job.now) × ((length job.now + 8 ≤ 2 * length into.old) × (line ≤ 4294967296)) }
-    ensures { NextCall job.now at line (drop before-inputs into.old) (drop before-inputs into.new) result }
+    ensures { NextCall job.now at line (drop before_inputs into.old) (drop before_inputs into.new) result }
 {
     let from = encoding::BEFORE_INPUTS;
     jobcalls::next_call(job, at, line, &mut into[from..])
@@ -23,7 +23,7 @@ fn read_call(job: &[u8], at: usize, line: u64, into: &mut [u64]) -> Next
 
 // Puts a set or an add down as numbers, at the start of `into`; how many they are, 0 for a flush.
 fn put(into: &mut [u64], call: Call) -> usize
-    requires { before-inputs + taken-by call ≤ length into.old }
+    requires { before_inputs + taken_by call ≤ length into.old }
     ensures { Puts call into.old into.new result }
 {
     match call {

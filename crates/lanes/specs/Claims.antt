@@ -3,84 +3,84 @@
 use Rattle.std.specs.Prelude.{◌≡◌, true, false, ◌&&◌, ◌≢◌, ℕ, zero, suc, ◌+◌, ◌≤◌, length, get_or, leb}
 use mathlib.Core.List.{List, [], ◌∷◌, ◌++◌, map, Memᴰ}
 use Rattle.std.proofs.Math.Option.{some, none}
-use Rattle.rules.specs.Limits.{most-lane}
+use Rattle.rules.specs.Limits.{most_lane}
 use Rattle.rules.specs.Refusals as refusal
-use Rattle.rules.specs.Text.{zero-digit, nine-digit}
+use Rattle.rules.specs.Text.{zero_digit, nine_digit}
 use Rattle.rules.specs.Guide.{Item, Entry, Guide, tally}
 use Rattle.rules.specs.Summary.{median}
 use Rattle.rules.specs.Model.{Reg, Model, watermark, registrations, initial}
 use Rattle.rules.specs.Calls.{Call, set, add, flush, final, run, answers}
-use Rattle.rules.specs.Record.{Row, mark_of, location-of, row_of, summary}
-use Rattle.rules.specs.Job.{lines, ragged, after-key, lane-line, line_of}
+use Rattle.rules.specs.Record.{Row, mark_of, location_of, row_of, summary}
+use Rattle.rules.specs.Job.{lines, ragged, after_key, lane_line, line_of}
 use Rattle.rules.specs.Listing.{field, line, floor, Reply, listed, refused, reply}
-use Rattle.rules.specs.Listing.{word-status, word-entries, word-places, word-floor, word-median, word-order, word-added, word-accepted, word-parallelism, word-written, word_lane}
+use Rattle.rules.specs.Listing.{word_status, word_entries, word_places, word_floor, word_median, word_order, word_added, word_accepted, word_parallelism, word_written, word_lane}
 
 -- ---- bare: every lane is 0, and all else as it was
 
-unfoldable pub bare-item : Item → Item
-bare-item e = record { value = e.value; added = e.added; accepted = e.accepted; lane = 0 }
+unfoldable pub bare_item : Item → Item
+bare_item e = record { value = e.value; added = e.added; accepted = e.accepted; lane = 0 }
 
-unfoldable pub bare-entry : Entry → Entry
-bare-entry e = record { item = bare-item e.item; parallelism = e.parallelism }
+unfoldable pub bare_entry : Entry → Entry
+bare_entry e = record { item = bare_item e.item; parallelism = e.parallelism }
 
-unfoldable pub bare-guide : Guide → Guide
-bare-guide g = record { first = g.first; spans = map (map bare-item) g.spans; order = map bare-entry g.order }
+unfoldable pub bare_guide : Guide → Guide
+bare_guide g = record { first = g.first; spans = map (map bare_item) g.spans; order = map bare_entry g.order }
 
-unfoldable pub bare-reg : Reg → Reg
-bare-reg a = record { lane = 0; ins = a.ins; outs = a.outs }
+unfoldable pub bare_reg : Reg → Reg
+bare_reg a = record { lane = 0; ins = a.ins; outs = a.outs }
 
 unfoldable pub bare : Model → Model
 bare k =
     record {
-      adds = map bare-reg k.adds;
+      adds = map bare_reg k.adds;
       sets = k.sets;
       located = k.located;
       pending = k.pending;
-      guide = bare-guide k.guide;
+      guide = bare_guide k.guide;
       flushes = k.flushes;
       closed = k.closed;
       recorded = k.recorded;
     }
 
-unfoldable pub bare-row : Row → Row
-bare-row row = record { added = row.added; accepted = row.accepted; written = row.written; index = row.index; parallelism = row.parallelism; lane = 0 }
+unfoldable pub bare_row : Row → Row
+bare_row row = record { added = row.added; accepted = row.accepted; written = row.written; index = row.index; parallelism = row.parallelism; lane = 0 }
 
-unfoldable pub bare-call : Call → Call
-bare-call (set x) = set x
-bare-call (add lane ins outs) = add 0 ins outs
-bare-call flush = flush
-bare-call final = final
+unfoldable pub bare_call : Call → Call
+bare_call (set x) = set x
+bare_call (add lane ins outs) = add 0 ins outs
+bare_call flush = flush
+bare_call final = final
 
 -- ---- lists of calls
 
 -- no lane of the calls is over 255
 abbrev pub LowLanes : List Call → Type 0
-LowLanes calls = (lane : ℕ) (ins outs : List ℕ) → Memᴰ (add lane ins outs) calls → lane ≤ most-lane
+LowLanes calls = (lane : ℕ) (ins outs : List ℕ) → Memᴰ (add lane ins outs) calls → lane ≤ most_lane
 
 -- numbers, order, tally, mark, window, who waits, rows and record are those of the list with every lane 0, but for the lane fields: of
 -- the model k after the calls, and the model j after the same calls with every lane 0, both on a fresh session
 pub record Unlabelled (P N W : ℕ) (calls : List Call) (k j : Model) : Type 0 where
   -- the number of each call
-  pub numbers : answers P N W calls initial ≡ answers P N W (map bare-call calls) initial
+  pub numbers : answers P N W calls initial ≡ answers P N W (map bare_call calls) initial
   -- the order, its tally and the mark
-  pub order : map bare-entry k.guide.order ≡ j.guide.order
+  pub order : map bare_entry k.guide.order ≡ j.guide.order
   pub tallied : tally P k.guide.order ≡ tally P j.guide.order
   pub mark : watermark N k ≡ watermark N j
   -- the window: the number of its first span, its lengths and its entries
   pub first : k.guide.first ≡ j.guide.first
   pub lengths : map length k.guide.spans ≡ map length j.guide.spans
-  pub window : map (map bare-item) k.guide.spans ≡ j.guide.spans
+  pub window : map (map bare_item) k.guide.spans ≡ j.guide.spans
   -- who waits, in which order and under which place
   pub pending : k.pending ≡ j.pending
   -- each registration's row; of the record also `written`, the places and the registrations
-  pub rows : (r : ℕ) → bare-row (row_of k r) ≡ row_of j r
+  pub rows : (r : ℕ) → bare_row (row_of k r) ≡ row_of j r
   pub recorded : k.recorded ≡ j.recorded
   pub registered : registrations k ≡ registrations j
   -- and what else there is: the accepted registrations, each place's mark and location, the count of plain flushes, whether it is closed,
   -- and what final gives
-  pub adds : map bare-reg k.adds ≡ j.adds
+  pub adds : map bare_reg k.adds ≡ j.adds
   pub marks : (x : ℕ) → mark_of k x ≡ mark_of j x
-  pub locations : (x : ℕ) → location-of k x ≡ location-of j x
+  pub locations : (x : ℕ) → location_of k x ≡ location_of j x
   pub flushes : k.flushes ≡ j.flushes
   pub closed : k.closed ≡ j.closed
   pub summaries : summary P k ≡ summary P j
@@ -89,12 +89,12 @@ pub record Unlabelled (P N W : ℕ) (calls : List Call) (k j : Model) : Type 0 w
 
 -- the sentence on lists
 abbrev pub SameLists : ℕ → ℕ → ℕ → List Call → Type 0
-SameLists P N W calls = LowLanes calls → Unlabelled P N W calls (run P N W calls initial) (run P N W (map bare-call calls) initial)
+SameLists P N W calls = LowLanes calls → Unlabelled P N W calls (run P N W calls initial) (run P N W (map bare_call calls) initial)
 
 -- and on two lists that differ only in their lanes: the same numbers, and models that are the same but for lanes
 abbrev pub SameRuns : ℕ → ℕ → ℕ → List Call → List Call → Type 0
 SameRuns P N W calls others =
-    map bare-call calls ≡ map bare-call others → LowLanes calls → LowLanes others
+    map bare_call calls ≡ map bare_call others → LowLanes calls → LowLanes others
     → (answers P N W calls initial ≡ answers P N W others initial) × (bare (run P N W calls initial) ≡ bare (run P N W others initial))
 
 -- ---- jobs
@@ -102,7 +102,7 @@ SameRuns P N W calls others =
 -- two lines: one and the same, or two lane lines, with lanes that are at most 255
 pub data SameLine : List ℕ → List ℕ → Type 0 where
   equal : {l : List ℕ} → SameLine l l
-  lanes : {l m : List ℕ} {x y : ℕ} → line_of l ≡ lane-line x → line_of m ≡ lane-line y → x ≤ most-lane → y ≤ most-lane → SameLine l m
+  lanes : {l m : List ℕ} {x y : ℕ} → line_of l ≡ lane_line x → line_of m ≡ lane_line y → x ≤ most_lane → y ≤ most_lane → SameLine l m
 
 -- as many lines here as there, each so with the one in its place
 pub data SameLines : List (List ℕ) → List (List ℕ) → Type 0 where
@@ -117,50 +117,50 @@ pub record SameButLanes (job other : List ℕ) : Type 0 where
 
 -- with `room` listing bytes lent, the job is refused under neither 16 nor 17
 pub record NotTooLong (room : ℕ) (job : List ℕ) : Type 0 where
-  pub not_16 : (n : ℕ) → reply room job ≢ refused n refusal.long-job
-  pub not-17 : (n : ℕ) → reply room job ≢ refused n refusal.long-listing
+  pub not_16 : (n : ℕ) → reply room job ≢ refused n refusal.long_job
+  pub not_17 : (n : ℕ) → reply room job ≢ refused n refusal.long_listing
 
 -- how many digits the bytes start with
-unfoldable pub leading-digits : List ℕ → ℕ
-leading-digits [] = 0
-leading-digits (b ∷ bs) = elim (leb zero-digit b && leb b nine-digit) [ true ↦ suc (leading-digits bs) | false ↦ 0 ]
+unfoldable pub leading_digits : List ℕ → ℕ
+leading_digits [] = 0
+leading_digits (b ∷ bs) = elim (leb zero_digit b && leb b nine_digit) [ true ↦ suc (leading_digits bs) | false ↦ 0 ]
 
 -- how long the ` lane=L` is that the bytes start with, L being all digits that follow; 0 where they start with none
-unfoldable pub lane-length : List ℕ → ℕ
-lane-length bs = elim (after-key word_lane bs) [ some rest ↦ length word_lane + leading-digits rest | none ↦ 0 ]
+unfoldable pub lane_length : List ℕ → ℕ
+lane_length bs = elim (after_key word_lane bs) [ some rest ↦ length word_lane + leading_digits rest | none ↦ 0 ]
 
 -- each ` lane=L` taken out of the bytes, the first n of which belong to one
-unfoldable pub struck-from : ℕ → List ℕ → List ℕ
-struck-from n [] = []
-struck-from (suc n) (b ∷ bs) = struck-from n bs
-struck-from zero (b ∷ bs) = elim (lane-length (b ∷ bs)) [ zero ↦ b ∷ struck-from zero bs | suc n ↦ struck-from n bs ]
+unfoldable pub struck_from : ℕ → List ℕ → List ℕ
+struck_from n [] = []
+struck_from (suc n) (b ∷ bs) = struck_from n bs
+struck_from zero (b ∷ bs) = elim (lane_length (b ∷ bs)) [ zero ↦ b ∷ struck_from zero bs | suc n ↦ struck_from n bs ]
 
 unfoldable pub struck : List ℕ → List ℕ
-struck bs = struck-from 0 bs
+struck bs = struck_from 0 bs
 
 -- two answers: refused on one line with one number, or listed, with equal bytes once ` lane=L` is struck
 pub data SameReply : Reply → Reply → Type 0 where
-  both-refused : {n code : ℕ} → SameReply (refused n code) (refused n code)
-  both-listed : {text other : List ℕ} → struck text ≡ struck other → SameReply (listed text) (listed other)
+  both_refused : {n code : ℕ} → SameReply (refused n code) (refused n code)
+  both_listed : {text other : List ℕ} → struck text ≡ struck other → SameReply (listed text) (listed other)
 
 -- the sentence on jobs
 abbrev pub SameJobs : ℕ → List ℕ → List ℕ → Type 0
 SameJobs room job other = SameButLanes job other → NotTooLong room job → NotTooLong room other → SameReply (reply room job) (reply room other)
 
--- the listing as it was before lanes, without that field: it is what striking leaves of a listing (`struck-listing` in Listings)
-unfoldable pub plain-line : ℕ → Entry → ℕ → List ℕ
-plain-line index e written =
-    field word-order index
-    ++ (field word-added e.item.added ++ (field word-accepted e.item.accepted ++ (field word-parallelism e.parallelism ++ line word-written written)))
+-- the listing as it was before lanes, without that field: it is what striking leaves of a listing (`struck_listing` in Listings)
+unfoldable pub plain_line : ℕ → Entry → ℕ → List ℕ
+plain_line index e written =
+    field word_order index
+    ++ (field word_added e.item.added ++ (field word_accepted e.item.accepted ++ (field word_parallelism e.parallelism ++ line word_written written)))
 
 unfoldable pub plain_lines : ℕ → List Entry → List ℕ → List ℕ
 plain_lines n [] written = []
-plain_lines n (e ∷ es) written = plain-line n e (get_or written e.item.added 0) ++ plain_lines (suc n) es written
+plain_lines n (e ∷ es) written = plain_line n e (get_or written e.item.added 0) ++ plain_lines (suc n) es written
 
-unfoldable pub plain-listing : ℕ → Model → List ℕ
-plain-listing P k =
-    line word-status 0
-    ++ (line word-entries (length k.guide.order)
-    ++ (line word-places k.recorded.places
-    ++ (line word-floor (floor P k.guide.order)
-    ++ (line word-median (median (tally P k.guide.order)) ++ plain_lines 0 k.guide.order k.recorded.written))))
+unfoldable pub plain_listing : ℕ → Model → List ℕ
+plain_listing P k =
+    line word_status 0
+    ++ (line word_entries (length k.guide.order)
+    ++ (line word_places k.recorded.places
+    ++ (line word_floor (floor P k.guide.order)
+    ++ (line word_median (median (tally P k.guide.order)) ++ plain_lines 0 k.guide.order k.recorded.written))))

@@ -1,5 +1,5 @@
 -- Document 02, M-104: lanes never influence placement. The claims stand in Claims; they are proved by `same_lists` and `same_runs` (Lists)
--- and `same-jobs` (Jobs).
+-- and `same_jobs` (Jobs).
 pub mod Claims
 pub mod Guides
 pub mod Models

@@ -7,17 +7,17 @@ use Rattle.std.proofs.Math.Option.{Option}
 use native.Mathlib.Omega.{arith}
 use Rattle.std.proofs.Math.ListN.{take}
 use borrow.Author.Tests.{eqb-true, leb-false}
-use Rattle.rules.specs.Limits.{last-span-limit}
-use Rattle.rules.specs.Guide.{Loc, Item, Guide, fresh, flush as flush-guide, release, released, place, held}
-use Rattle.rules.specs.Calls.{unless-refused}
-use Rattle.rules.specs.Alone.{Alone, alone, Request, push, flush, check-push, check-flush-alone, worn, requests, reply, serve, serve-step, serve-all}
-use Rattle.laws.specs.GuideInv.{Core, Later, flush-core, release-later, len-empties}
-use Rattle.laws.specs.Place.{place-step}
+use Rattle.rules.specs.Limits.{last_span_limit}
+use Rattle.rules.specs.Guide.{Loc, Item, Guide, fresh, flush as flush_guide, release, released, place, held}
+use Rattle.rules.specs.Calls.{unless_refused}
+use Rattle.rules.specs.Alone.{Alone, alone, Request, push, flush, check_push, check_flush_alone, worn, requests, reply, serve, serve_step, serve_all}
+use Rattle.laws.specs.GuideInv.{Core, Later, flush_core, release_later, len_empties}
+use Rattle.laws.specs.Place.{place_step}
 use Rattle.laws.specs.ModelBase.{bool_cases}
-use Rattle.laws.specs.Balance.{step_sum, flush-sum}
-use Rattle.laws.specs.Once.{wsum-one, hsum-one}
-use Rattle.laws.specs.Accepted.{verdict-head, or-false}
-use Rattle.laws.specs.Order.{order-nth, bounds}
+use Rattle.laws.specs.Balance.{step_sum, flush_sum}
+use Rattle.laws.specs.Once.{wsum_one, hsum_one}
+use Rattle.laws.specs.Accepted.{verdict_head, or_false}
+use Rattle.laws.specs.Order.{order_nth, bounds}
 
 -- what holds of the guide alone after any requests
 pub record AloneSound (P N : ℕ) (a : Alone) : Type 0 where
@@ -30,20 +30,20 @@ pub record AloneSound (P N : ℕ) (a : Alone) : Type 0 where
   -- the last span number is in 32 bits
   pub low : a.guide.first + 31 < 2 ^ 32
 
-flush-later : (P : ℕ) (g : Guide) → length g.spans ≡ 32 → Later P 1 g → Later P 1 (flush-guide P g)
-unfolding flush-guide
-flush-later P g h l = release-later P 1 32 g (omega arith) h (λ j k. l j (omega arith))
+flush_later : (P : ℕ) (g : Guide) → length g.spans ≡ 32 → Later P 1 g → Later P 1 (flush_guide P g)
+unfolding flush_guide
+flush_later P g h l = release_later P 1 32 g (omega arith) h (λ j k. l j (omega arith))
 
-flush-first : (P : ℕ) (g : Guide) → (flush-guide P g).first ≡ g.first + 32
-unfolding flush-guide release
-flush-first P g = refl
+flush_first : (P : ℕ) (g : Guide) → (flush_guide P g).first ≡ g.first + 32
+unfolding flush_guide release
+flush_first P g = refl
 
 module _ (P N : ℕ) (hP : 1 ≤ P) where
   -- an accepted push and an accepted flush keep it
-  pub push-sound : (after : Option Loc) (e : Item) (a : Alone) → a.pushes < N → a.guide.first + 31 < last-span-limit → AloneSound P N a → AloneSound P N (serve P (push after e) a)
+  pub push_sound : (after : Option Loc) (e : Item) (a : Alone) → a.pushes < N → a.guide.first + 31 < last_span_limit → AloneSound P N a → AloneSound P N (serve P (push after e) a)
   unfolding serve
-  push-sound after e a h w s =
-      let t = place-step P a.guide s.past e hP s.core s.later after in
+  push_sound after e a h w s =
+      let t = place_step P a.guide s.past e hP s.core s.later after in
       let p = place P after e a.guide in
       record {
         past = t.past';
@@ -52,80 +52,80 @@ module _ (P N : ℕ) (hP : 1 ≤ P) where
         counted = omega (
           arith,
           step_sum (λ x. 1) P a.guide s.past e p s.core t,
-          wsum-one a.guide.order,
-          hsum-one a.guide.spans,
-          wsum-one p.guide.order,
-          hsum-one p.guide.spans,
+          wsum_one a.guide.order,
+          hsum_one a.guide.spans,
+          wsum_one p.guide.order,
+          hsum_one p.guide.spans,
           s.counted,
         );
         few = omega arith;
         low = omega (arith, t.advances);
       }
 
-  pub flush-sound : (a : Alone) → a.guide.first + 31 < last-span-limit → AloneSound P N a → AloneSound P N (serve P flush a)
+  pub flush_sound : (a : Alone) → a.guide.first + 31 < last_span_limit → AloneSound P N a → AloneSound P N (serve P flush a)
   unfolding serve
-  flush-sound a w s =
-      let c = flush-core P a.guide s.past hP s.core (s.later 31 (omega arith)) in
+  flush_sound a w s =
+      let c = flush_core P a.guide s.past hP s.core (s.later 31 (omega arith)) in
       record {
         past = s.past ++ take 32 a.guide.spans;
         core = c;
-        later = flush-later P a.guide s.core.window-is s.later;
+        later = flush_later P a.guide s.core.window_is s.later;
         counted = omega (
           arith,
-          flush-sum (λ x. 1) P a.guide s.past s.core c,
-          wsum-one a.guide.order,
-          hsum-one a.guide.spans,
-          wsum-one (flush-guide P a.guide).order,
-          hsum-one (flush-guide P a.guide).spans,
+          flush_sum (λ x. 1) P a.guide s.past s.core c,
+          wsum_one a.guide.order,
+          hsum_one a.guide.spans,
+          wsum_one (flush_guide P a.guide).order,
+          hsum_one (flush_guide P a.guide).spans,
           s.counted,
         );
         few = s.few;
-        low = omega (arith, flush-first P a.guide);
+        low = omega (arith, flush_first P a.guide);
       }
 
   -- what the checks passed
-  push-passed : (after : Option Loc) (e : Item) (a : Alone) → reply N (push after e) a ≡ 0 → (a.pushes < N) × (a.guide.first + 31 < last-span-limit)
-  unfolding reply requests check-push worn
-  push-passed after e a h =
-      let c = verdict-head _ _ h (omega arith) in
-      let d = or-false (leb N a.pushes) (leb last-span-limit (a.guide.first + 31)) c.0 in
-      (leb-false N a.pushes d.0, leb-false last-span-limit (a.guide.first + 31) d.1)
+  push_passed : (after : Option Loc) (e : Item) (a : Alone) → reply N (push after e) a ≡ 0 → (a.pushes < N) × (a.guide.first + 31 < last_span_limit)
+  unfolding reply requests check_push worn
+  push_passed after e a h =
+      let c = verdict_head _ _ h (omega arith) in
+      let d = or_false (leb N a.pushes) (leb last_span_limit (a.guide.first + 31)) c.0 in
+      (leb-false N a.pushes d.0, leb-false last_span_limit (a.guide.first + 31) d.1)
 
-  flush-passed : (a : Alone) → reply N flush a ≡ 0 → a.guide.first + 31 < last-span-limit
-  unfolding reply requests check-flush-alone worn
-  flush-passed a h = let c = verdict-head _ _ h (omega arith) in leb-false last-span-limit (a.guide.first + 31) c.0
+  flush_passed : (a : Alone) → reply N flush a ≡ 0 → a.guide.first + 31 < last_span_limit
+  unfolding reply requests check_flush_alone worn
+  flush_passed a h = let c = verdict_head _ _ h (omega arith) in leb-false last_span_limit (a.guide.first + 31) c.0
 
-  serve-sound : (r : Request) (a : Alone) → reply N r a ≡ 0 → AloneSound P N a → AloneSound P N (serve P r a)
-  serve-sound (push after e) a h s = let q = push-passed after e a h in push-sound after e a q.0 q.1 s
-  serve-sound flush a h s = flush-sound a (flush-passed a h) s
+  serve_sound : (r : Request) (a : Alone) → reply N r a ≡ 0 → AloneSound P N a → AloneSound P N (serve P r a)
+  serve_sound (push after e) a h s = let q = push_passed after e a h in push_sound after e a q.0 q.1 s
+  serve_sound flush a h s = flush_sound a (flush_passed a h) s
 
   -- so does every request, refused or not
-  pub serve-step-sound : (r : Request) (a : Alone) → AloneSound P N a → AloneSound P N (serve-step P N r a)
-  unfolding serve-step unless-refused
-  serve-step-sound r a s = go (bool_cases (eqb (reply N r a) 0))
+  pub serve_step_sound : (r : Request) (a : Alone) → AloneSound P N a → AloneSound P N (serve_step P N r a)
+  unfolding serve_step unless_refused
+  serve_step_sound r a s = go (bool_cases (eqb (reply N r a) 0))
     where
-      go : (eqb (reply N r a) 0 ≡ true) ⊎ (eqb (reply N r a) 0 ≡ false) → AloneSound P N (serve-step P N r a)
-      go (inl e) = rw (e, unless-refused) (serve-sound r a (eqb-true (reply N r a) 0 e) s)
-      go (inr e) = rw (e, unless-refused) s
+      go : (eqb (reply N r a) 0 ≡ true) ⊎ (eqb (reply N r a) 0 ≡ false) → AloneSound P N (serve_step P N r a)
+      go (inl e) = rw (e, unless_refused) (serve_sound r a (eqb-true (reply N r a) 0 e) s)
+      go (inr e) = rw (e, unless_refused) s
 
-  pub alone-initial : AloneSound P N alone
+  pub alone_initial : AloneSound P N alone
   unfolding alone fresh released held
-  alone-initial =
+  alone_initial =
       record {
         past = [];
-        core = record { past_is = refl; window-is = refl; order_is = refl; capped = λ s. rw (len-empties 32 s) (omega arith) };
-        later = λ i h. rw (len-empties 32 i) (omega arith);
+        core = record { past_is = refl; window_is = refl; order_is = refl; capped = λ s. rw (len_empties 32 s) (omega arith) };
+        later = λ i h. rw (len_empties 32 i) (omega arith);
         counted = refl;
         few = omega arith;
         low = omega arith;
       }
 
   -- after every list of requests
-  pub alone-sound : (rs : List Request) (a : Alone) → AloneSound P N a → AloneSound P N (serve-all P N rs a)
-  unfolding serve-all
-  alone-sound [] a s = s
-  alone-sound (r ∷ rs) a s = alone-sound rs (serve-step P N r a) (serve-step-sound r a s)
+  pub alone_sound : (rs : List Request) (a : Alone) → AloneSound P N a → AloneSound P N (serve_all P N rs a)
+  unfolding serve_all
+  alone_sound [] a s = s
+  alone_sound (r ∷ rs) a s = alone_sound rs (serve_step P N r a) (serve_step_sound r a s)
 
   -- each parallelism of the order is from 1 to P
-  pub alone-parallelisms : (a : Alone) → AloneSound P N a → (j : ℕ) → j < length a.guide.order → (1 ≤ (order-nth a.guide j).parallelism) × ((order-nth a.guide j).parallelism ≤ P)
-  alone-parallelisms a s j h = bounds P hP a.guide s.past s.core j h
+  pub alone_parallelisms : (a : Alone) → AloneSound P N a → (j : ℕ) → j < length a.guide.order → (1 ≤ (order_nth a.guide j).parallelism) × ((order_nth a.guide j).parallelism ≤ P)
+  alone_parallelisms a s j h = bounds P hP a.guide s.past s.core j h

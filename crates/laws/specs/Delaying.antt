@@ -9,47 +9,47 @@ use Rattle.std.proofs.Math.Logic.{inr}
 use Rattle.std.proofs.lemmas.Bool.{false≢true}
 use native.Mathlib.Omega.{arith}
 use Rattle.std.proofs.Math.ListN.{length, length-append}
-use Rattle.rules.specs.Model.{Recorded, with-record, Reg, Pending, Model, watermark, run-from, marked, tracked, ready, greatest, reg_of, place-one, keep, queue, left, rest}
-use Rattle.rules.specs.Model.{with-set, with-add, with-flush, initial}
+use Rattle.rules.specs.Model.{Recorded, with_record, Reg, Pending, Model, watermark, run_from, marked, tracked, ready, greatest, reg_of, place_one, keep, queue, left, rest}
+use Rattle.rules.specs.Model.{with_set, with_add, with_flush, initial}
 use Rattle.rules.specs.Calls.{Call, run}
-use Rattle.laws.specs.ModelBase.{In, bool_cases, tracked-cases, tracked-of, marked_append}
-use Rattle.laws.specs.History.{lt-or-le}
+use Rattle.laws.specs.ModelBase.{In, bool_cases, tracked_cases, tracked_of, marked_append}
+use Rattle.laws.specs.History.{lt_or_le}
 use Rattle.laws.specs.ModelInv.{Inv}
-use Rattle.laws.specs.CascadeInv.{left-from}
-use Rattle.laws.specs.CallInv.{reg-of-old, reg-of-new, queue-from}
+use Rattle.laws.specs.CascadeInv.{left_from}
+use Rattle.laws.specs.CallInv.{reg_of_old, reg_of_new, queue_from}
 use Rattle.laws.specs.Kept.{Kept, kept}
 
-run-ge : (t : ℕ → Bool) (f n : ℕ) → n ≤ run-from t f n
-unfolding run-from
-run-ge t zero n = omega arith
-run-ge t (suc f) n = go (bool_cases (t n)) (run-ge t f (suc n))
+run_ge : (t : ℕ → Bool) (f n : ℕ) → n ≤ run_from t f n
+unfolding run_from
+run_ge t zero n = omega arith
+run_ge t (suc f) n = go (bool_cases (t n)) (run_ge t f (suc n))
   where
-    go : (t n ≡ true) ⊎ (t n ≡ false) → suc n ≤ run-from t f (suc n) → n ≤ run-from t (suc f) n
-    go (inl e) h = rw (e, run-from) (omega arith)
-    go (inr e) h = rw (e, run-from) (omega arith)
+    go : (t n ≡ true) ⊎ (t n ≡ false) → suc n ≤ run_from t f (suc n) → n ≤ run_from t (suc f) n
+    go (inl e) h = rw (e, run_from) (omega arith)
+    go (inr e) h = rw (e, run_from) (omega arith)
 
-run-mono : (t u : ℕ → Bool) → ((i : ℕ) → t i ≡ true → u i ≡ true) → (f n : ℕ) → run-from t f n ≤ run-from u f n
-unfolding run-from
-run-mono t u h zero n = omega arith
-run-mono t u h (suc f) n = go (bool_cases (t n)) (run-mono t u h f (suc n))
+run_mono : (t u : ℕ → Bool) → ((i : ℕ) → t i ≡ true → u i ≡ true) → (f n : ℕ) → run_from t f n ≤ run_from u f n
+unfolding run_from
+run_mono t u h zero n = omega arith
+run_mono t u h (suc f) n = go (bool_cases (t n)) (run_mono t u h f (suc n))
   where
-    go : (t n ≡ true) ⊎ (t n ≡ false) → run-from t f (suc n) ≤ run-from u f (suc n) → run-from t (suc f) n ≤ run-from u (suc f) n
-    go (inl e) r = rw (e, h n e, run-from) r
-    go (inr e) r = rw (e, run-from) (run-ge u (suc f) n)
+    go : (t n ≡ true) ⊎ (t n ≡ false) → run_from t f (suc n) ≤ run_from u f (suc n) → run_from t (suc f) n ≤ run_from u (suc f) n
+    go (inl e) r = rw (e, h n e, run_from) r
+    go (inr e) r = rw (e, run_from) (run_ge u (suc f) n)
 
-watermark-mono : (N : ℕ) (k j : Model) → ((i : ℕ) → tracked k i ≡ true → tracked j i ≡ true) → watermark N k ≤ watermark N j
+watermark_mono : (N : ℕ) (k j : Model) → ((i : ℕ) → tracked k i ≡ true → tracked j i ≡ true) → watermark N k ≤ watermark N j
 unfolding watermark
-watermark-mono N k j h = run-mono (tracked k) (tracked j) h N 0
+watermark_mono N k j h = run_mono (tracked k) (tracked j) h N 0
 
 pub ready_up : (m n : ℕ) (l : List ℕ) → m ≤ n → ready m l ≡ true → ready n l ≡ true
 unfolding ready
 ready_up m n [] h e = refl
 ready_up m n (x ∷ l) h e = lt-ltb (greatest (x ∷ l)) n (omega (arith, ltb-true (greatest (x ∷ l)) m e))
 
-pub ready-off : (m n : ℕ) (l : List ℕ) → n ≤ greatest l → ready m l ≡ false → ready n l ≡ false
+pub ready_off : (m n : ℕ) (l : List ℕ) → n ≤ greatest l → ready m l ≡ false → ready n l ≡ false
 unfolding ready
-ready-off m n [] h e = e
-ready-off m n (x ∷ l) h e = le-ltb _ _ h
+ready_off m n [] h e = e
+ready_off m n (x ∷ l) h e = le-ltb _ _ h
 
 ready_on : (n : ℕ) (l : List ℕ) → greatest l < n → ready n l ≡ true
 unfolding ready
@@ -57,37 +57,37 @@ ready_on n [] h = refl
 ready_on n (x ∷ l) h = lt-ltb _ _ h
 
 -- what is not ready has its greatest input at the watermark or above
-pub not-ready : (n : ℕ) (l : List ℕ) → ready n l ≡ false → n ≤ greatest l
+pub not_ready : (n : ℕ) (l : List ℕ) → ready n l ≡ false → n ≤ greatest l
 unfolding ready
-not-ready n [] h = absurd (false≢true (sym h))
-not-ready n (x ∷ l) h = ltb-false _ _ h
+not_ready n [] h = absurd (false≢true (sym h))
+not_ready n (x ∷ l) h = ltb-false _ _ h
 
 -- by ascending place, then by registration
 abbrev pub Before : Pending → Pending → Type 0
 Before w v = (w.under < v.under) ⊎ ((w.under ≡ v.under) × (w.reg < v.reg))
 
-pub before-le : (w v : Pending) → Before w v → w.under ≤ v.under
-before-le w v (inl h) = omega arith
-before-le w v (inr h) = omega arith
+pub before_le : (w v : Pending) → Before w v → w.under ≤ v.under
+before_le w v (inl h) = omega arith
+before_le w v (inr h) = omega arith
 
 -- each before all that follow it
 abbrev pub Sorted : List Pending → Type 0
 Sorted [] = Unit {0}
 Sorted (w ∷ ws) = ((v : Pending) → Memᴰ v ws → Before w v) × Sorted ws
 
-pub left-sorted : (m : ℕ) (ws : List Pending) → Sorted ws → Sorted (left m ws)
+pub left_sorted : (m : ℕ) (ws : List Pending) → Sorted ws → Sorted (left m ws)
 unfolding left
-left-sorted m [] s = tt
-left-sorted m (w ∷ ws) s = go (bool_cases (ltb w.under m)) (left-sorted m ws s.1)
+left_sorted m [] s = tt
+left_sorted m (w ∷ ws) s = go (bool_cases (ltb w.under m)) (left_sorted m ws s.1)
   where
     go : (ltb w.under m ≡ true) ⊎ (ltb w.under m ≡ false) → Sorted (left m ws) → Sorted (left m (w ∷ ws))
     go (inl e) r = rw (e, left) r
     go (inr e) r = rw (e, left) s
 
-pub left-above : (m : ℕ) (ws : List Pending) → Sorted ws → (w : Pending) → Memᴰ w (left m ws) → m ≤ w.under
+pub left_above : (m : ℕ) (ws : List Pending) → Sorted ws → (w : Pending) → Memᴰ w (left m ws) → m ≤ w.under
 unfolding left
-left-above m [] s w h = absurd (Memᴰ.not-nil h)
-left-above m (v ∷ ws) s w h = go (bool_cases (ltb v.under m)) (λ y. left-above m ws s.1 w y)
+left_above m [] s w h = absurd (Memᴰ.not-nil h)
+left_above m (v ∷ ws) s w h = go (bool_cases (ltb v.under m)) (λ y. left_above m ws s.1 w y)
   where
     go : (ltb v.under m ≡ true) ⊎ (ltb v.under m ≡ false) → (Memᴰ w (left m ws) → m ≤ w.under) → m ≤ w.under
     go (inl e) r = r (rw (e, left) at h)
@@ -95,12 +95,12 @@ left-above m (v ∷ ws) s w h = go (bool_cases (ltb v.under m)) (λ y. left-abov
       where
         past : (w ≡ v) ⊎ Memᴰ w ws → m ≤ w.under
         past (inl y) = rw y (ltb-false v.under m e)
-        past (inr y) = omega (arith, ltb-false v.under m e, before-le v w (s.0 w y))
+        past (inr y) = omega (arith, ltb-false v.under m e, before_le v w (s.0 w y))
 
-left-or-due : (m : ℕ) (ws : List Pending) (w : Pending) → Memᴰ w ws → Memᴰ w (left m ws) ⊎ (w.under < m)
+left_or_due : (m : ℕ) (ws : List Pending) (w : Pending) → Memᴰ w ws → Memᴰ w (left m ws) ⊎ (w.under < m)
 unfolding left
-left-or-due m [] w h = absurd (Memᴰ.not-nil h)
-left-or-due m (v ∷ ws) w h = go (bool_cases (ltb v.under m)) (Memᴰ.cases_cons h) (λ y. left-or-due m ws w y)
+left_or_due m [] w h = absurd (Memᴰ.not-nil h)
+left_or_due m (v ∷ ws) w h = go (bool_cases (ltb v.under m)) (Memᴰ.cases_cons h) (λ y. left_or_due m ws w y)
   where
     go : (ltb v.under m ≡ true) ⊎ (ltb v.under m ≡ false) → (w ≡ v) ⊎ Memᴰ w ws → (Memᴰ w ws → Memᴰ w (left m ws) ⊎ (w.under < m))
         → Memᴰ w (left m (v ∷ ws)) ⊎ (w.under < m)
@@ -108,40 +108,40 @@ left-or-due m (v ∷ ws) w h = go (bool_cases (ltb v.under m)) (Memᴰ.cases_con
     go (inl e) (inr y) r = rw (e, left) (r y)
     go (inr e) y r = inl (rw (e, left) h)
 
-pub queue-sorted : (x : Pending) (ws : List Pending) → ((v : Pending) → Memᴰ v ws → v.reg < x.reg) → Sorted ws → Sorted (queue x ws)
+pub queue_sorted : (x : Pending) (ws : List Pending) → ((v : Pending) → Memᴰ v ws → v.reg < x.reg) → Sorted ws → Sorted (queue x ws)
 unfolding queue
-queue-sorted x [] n s = ((λ v h. absurd (Memᴰ.not-nil h)), tt)
-queue-sorted x (w ∷ ws) n s = go (bool_cases (ltb x.under w.under)) (queue-sorted x ws (λ v h. n v (Memᴰ.tail h)) s.1)
+queue_sorted x [] n s = ((λ v h. absurd (Memᴰ.not-nil h)), tt)
+queue_sorted x (w ∷ ws) n s = go (bool_cases (ltb x.under w.under)) (queue_sorted x ws (λ v h. n v (Memᴰ.tail h)) s.1)
   where
     front : ltb x.under w.under ≡ true → (v : Pending) → (v ≡ w) ⊎ Memᴰ v ws → Before x v
     front e v (inl h) = inl (rw h (omega (arith, ltb-true x.under w.under e)))
-    front e v (inr h) = inl (omega (arith, ltb-true x.under w.under e, before-le w v (s.0 v h)))
+    front e v (inr h) = inl (omega (arith, ltb-true x.under w.under e, before_le w v (s.0 v h)))
 
     last : w.under ≤ x.under → (w.under < x.under) ⊎ (x.under ≤ w.under) → Before w x
     last a (inl b) = inl b
     last a (inr b) = inr (omega arith, n w (Memᴰ.head refl))
 
     back : ltb x.under w.under ≡ false → (v : Pending) → (v ≡ x) ⊎ Memᴰ v ws → Before w v
-    back e v (inl h) = rw h (last (ltb-false x.under w.under e) (lt-or-le w.under x.under))
+    back e v (inl h) = rw h (last (ltb-false x.under w.under e) (lt_or_le w.under x.under))
     back e v (inr h) = s.0 v h
 
     go : (ltb x.under w.under ≡ true) ⊎ (ltb x.under w.under ≡ false) → Sorted (queue x ws) → Sorted (queue x (w ∷ ws))
     go (inl e) r = rw (e, queue) ((λ v h. front e v (Memᴰ.cases_cons h)), s)
-    go (inr e) r = rw (e, queue) ((λ v h. back e v (queue-from x ws v h)), r)
+    go (inr e) r = rw (e, queue) ((λ v h. back e v (queue_from x ws v h)), r)
 
-in-queue : (x : Pending) (ws : List Pending) → Memᴰ x (queue x ws)
+in_queue : (x : Pending) (ws : List Pending) → Memᴰ x (queue x ws)
 unfolding queue
-in-queue x [] = Memᴰ.head refl
-in-queue x (w ∷ ws) = go (bool_cases (ltb x.under w.under)) (in-queue x ws)
+in_queue x [] = Memᴰ.head refl
+in_queue x (w ∷ ws) = go (bool_cases (ltb x.under w.under)) (in_queue x ws)
   where
     go : (ltb x.under w.under ≡ true) ⊎ (ltb x.under w.under ≡ false) → Memᴰ x (queue x ws) → Memᴰ x (queue x (w ∷ ws))
     go (inl e) r = rw (e, queue) (Memᴰ.head refl)
     go (inr e) r = rw (e, queue) (Memᴰ.tail r)
 
-stays-queued : (x : Pending) (ws : List Pending) (v : Pending) → Memᴰ v ws → Memᴰ v (queue x ws)
+stays_queued : (x : Pending) (ws : List Pending) (v : Pending) → Memᴰ v ws → Memᴰ v (queue x ws)
 unfolding queue
-stays-queued x [] v h = absurd (Memᴰ.not-nil h)
-stays-queued x (w ∷ ws) v h = go (bool_cases (ltb x.under w.under)) (Memᴰ.cases_cons h) (λ y. stays-queued x ws v y)
+stays_queued x [] v h = absurd (Memᴰ.not-nil h)
+stays_queued x (w ∷ ws) v h = go (bool_cases (ltb x.under w.under)) (Memᴰ.cases_cons h) (λ y. stays_queued x ws v y)
   where
     go : (ltb x.under w.under ≡ true) ⊎ (ltb x.under w.under ≡ false) → (v ≡ w) ⊎ Memᴰ v ws → (Memᴰ v ws → Memᴰ v (queue x ws)) → Memᴰ v (queue x (w ∷ ws))
     go (inl e) y r = rw (e, queue) (Memᴰ.tail h)
@@ -158,136 +158,136 @@ pub record Delaying (N : ℕ) (k : Model) (st : List ℕ) : Type 0 where
   pub above : (w : Pending) → Memᴰ w k.pending → ready (watermark N k) (reg_of k w.reg).ins ≡ false
   pub others : (r : ℕ) → r < length k.adds → IsPending k r ⊎ (ready (watermark N k) (reg_of k r).ins ≡ true)
 
-watermark-rest : (N : ℕ) (j : Model) → watermark N (rest N j) ≡ watermark N j
+watermark_rest : (N : ℕ) (j : Model) → watermark N (rest N j) ≡ watermark N j
 unfolding watermark rest keep tracked
-watermark-rest N j = refl
+watermark_rest N j = refl
 
-rest-pending : (N : ℕ) (j : Model) → (rest N j).pending ≡ left (watermark N j) j.pending
+rest_pending : (N : ℕ) (j : Model) → (rest N j).pending ≡ left (watermark N j) j.pending
 unfolding rest keep
-rest-pending N j = refl
+rest_pending N j = refl
 
-rest-adds : (N : ℕ) (j : Model) → (rest N j).adds ≡ j.adds
+rest_adds : (N : ℕ) (j : Model) → (rest N j).adds ≡ j.adds
 unfolding rest keep
-rest-adds N j = refl
+rest_adds N j = refl
 
-rest-reg : (N : ℕ) (j : Model) (r : ℕ) → reg_of (rest N j) r ≡ reg_of j r
+rest_reg : (N : ℕ) (j : Model) (r : ℕ) → reg_of (rest N j) r ≡ reg_of j r
 unfolding rest keep reg_of
-rest-reg N j r = refl
+rest_reg N j r = refl
 
 -- when the watermark has moved, what comes off leaves the sentence true
-module _ (P N : ℕ) (k j : Model) (st st' : List ℕ) (v : Inv P N k st) (p : Delaying N k st) (Adds-same : j.adds ≡ k.adds) (pending-same : j.pending ≡ k.pending)
-    (Reg-same : (r : ℕ) → reg_of j r ≡ reg_of k r) (grows : (i : ℕ) → tracked k i ≡ true → tracked j i ≡ true) where
+module _ (P N : ℕ) (k j : Model) (st st' : List ℕ) (v : Inv P N k st) (p : Delaying N k st) (Adds_same : j.adds ≡ k.adds) (pending_same : j.pending ≡ k.pending)
+    (Reg_same : (r : ℕ) → reg_of j r ≡ reg_of k r) (grows : (i : ℕ) → tracked k i ≡ true → tracked j i ≡ true) where
   mono : watermark N k ≤ watermark N j
-  mono = watermark-mono N k j grows
+  mono = watermark_mono N k j grows
 
-  rest-left : (rest N j).pending ≡ left (watermark N j) k.pending
-  rest-left = rest-pending N j ∙ ap (left (watermark N j)) pending-same
+  rest_left : (rest N j).pending ≡ left (watermark N j) k.pending
+  rest_left = rest_pending N j ∙ ap (left (watermark N j)) pending_same
 
   pub moved : Delaying N (rest N j) st'
   moved =
       record {
-        sorted = rw rest-left (left-sorted (watermark N j) k.pending p.sorted);
-        above = λ w h. over w (rw rest-left at h);
-        others = λ r h. rw (watermark-rest, rest-reg, Reg-same) (go r (p.others r (rw (rest-adds, Adds-same) at h)));
+        sorted = rw rest_left (left_sorted (watermark N j) k.pending p.sorted);
+        above = λ w h. over w (rw rest_left at h);
+        others = λ r h. rw (watermark_rest, rest_reg, Reg_same) (go r (p.others r (rw (rest_adds, Adds_same) at h)));
       }
     where
       over : (w : Pending) → Memᴰ w (left (watermark N j) k.pending) → ready (watermark N (rest N j)) (reg_of (rest N j) w.reg).ins ≡ false
       over w h =
-          let o = left-from (watermark N j) k.pending w h in
-          rw (watermark-rest, rest-reg, Reg-same) (ready-off (watermark N k) (watermark N j) (reg_of k w.reg).ins
-          (omega (arith, left-above (watermark N j) k.pending p.sorted w h, (v.pending-ok w o).1)) (p.above w o))
+          let o = left_from (watermark N j) k.pending w h in
+          rw (watermark_rest, rest_reg, Reg_same) (ready_off (watermark N k) (watermark N j) (reg_of k w.reg).ins
+          (omega (arith, left_above (watermark N j) k.pending p.sorted w h, (v.pending_ok w o).1)) (p.above w o))
 
       go : (r : ℕ) → IsPending k r ⊎ (ready (watermark N k) (reg_of k r).ins ≡ true) → IsPending (rest N j) r ⊎ (ready (watermark N j) (reg_of k r).ins ≡ true)
       go r (inr e) = inr (ready_up (watermark N k) (watermark N j) (reg_of k r).ins mono e)
-      go r (inl e) = past (left-or-due (watermark N j) k.pending e.0 e.1)
+      go r (inl e) = past (left_or_due (watermark N j) k.pending e.0 e.1)
         where
           past : Memᴰ e.0 (left (watermark N j) k.pending) ⊎ (e.0.under < watermark N j) → IsPending (rest N j) r ⊎ (ready (watermark N j) (reg_of k r).ins ≡ true)
-          past (inl y) = inl (e.0, rw rest-left y, e.2)
-          past (inr y) = inr (ready_on (watermark N j) (reg_of k r).ins (rw (← e.2) (omega (arith, (v.pending-ok e.0 e.1).1))))
+          past (inl y) = inl (e.0, rw rest_left y, e.2)
+          past (inr y) = inr (ready_on (watermark N j) (reg_of k r).ins (rw (← e.2) (omega (arith, (v.pending_ok e.0 e.1).1))))
 
-tracked-place : (P c r : ℕ) (k : Model) (i : ℕ) → tracked k i ≡ true → tracked (place-one P c r k) i ≡ true
-unfolding place-one
-tracked-place P c r k i h = tracked-of (place-one P c r k) i (go (tracked-cases k i h))
+tracked_place : (P c r : ℕ) (k : Model) (i : ℕ) → tracked k i ≡ true → tracked (place_one P c r k) i ≡ true
+unfolding place_one
+tracked_place P c r k i h = tracked_of (place_one P c r k) i (go (tracked_cases k i h))
   where
-    go : In i k.sets ⊎ (marked i k.located ≡ true) → In i (place-one P c r k).sets ⊎ (marked i (place-one P c r k).located ≡ true)
+    go : In i k.sets ⊎ (marked i k.located ≡ true) → In i (place_one P c r k).sets ⊎ (marked i (place_one P c r k).located ≡ true)
     go (inl a) = inl a
     go (inr a) = inr (rw (marked_append k.located, a))
 
-tracked-set : (x : ℕ) (k : Model) (i : ℕ) → tracked k i ≡ true → tracked (with-set x k) i ≡ true
-unfolding with-set
-tracked-set x k i h = tracked-of (with-set x k) i (go (tracked-cases k i h))
+tracked_set : (x : ℕ) (k : Model) (i : ℕ) → tracked k i ≡ true → tracked (with_set x k) i ≡ true
+unfolding with_set
+tracked_set x k i h = tracked_of (with_set x k) i (go (tracked_cases k i h))
   where
     go : In i k.sets ⊎ (marked i k.located ≡ true) → In i (x ∷ k.sets) ⊎ (marked i k.located ≡ true)
     go (inl a) = inl (Memᴰ.tail a)
     go (inr a) = inr a
 
 module _ (P N W : ℕ) (hP : 1 ≤ P) where
-  delaying-adding : (a : Reg) (k : Model) → Inv P N k [] → ready (watermark N k) a.ins ≡ true → Delaying N k [] → Delaying N (with-add a k) (length k.adds ∷ [])
-  unfolding with-add watermark tracked
-  delaying-adding a k v e p =
+  delaying_adding : (a : Reg) (k : Model) → Inv P N k [] → ready (watermark N k) a.ins ≡ true → Delaying N k [] → Delaying N (with_add a k) (length k.adds ∷ [])
+  unfolding with_add watermark tracked
+  delaying_adding a k v e p =
       record {
         sorted = p.sorted;
-        above = λ w h. rw (reg-of-old a k w.reg (v.pending-ok w h).0) (p.above w h);
-        others = λ r h. go r (lt-or-le r (length k.adds)) (simp length-append at h);
+        above = λ w h. rw (reg_of_old a k w.reg (v.pending_ok w h).0) (p.above w h);
+        others = λ r h. go r (lt_or_le r (length k.adds)) (simp length-append at h);
       }
     where
-      go : (r : ℕ) → (r < length k.adds) ⊎ (length k.adds ≤ r) → r < length k.adds + 1 → IsPending k r ⊎ (ready (watermark N k) (reg_of (with-add a k) r).ins ≡ true)
-      go r (inl y) h = rw (reg-of-old a k r y) (p.others r y)
-      go r (inr y) h = let z : r ≡ length k.adds = omega arith in inr (rw (z, reg-of-new a k) e)
+      go : (r : ℕ) → (r < length k.adds) ⊎ (length k.adds ≤ r) → r < length k.adds + 1 → IsPending k r ⊎ (ready (watermark N k) (reg_of (with_add a k) r).ins ≡ true)
+      go r (inl y) h = rw (reg_of_old a k r y) (p.others r y)
+      go r (inr y) h = let z : r ≡ length k.adds = omega arith in inr (rw (z, reg_of_new a k) e)
 
-  delaying-queued : (a : Reg) (k : Model) → Inv P N k [] → ready (watermark N k) a.ins ≡ false → Delaying N k []
-      → Delaying N (keep (queue (record { under = greatest a.ins; reg = length k.adds }) k.pending) (with-add a k)) []
-  unfolding with-add keep watermark tracked reg_of
-  delaying-queued a k v e p =
+  delaying_queued : (a : Reg) (k : Model) → Inv P N k [] → ready (watermark N k) a.ins ≡ false → Delaying N k []
+      → Delaying N (keep (queue (record { under = greatest a.ins; reg = length k.adds }) k.pending) (with_add a k)) []
+  unfolding with_add keep watermark tracked reg_of
+  delaying_queued a k v e p =
       record {
-        sorted = queue-sorted x k.pending (λ u h. (v.pending-ok u h).0) p.sorted;
-        above = λ w h. over w (queue-from x k.pending w h);
-        others = λ r h. go r (lt-or-le r (length k.adds)) (simp length-append at h);
+        sorted = queue_sorted x k.pending (λ u h. (v.pending_ok u h).0) p.sorted;
+        above = λ w h. over w (queue_from x k.pending w h);
+        others = λ r h. go r (lt_or_le r (length k.adds)) (simp length-append at h);
       }
     where
       x : Pending
       x = record { under = greatest a.ins; reg = length k.adds }
 
-      over : (w : Pending) → (w ≡ x) ⊎ Memᴰ w k.pending → ready (watermark N k) (reg_of (with-add a k) w.reg).ins ≡ false
-      over w (inl y) = rw (y, reg-of-new a k) e
-      over w (inr y) = rw (reg-of-old a k w.reg (v.pending-ok w y).0) (p.above w y)
+      over : (w : Pending) → (w ≡ x) ⊎ Memᴰ w k.pending → ready (watermark N k) (reg_of (with_add a k) w.reg).ins ≡ false
+      over w (inl y) = rw (y, reg_of_new a k) e
+      over w (inr y) = rw (reg_of_old a k w.reg (v.pending_ok w y).0) (p.above w y)
 
       still : (r : ℕ) → IsPending k r ⊎ (ready (watermark N k) (reg_of k r).ins ≡ true) → ((w : Pending) × Memᴰ w (queue x k.pending) × (w.reg ≡ r))
           ⊎ (ready (watermark N k) (reg_of k r).ins ≡ true)
-      still r (inl y) = inl (y.0, stays-queued x k.pending y.0 y.1, y.2)
+      still r (inl y) = inl (y.0, stays_queued x k.pending y.0 y.1, y.2)
       still r (inr y) = inr y
 
       go : (r : ℕ) → (r < length k.adds) ⊎ (length k.adds ≤ r) → r < length k.adds + 1 → ((w : Pending) × Memᴰ w (queue x k.pending) × (w.reg ≡ r))
-          ⊎ (ready (watermark N k) (reg_of (with-add a k) r).ins ≡ true)
-      go r (inl y) h = rw (reg-of-old a k r y) (still r (p.others r y))
-      go r (inr y) h = inl (x, in-queue x k.pending, omega arith)
+          ⊎ (ready (watermark N k) (reg_of (with_add a k) r).ins ≡ true)
+      go r (inl y) h = rw (reg_of_old a k r y) (still r (p.others r y))
+      go r (inr y) h = inl (x, in_queue x k.pending, omega arith)
 
-  pub delaying-initial : Delaying N initial []
+  pub delaying_initial : Delaying N initial []
   unfolding initial
-  delaying-initial = record { sorted = tt; above = λ w h. absurd (Memᴰ.not-nil h); others = λ r h. absurd (omega arith) }
+  delaying_initial = record { sorted = tt; above = λ w h. absurd (Memᴰ.not-nil h); others = λ r h. absurd (omega arith) }
 
-  delaying-flushing : (f : ℕ) (c : Bool) (k : Model) → Delaying N k [] → Delaying N (with-flush P f c k) []
-  unfolding with-flush watermark tracked reg_of
-  delaying-flushing f c k p = record { sorted = p.sorted; above = p.above; others = p.others }
+  delaying_flushing : (f : ℕ) (c : Bool) (k : Model) → Delaying N k [] → Delaying N (with_flush P f c k) []
+  unfolding with_flush watermark tracked reg_of
+  delaying_flushing f c k p = record { sorted = p.sorted; above = p.above; others = p.others }
 
-  delaying-recording : (d : Recorded) (k : Model) → Delaying N k [] → Delaying N (with-record d k) []
-  unfolding with-record watermark tracked reg_of
-  delaying-recording d k p = record { sorted = p.sorted; above = p.above; others = p.others }
+  delaying_recording : (d : Recorded) (k : Model) → Delaying N k [] → Delaying N (with_record d k) []
+  unfolding with_record watermark tracked reg_of
+  delaying_recording d k p = record { sorted = p.sorted; above = p.above; others = p.others }
 
   -- every part of every call keeps it
-  pub delaying-kept : Kept P N W (Delaying N)
-  unfolding place-one with-set reg_of
-  delaying-kept =
+  pub delaying_kept : Kept P N W (Delaying N)
+  unfolding place_one with_set reg_of
+  delaying_kept =
       record {
-        placing = λ c r st k l v p. moved P N k (place-one P c r k) (r ∷ st) _ v p refl refl (λ t. refl) (tracked-place P c r k);
-        setting = λ x k v a p. moved P N k (with-set x k) [] _ v p refl refl (λ t. refl) (tracked-set x k);
-        adding = λ lane ins outs k v a e p. delaying-adding _ k v e p;
-        delaying = λ lane ins outs k v a e p. delaying-queued _ k v e p;
-        flushing = λ k v a p. delaying-flushing _ _ k p;
-        closing = λ k v a p. delaying-flushing _ _ k p;
-        recording = λ d k v n p. delaying-recording d k p;
+        placing = λ c r st k l v p. moved P N k (place_one P c r k) (r ∷ st) _ v p refl refl (λ t. refl) (tracked_place P c r k);
+        setting = λ x k v a p. moved P N k (with_set x k) [] _ v p refl refl (λ t. refl) (tracked_set x k);
+        adding = λ lane ins outs k v a e p. delaying_adding _ k v e p;
+        delaying = λ lane ins outs k v a e p. delaying_queued _ k v e p;
+        flushing = λ k v a p. delaying_flushing _ _ k p;
+        closing = λ k v a p. delaying_flushing _ _ k p;
+        recording = λ d k v n p. delaying_recording d k p;
       }
 
   -- it holds after every list of calls
   pub delaying : (cs : List Call) → Delaying N (run P N W cs initial) []
-  delaying cs = kept P N W hP (Delaying N) delaying-kept delaying-initial cs
+  delaying cs = kept P N W hP (Delaying N) delaying_kept delaying_initial cs

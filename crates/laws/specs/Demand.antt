@@ -1,10 +1,10 @@
 -- Demand 3 of the model (document 01's clerk), as one record with a field for each sentence: what holds after a list of calls on a
--- fresh session. That it holds of every list is `demand-3` in DemandProof; that the code's answers, order, tally, mark, window lengths
+-- fresh session. That it holds of every list is `demand_3` in DemandProof; that the code's answers, order, tally, mark, window lengths
 -- and waiting registrations are the model's is promised by the calls themselves (crates sorter and call_list).
 use Rattle.std.specs.Prelude.{◌≡◌, ◌⊎◌, ◌≢◌, ◌↔◌, true, false, ℕ, suc, ◌+◌, ◌≤◌, ◌<◌, length, get_or, eqb}
 use mathlib.Core.List.{List, [], ◌∷◌, ◌++◌, map, Memᴰ}
 use Rattle.rules.specs.Guide.{Item, Entry, held, tally}
-use Rattle.rules.specs.Limits.{most-lane}
+use Rattle.rules.specs.Limits.{most_lane}
 use Rattle.rules.specs.Summary.{sum}
 use Rattle.rules.specs.Model.{Model, Pending, watermark, greatest, ready, reg_of, initial}
 use Rattle.rules.specs.Record.{unfilled, fill, row_of}
@@ -34,12 +34,12 @@ count r (x ∷ xs) = elim (eqb r x) [ true ↦ suc (count r xs) | false ↦ coun
 abbrev pub times : ℕ → List Entry → ℕ
 times r order = count r (map (λ e. e.item.added) order)
 
-abbrev pub held-times : ℕ → List (List Item) → ℕ
-held-times r [] = 0
-held-times r (span ∷ spans) = count r (map (λ e. e.added) span) + held-times r spans
+abbrev pub held_times : ℕ → List (List Item) → ℕ
+held_times r [] = 0
+held_times r (span ∷ spans) = count r (map (λ e. e.added) span) + held_times r spans
 
-abbrev pub pending-times : ℕ → List Pending → ℕ
-pending-times r ws = count r (map (λ w. w.reg) ws)
+abbrev pub pending_times : ℕ → List Pending → ℕ
+pending_times r ws = count r (map (λ w. w.reg) ws)
 
 -- a final among the calls is accepted, k being the model before them
 abbrev pub FinalAccepted : ℕ → ℕ → ℕ → List Call → Model → Type 0
@@ -59,25 +59,25 @@ pub record Demand (P N W : ℕ) (calls : List Call) (k : Model) : Type 0 where
   pub distance : (a b i : ℕ) → a < written k → b < written k → writes k a i → reads k b i → a + (nth k a).parallelism ≤ b
   -- an entry is of an accepted add, and in a session its value equals its added
   pub known : (j : ℕ) → j < written k → (nth k j).item.added < length k.adds
-  pub value-is-added : (j : ℕ) → j < written k → (nth k j).item.value ≡ (nth k j).item.added
+  pub value_is_added : (j : ℕ) → j < written k → (nth k j).item.value ≡ (nth k j).item.added
   -- its lane is that add's, and at most 255 (document 02, M-104)
-  pub lanes : (j : ℕ) → j < written k → ((nth k j).item.lane ≡ (reg_of k (nth k j).item.added).lane) × ((nth k j).item.lane ≤ most-lane)
+  pub lanes : (j : ℕ) → j < written k → ((nth k j).item.lane ≡ (reg_of k (nth k j).item.added).lane) × ((nth k j).item.lane ≤ most_lane)
   -- its registration's row is filled by it, but for written, which is the record's: the row's lane is the entry's
   pub rows : (j : ℕ) → j < written k → row_of k (nth k j).item.added ≡ fill j (nth k j) (unfilled (get_or k.recorded.written (nth k j).item.added 0))
   -- each accepted registration is in the order, or held in the window, or waits, and that once
-  pub somewhere : (r : ℕ) → r < length k.adds → times r k.guide.order + held-times r k.guide.spans + pending-times r k.pending ≡ 1
+  pub somewhere : (r : ℕ) → r < length k.adds → times r k.guide.order + held_times r k.guide.spans + pending_times r k.pending ≡ 1
   -- accepted = written + held + waiting
   pub counted : length k.adds ≡ written k + held k.guide.spans + length k.pending
   -- an accepted registration waits exactly when it has inputs and the greatest is above the mark,
   pub pending : (r : ℕ) → r < length k.adds → IsPending k r ↔ (ready (watermark N k) (reg_of k r).ins ≡ false)
   -- and none but accepted ones wait,
-  pub pending-known : (w : Pending) → Memᴰ w k.pending → w.reg < length k.adds
+  pub pending_known : (w : Pending) → Memᴰ w k.pending → w.reg < length k.adds
   -- under its greatest input, by ascending place, then by registration
-  pub pending-under : (w : Pending) → Memᴰ w k.pending → w.under ≡ greatest (reg_of k w.reg).ins
-  pub pending-sorted : Sorted k.pending
+  pub pending_under : (w : Pending) → Memᴰ w k.pending → w.under ≡ greatest (reg_of k w.reg).ins
+  pub pending_sorted : Sorted k.pending
   -- the tally counts the entries of each parallelism, and its sum is what is written
   pub tallied : (p : ℕ) → get_or (tally P k.guide.order) p 0 ≡ having p k.guide.order
-  pub tally-sum : sum (tally P k.guide.order) ≡ written k
+  pub tally_sum : sum (tally P k.guide.order) ≡ written k
   -- no call changed an entry already written
   pub stays : (before later : List Call) → before ++ later ≡ calls → (more : List Entry) × (k.guide.order ≡ (run P N W before initial).guide.order ++ more)
   -- a refused call changes nothing
@@ -85,6 +85,6 @@ pub record Demand (P N W : ℕ) (calls : List Call) (k : Model) : Type 0 where
   -- the session is closed exactly when a final was accepted, wherever it stands among the calls
   pub closes : FinalAccepted P N W calls initial ↔ (k.closed ≡ true)
   -- after an accepted final nothing waits, nothing is held, and each accepted registration stands in the order exactly once
-  pub none-pending : k.closed ≡ true → length k.pending ≡ 0
-  pub none-held : k.closed ≡ true → held k.guide.spans ≡ 0
+  pub none_pending : k.closed ≡ true → length k.pending ≡ 0
+  pub none_held : k.closed ≡ true → held k.guide.spans ≡ 0
   pub once : k.closed ≡ true → (r : ℕ) → r < length k.adds → times r k.guide.order ≡ 1

@@ -1,7 +1,7 @@
 -- The floor of an order (document 02, M-103). The entries whose index plus P is at most the order's length are its first length + 1 - P,
--- at most all of them (`first-ones`). The floor is the parallelism of one of them, and none of them has a smaller one; where there is none
--- it is 0 (`floor-is`), and no other number is so (`floor-only`). After every list of calls it is 0 where the order has fewer than P
--- entries, else from 1 to P (`floor-of-calls`).
+-- at most all of them (`first_ones`). The floor is the parallelism of one of them, and none of them has a smaller one; where there is none
+-- it is 0 (`floor_is`), and no other number is so (`floor_only`). After every list of calls it is 0 where the order has fewer than P
+-- entries, else from 1 to P (`floor_of_calls`).
 -- Assumes nothing.
 use Rattle.std.specs.Prelude.{◌≡◌, refl, Bool, true, false, ◌⊎◌, ℕ, zero, suc, ◌+◌, ◌-◌, ◌≤◌, ◌<◌, take, get_or, leb}
 use Rattle.std.proofs.Math.Path.{sym, ap}
@@ -13,61 +13,61 @@ use Rattle.std.proofs.Math.Seq.{take-nil}
 use Rattle.rules.specs.Guide.{Entry}
 use Rattle.rules.specs.Model.{Model, initial}
 use Rattle.rules.specs.Calls.{Call, run}
-use Rattle.rules.specs.Listing.{least, before-run-out, floor}
-use Rattle.laws.specs.History.{lt-or-le}
-use Rattle.laws.specs.Order.{no-written, written}
-use Rattle.laws.specs.DemandProof.{demand-3}
+use Rattle.rules.specs.Listing.{least, before_run_out, floor}
+use Rattle.laws.specs.History.{lt_or_le}
+use Rattle.laws.specs.Order.{no_written, written}
+use Rattle.laws.specs.DemandProof.{demand_3}
 
-none_after : (P n i : ℕ) (es : List Entry) → n < i + P → before-run-out P n i es ≡ []
-unfolding before-run-out
+none_after : (P n i : ℕ) (es : List Entry) → n < i + P → before_run_out P n i es ≡ []
+unfolding before_run_out
 none_after P n i [] h = refl
 none_after P n i (e ∷ es) h = go (leb (i + P) n) refl (none_after P n (suc i) es (omega arith))
   where
-    go : (t : Bool) → leb (i + P) n ≡ t → before-run-out P n (suc i) es ≡ [] → before-run-out P n i (e ∷ es) ≡ []
+    go : (t : Bool) → leb (i + P) n ≡ t → before_run_out P n (suc i) es ≡ [] → before_run_out P n i (e ∷ es) ≡ []
     go true f r = absurd (omega (arith, leb-true (i + P) n f))
-    go false f r = rw (before-run-out, f) r
+    go false f r = rw (before_run_out, f) r
 
-first-from : (P n i : ℕ) (es : List Entry) → before-run-out P n i es ≡ take (n + 1 - P - i) es
-unfolding before-run-out
-first-from P n i [] = sym (take-nil (n + 1 - P - i))
-first-from P n i (e ∷ es) = go (leb (i + P) n) refl (first-from P n (suc i) es)
+first_from : (P n i : ℕ) (es : List Entry) → before_run_out P n i es ≡ take (n + 1 - P - i) es
+unfolding before_run_out
+first_from P n i [] = sym (take-nil (n + 1 - P - i))
+first_from P n i (e ∷ es) = go (leb (i + P) n) refl (first_from P n (suc i) es)
   where
-    go : (t : Bool) → leb (i + P) n ≡ t → before-run-out P n (suc i) es ≡ take (n + 1 - P - suc i) es → before-run-out P n i (e ∷ es) ≡ take (n + 1 - P - i) (e ∷ es)
+    go : (t : Bool) → leb (i + P) n ≡ t → before_run_out P n (suc i) es ≡ take (n + 1 - P - suc i) es → before_run_out P n i (e ∷ es) ≡ take (n + 1 - P - i) (e ∷ es)
     go true f r =
         let k : n + 1 - P - i ≡ suc (n + 1 - P - suc i) = omega (arith, leb-true (i + P) n f) in
-        rw (before-run-out, f, k) (ap (λ (l : List Entry). e ∷ l) r)
+        rw (before_run_out, f, k) (ap (λ (l : List Entry). e ∷ l) r)
     go false f r =
         let late = leb-false (i + P) n f in
         let k : n + 1 - P - i ≡ 0 = omega (arith, late) in
-        rw (before-run-out, f, k) (none_after P n (suc i) es (omega (arith, late)))
+        rw (before_run_out, f, k) (none_after P n (suc i) es (omega (arith, late)))
 
 -- the entries that count are the first ones
-pub first-ones : (P : ℕ) (order : List Entry) → before-run-out P (length order) 0 order ≡ take (length order + 1 - P) order
-first-ones P order =
+pub first_ones : (P : ℕ) (order : List Entry) → before_run_out P (length order) 0 order ≡ take (length order + 1 - P) order
+first_ones P order =
     let e : length order + 1 - P - 0 ≡ length order + 1 - P = omega arith in
-    first-from P (length order) 0 order ∙ ap (λ (m : ℕ). take m order) e
+    first_from P (length order) 0 order ∙ ap (λ (m : ℕ). take m order) e
 
 -- the parallelism at an index
-abbrev pub parallelism-at : List Entry → ℕ → ℕ
-parallelism-at order j = (get_or order j no-written).parallelism
+abbrev pub parallelism_at : List Entry → ℕ → ℕ
+parallelism_at order j = (get_or order j no_written).parallelism
 
 -- the smallest of some entries: none is smaller, and one has it
-least-below : (es : List Entry) (j : ℕ) → j < length es → least es ≤ parallelism-at es j
+least_below : (es : List Entry) (j : ℕ) → j < length es → least es ≤ parallelism_at es j
 unfolding least
-least-below [] j h = absurd (omega arith)
-least-below (e ∷ []) zero h = omega arith
-least-below (e ∷ []) (suc j) h = absurd (omega arith)
-least-below (e ∷ (f ∷ es)) zero h = omega arith
-least-below (e ∷ (f ∷ es)) (suc j) h = omega (arith, least-below (f ∷ es) j (omega arith))
+least_below [] j h = absurd (omega arith)
+least_below (e ∷ []) zero h = omega arith
+least_below (e ∷ []) (suc j) h = absurd (omega arith)
+least_below (e ∷ (f ∷ es)) zero h = omega arith
+least_below (e ∷ (f ∷ es)) (suc j) h = omega (arith, least_below (f ∷ es) j (omega arith))
 
-least-one : (e : Entry) (es : List Entry) → (j : ℕ) × ((j < length (e ∷ es)) × (least (e ∷ es) ≡ parallelism-at (e ∷ es) j))
+least_one : (e : Entry) (es : List Entry) → (j : ℕ) × ((j < length (e ∷ es)) × (least (e ∷ es) ≡ parallelism_at (e ∷ es) j))
 unfolding least
-least-one e [] = (0, (omega arith, refl))
-least-one e (f ∷ es) = go (lt-or-le (least (f ∷ es)) e.parallelism) (least-one f es)
+least_one e [] = (0, (omega arith, refl))
+least_one e (f ∷ es) = go (lt_or_le (least (f ∷ es)) e.parallelism) (least_one f es)
   where
     go : (least (f ∷ es) < e.parallelism) ⊎ (e.parallelism ≤ least (f ∷ es))
-        → (j : ℕ) × ((j < length (f ∷ es)) × (least (f ∷ es) ≡ parallelism-at (f ∷ es) j))
-        → (j : ℕ) × ((j < length (e ∷ (f ∷ es))) × (least (e ∷ (f ∷ es)) ≡ parallelism-at (e ∷ (f ∷ es)) j))
+        → (j : ℕ) × ((j < length (f ∷ es)) × (least (f ∷ es) ≡ parallelism_at (f ∷ es) j))
+        → (j : ℕ) × ((j < length (e ∷ (f ∷ es))) × (least (e ∷ (f ∷ es)) ≡ parallelism_at (e ∷ (f ∷ es)) j))
     go (inl lt) (j, (h, q)) = (suc j, (omega (arith, h), omega (arith, lt, q)))
     go (inr le) r = (0, (omega arith, omega (arith, le)))
 
@@ -77,11 +77,11 @@ Counts P order j = (j < length order) × (j + P ≤ length order)
 
 -- f is the parallelism of one of these, or there is none and f is 0
 abbrev pub HasOne : ℕ → List Entry → ℕ → Type 0
-HasOne P order f = ((j : ℕ) × (Counts P order j × (f ≡ parallelism-at order j))) ⊎ (((j : ℕ) → Counts P order j → ⊥) × (f ≡ 0))
+HasOne P order f = ((j : ℕ) × (Counts P order j × (f ≡ parallelism_at order j))) ⊎ (((j : ℕ) → Counts P order j → ⊥) × (f ≡ 0))
 
 -- f is the smallest parallelism among these, and 0 where there is none
 pub record IsFloor (P : ℕ) (order : List Entry) (f : ℕ) : Type 0 where
-  pub below : (j : ℕ) → Counts P order j → f ≤ parallelism-at order j
+  pub below : (j : ℕ) → Counts P order j → f ≤ parallelism_at order j
   pub one : HasOne P order f
 
 module _ (P : ℕ) (order : List Entry) where
@@ -92,38 +92,38 @@ module _ (P : ℕ) (order : List Entry) where
   abbrev firsts : List Entry
   firsts = take counted order
 
-  counts-in : (j : ℕ) → Counts P order j → j < length firsts
-  counts-in j c = omega (arith, length-take counted order, c.0, c.1)
+  counts_in : (j : ℕ) → Counts P order j → j < length firsts
+  counts_in j c = omega (arith, length-take counted order, c.0, c.1)
 
-  in-counts : (j : ℕ) → j < length firsts → Counts P order j
-  in-counts j h = (omega (arith, length-take counted order), omega (arith, length-take counted order))
+  in_counts : (j : ℕ) → j < length firsts → Counts P order j
+  in_counts j h = (omega (arith, length-take counted order), omega (arith, length-take counted order))
 
-  same_at : (j : ℕ) → j < length firsts → parallelism-at firsts j ≡ parallelism-at order j
-  same_at j h = ap (λ (e : Entry). e.parallelism) (get_or-take counted order j no-written (omega (arith, length-take counted order)))
+  same_at : (j : ℕ) → j < length firsts → parallelism_at firsts j ≡ parallelism_at order j
+  same_at j h = ap (λ (e : Entry). e.parallelism) (get_or-take counted order j no_written (omega (arith, length-take counted order)))
 
-  least-is : (l : List Entry) → firsts ≡ l → IsFloor P order (least l)
+  least_is : (l : List Entry) → firsts ≡ l → IsFloor P order (least l)
   unfolding least
-  least-is [] e = let none : (j : ℕ) → Counts P order j → ⊥ = λ j c. omega (arith, counts-in j c, ap length e) in record { below = λ j c. absurd (none j c); one = inr (none, refl) }
-  least-is (x ∷ l) e =
+  least_is [] e = let none : (j : ℕ) → Counts P order j → ⊥ = λ j c. omega (arith, counts_in j c, ap length e) in record { below = λ j c. absurd (none j c); one = inr (none, refl) }
+  least_is (x ∷ l) e =
       record {
         below = λ j c.
-            let h = counts-in j c in
-            omega (arith, least-below (x ∷ l) j (omega (arith, h, ap length e)), ap (λ (y : List Entry). parallelism-at y j) e, same_at j h);
-        one = inl (go (least-one x l));
+            let h = counts_in j c in
+            omega (arith, least_below (x ∷ l) j (omega (arith, h, ap length e)), ap (λ (y : List Entry). parallelism_at y j) e, same_at j h);
+        one = inl (go (least_one x l));
       }
     where
-      go : (j : ℕ) × ((j < length (x ∷ l)) × (least (x ∷ l) ≡ parallelism-at (x ∷ l) j)) → (j : ℕ) × (Counts P order j × (least (x ∷ l) ≡ parallelism-at order j))
+      go : (j : ℕ) × ((j < length (x ∷ l)) × (least (x ∷ l) ≡ parallelism_at (x ∷ l) j)) → (j : ℕ) × (Counts P order j × (least (x ∷ l) ≡ parallelism_at order j))
       go (j, (h, q)) =
           let i : j < length firsts = omega (arith, h, ap length e) in
-          (j, (in-counts j i, q ∙ sym (ap (λ (y : List Entry). parallelism-at y j) e) ∙ same_at j i))
+          (j, (in_counts j i, q ∙ sym (ap (λ (y : List Entry). parallelism_at y j) e) ∙ same_at j i))
 
-  pub floor-is : IsFloor P order (floor P order)
+  pub floor_is : IsFloor P order (floor P order)
   unfolding floor
-  floor-is = rw (first-ones P order) (least-is firsts refl)
+  floor_is = rw (first_ones P order) (least_is firsts refl)
 
   -- two numbers that are it are the same
-  same-floor : {f g : ℕ} → IsFloor P order f → IsFloor P order g → f ≡ g
-  same-floor {f} {g} x y = go x.one y.one
+  same_floor : {f g : ℕ} → IsFloor P order f → IsFloor P order g → f ≡ g
+  same_floor {f} {g} x y = go x.one y.one
     where
       go : HasOne P order f → HasOne P order g → f ≡ g
       go (inl (i, (c, p))) (inl (j, (d, q))) = omega (arith, p, q, x.below j d, y.below i c)
@@ -131,8 +131,8 @@ module _ (P : ℕ) (order : List Entry) where
       go (inr (empty, p)) (inl (j, (d, q))) = absurd (empty j d)
       go (inr (empty, p)) (inr (nothing, q)) = p ∙ sym q
 
-  pub floor-only : {f : ℕ} → IsFloor P order f → f ≡ floor P order
-  floor-only x = same-floor x floor-is
+  pub floor_only : {f : ℕ} → IsFloor P order f → f ≡ floor P order
+  floor_only x = same_floor x floor_is
 
 module _ (P N W : ℕ) (hP : 1 ≤ P) (calls : List Call) where
   abbrev k : Model
@@ -142,11 +142,11 @@ module _ (P N W : ℕ) (hP : 1 ≤ P) (calls : List Call) where
   f = floor P k.guide.order
 
   -- after every list of calls: 0 where the order has fewer than P entries, else from 1 to P
-  pub floor-of-calls : ((written k < P) × (f ≡ 0)) ⊎ ((P ≤ written k) × ((1 ≤ f) × (f ≤ P)))
-  floor-of-calls = go (lt-or-le (written k) P) (floor-is P k.guide.order).one
+  pub floor_of_calls : ((written k < P) × (f ≡ 0)) ⊎ ((P ≤ written k) × ((1 ≤ f) × (f ≤ P)))
+  floor_of_calls = go (lt_or_le (written k) P) (floor_is P k.guide.order).one
     where
       go : (written k < P) ⊎ (P ≤ written k) → HasOne P k.guide.order f → ((written k < P) × (f ≡ 0)) ⊎ ((P ≤ written k) × ((1 ≤ f) × (f ≤ P)))
       go (inl lt) (inl (j, (c, q))) = absurd (omega (arith, lt, c.1))
       go (inl lt) (inr (empty, q)) = inl (lt, q)
-      go (inr le) (inl (j, (c, q))) = let b = (demand-3 P N W hP calls).parallelisms j c.0 in inr (le, (omega (arith, q, b.0), omega (arith, q, b.1)))
+      go (inr le) (inl (j, (c, q))) = let b = (demand_3 P N W hP calls).parallelisms j c.0 in inr (le, (omega (arith, q, b.0), omega (arith, q, b.1)))
       go (inr le) (inr (empty, q)) = absurd (empty 0 (omega (arith, hP, le), omega (arith, le)))

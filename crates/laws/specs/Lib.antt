@@ -1,6 +1,6 @@
--- Theorems about the definitions of `rules`. The main ones: `demand-3` (DemandProof), `numbers_fit` (Widths), `sound` and `between`
--- (Sound), `placeable` (Placeable), `alone-sound` (Alone), `alone-numbers-fit` (AloneWidths), `needed` (NeedsProof), `floor-is` (Floor),
--- `reasons` (ReasonProof), `job-reason-holds` (ReasonJobs).
+-- Theorems about the definitions of `rules`. The main ones: `demand_3` (DemandProof), `numbers_fit` (Widths), `sound` and `between`
+-- (Sound), `placeable` (Placeable), `alone_sound` (Alone), `alone_numbers_fit` (AloneWidths), `needed` (NeedsProof), `floor_is` (Floor),
+-- `reasons` (ReasonProof), `job_reason_holds` (ReasonJobs).
 pub mod Width
 pub mod History
 pub mod Together

@@ -4,21 +4,21 @@ use Rattle.std.specs.Prelude.{◌≡◌, List, ◌++◌, ℕ, suc, ◌+◌, ◌�
 use Rattle.std.proofs.Common.{ap, arith, length-append}
 use Rattle.rules.specs.Guide.{Item, Entry, Guide}
 use Rattle.rules.specs.Model.{Model}
-use Rattle.laws.specs.Width.{width-flat, width-pos, width-le}
-use Rattle.laws.specs.History.{len, start, locate, released-length, released-at}
+use Rattle.laws.specs.Width.{width_flat, width_pos, width_le}
+use Rattle.laws.specs.History.{len, start, locate, released_length, released_at}
 use Rattle.laws.specs.Together.{wide}
 use Rattle.laws.specs.GuideInv.{Core}
-use Rattle.laws.specs.ModelBase.{entry_at, no-entry}
+use Rattle.laws.specs.ModelBase.{entry_at, no_entry}
 
-abbrev pub no-written : Entry
-no-written = record { item = no-entry; parallelism = 0 }
+abbrev pub no_written : Entry
+no_written = record { item = no_entry; parallelism = 0 }
 
 -- entry j of a guide's order, and of a model's
-abbrev pub order-nth : Guide → ℕ → Entry
-order-nth g j = get_or g.order j no-written
+abbrev pub order_nth : Guide → ℕ → Entry
+order_nth g j = get_or g.order j no_written
 
 abbrev pub nth : Model → ℕ → Entry
-nth k j = order-nth k.guide j
+nth k j = order_nth k.guide j
 
 -- written: the count of the order's entries
 abbrev pub written : Model → ℕ
@@ -33,10 +33,10 @@ module _ (P : ℕ) (hP : 1 ≤ P) (g : Guide) (past : List (List Item)) (c : Cor
   wd = wide P H hP c.capped
 
   longer : length past < length H
-  longer = simp length-append (omega (arith, c.window-is))
+  longer = simp length-append (omega (arith, c.window_is))
 
-  order-long : length g.order ≡ start H (length past)
-  order-long = rw c.order_is (released-length P (length past) H longer)
+  order_long : length g.order ≡ start H (length past)
+  order_long = rw c.order_is (released_length P (length past) H longer)
 
   -- entry j of the order stands at position q of span s
   pub record At (j : ℕ) : Type 0 where
@@ -45,26 +45,26 @@ module _ (P : ℕ) (hP : 1 ≤ P) (g : Guide) (past : List (List Item)) (c : Cor
     pub out : s < length past
     pub within : q < len H s
     pub index : j ≡ start H s + q
-    pub entry-is : (order-nth g j).item ≡ entry_at H s q
-    pub width_is : (order-nth g j).parallelism ≡ wd s q
+    pub entry_is : (order_nth g j).item ≡ entry_at H s q
+    pub width_is : (order_nth g j).parallelism ≡ wd s q
 
-  pub order-here : (s q : ℕ) → s < length past → q < len H s → order-nth g (start H s + q) ≡ record { item = entry_at H s q; parallelism = wd s q }
+  pub order_here : (s q : ℕ) → s < length past → q < len H s → order_nth g (start H s + q) ≡ record { item = entry_at H s q; parallelism = wd s q }
   unfolding wd wide entry_at
-  order-here s q h i = rw c.order_is (released-at P (length past) H no-written no-entry s q longer h i)
+  order_here s q h i = rw c.order_is (released_at P (length past) H no_written no_entry s q longer h i)
 
   at_of : (j s q : ℕ) → s < length past → q < len H s → j ≡ start H s + q → At j
   at_of j s q h i e =
-      let x = order-here s q h i in
-      record { s = s; q = q; out = h; within = i; index = e; entry-is = rw e (ap (λ y. y.item) x); width_is = rw e (ap (λ y. y.parallelism) x) }
+      let x = order_here s q h i in
+      record { s = s; q = q; out = h; within = i; index = e; entry_is = rw e (ap (λ y. y.item) x); width_is = rw e (ap (λ y. y.parallelism) x) }
 
   -- every index of the order is such a position
-  pub order-at : (j : ℕ) → j < length g.order → At j
-  order-at j h = let l = locate H (length past) j (omega (arith, order-long)) in at_of j l.0 l.1 l.2 l.3 l.4
+  pub order_at : (j : ℕ) → j < length g.order → At j
+  order_at j h = let l = locate H (length past) j (omega (arith, order_long)) in at_of j l.0 l.1 l.2 l.3 l.4
 
   -- each parallelism of the order is from 1 to P
-  pub bounds : (j : ℕ) → j < length g.order → (1 ≤ (order-nth g j).parallelism) × ((order-nth g j).parallelism ≤ P)
+  pub bounds : (j : ℕ) → j < length g.order → (1 ≤ (order_nth g j).parallelism) × ((order_nth g j).parallelism ≤ P)
   unfolding wd wide
   bounds j h =
-      let a = order-at j h in
-      rw (a.width_is, width-flat P (len H a.s) (len H (suc a.s)) a.q hP a.within (c.capped a.s))
-      (width-pos P (len H a.s) (len H (suc a.s)) a.q hP a.within, width-le P (len H a.s) (len H (suc a.s)) a.q hP a.within)
+      let a = order_at j h in
+      rw (a.width_is, width_flat P (len H a.s) (len H (suc a.s)) a.q hP a.within (c.capped a.s))
+      (width_pos P (len H a.s) (len H (suc a.s)) a.q hP a.within, width_le P (len H a.s) (len H (suc a.s)) a.q hP a.within)

@@ -1,16 +1,16 @@
 // The listing of an accepted job from the session's order and rows, and what a refused job prints.
 ghost use Rattle.std.specs.Prelude.{◌≡◌, ◌+◌, ◌*◌, ◌≤◌, ◌<◌, ◌^◌, length};
-ghost use Rattle.rules.specs.Listing.{least as Listing·least, floor as Listing·floor, entry-line, rejection};
+ghost use Rattle.rules.specs.Listing.{least as Listing·least, floor as Listing·floor, entry_line, rejection};
 ghost use Rattle.entries.specs.Entries.{entry_of, fits};
 ghost use Rattle.writer.specs.Wrote.{Wrote};
-ghost use Rattle.listing.specs.Listed.{head_bytes, line-bytes, rejection-bytes, entries_from, lines_from, listed, Ready};
+ghost use Rattle.listing.specs.Listed.{head_bytes, line_bytes, rejection_bytes, entries_from, lines_from, listed, Ready};
 
 use entries::Entry;
 
 // An entry's line: its order index, added, accepted and parallelism, its row's written, and its lane.
 fn put_entry(out: &mut [u8], at: usize, index: u64, e: Entry, written: u32) -> usize
-    requires { (index < 2 ^ 32) × (at + line-bytes ≤ length out.old) }
-    ensures { (Wrote out.old out.new at result (entry-line index (entry_of e) written)) × (result ≤ at + line-bytes) }
+    requires { (index < 2 ^ 32) × (at + line_bytes ≤ length out.old) }
+    ensures { (Wrote out.old out.new at result (entry_line index (entry_of e) written)) × (result ≤ at + line_bytes) }
 {
     let a = writer::put_field(out, at, b"order=", index);
     let b = writer::put_field(out, a, b" added=", e.added as u64);
@@ -22,7 +22,7 @@ fn put_entry(out: &mut [u8], at: usize, index: u64, e: Entry, written: u32) -> u
 
 // The lines of the first n entries, one after another.
 fn put_entries(order: &[u32], rows: &[u32], out: &mut [u8], at: usize, n: usize) -> usize
-    requires { (Ready order.now rows.now n) × (at + line-bytes * n ≤ length out.old) }
+    requires { (Ready order.now rows.now n) × (at + line_bytes * n ≤ length out.old) }
     ensures { Wrote out.old out.new at result (lines_from order.now rows.now 0 n) }
 {
     let mut end = at;
@@ -78,7 +78,7 @@ pub fn put_listing(
     places: u32,
     median: u32,
 ) -> usize
-    requires { (Ready order.now rows.now n) × (head_bytes + line-bytes * n ≤ length out.old) }
+    requires { (Ready order.now rows.now n) × (head_bytes + line_bytes * n ≤ length out.old) }
     ensures { Wrote out.old out.new 0 result (listed order.now rows.now n p places median) }
 {
     let low = floor(order, n, p);
@@ -92,7 +92,7 @@ pub fn put_listing(
 
 // What a refused job prints: its number and its line.
 pub fn put_rejection(out: &mut [u8], line: u64, code: u64) -> usize
-    requires { rejection-bytes ≤ length out.old }
+    requires { rejection_bytes ≤ length out.old }
     ensures { Wrote out.old out.new 0 result (rejection line code) }
 {
     let a = writer::put_line(out, 0, b"status=", code);

@@ -17,39 +17,39 @@ any_below N (x ∷ xs) e = go (bool_cases (leb N x)) (any_below N xs)
     go (inl b) r = absurd (false≢true (sym (rw b at e)))
     go (inr b) r = (leb-false N x b, r (rw b at e))
 
-pub below-any : (N : ℕ) (xs : List ℕ) → Below N xs → any (λ x. leb N x) xs ≡ false
+pub below_any : (N : ℕ) (xs : List ℕ) → Below N xs → any (λ x. leb N x) xs ≡ false
 unfolding any Below
-below-any N [] b = refl
-below-any N (x ∷ xs) b = rw (lt-leb N x b.0) (below-any N xs b.1)
+below_any N [] b = refl
+below_any N (x ∷ xs) b = rw (lt-leb N x b.0) (below_any N xs b.1)
 
-pub below-append : (N : ℕ) (a b : List ℕ) → Below N (a ++ b) → Below N a × Below N b
+pub below_append : (N : ℕ) (a b : List ℕ) → Below N (a ++ b) → Below N a × Below N b
 unfolding Below
-below-append N [] b h = (tt, h)
-below-append N (x ∷ a) b h = let r = below-append N a b h.1 in ((h.0, r.0), r.1)
+below_append N [] b h = (tt, h)
+below_append N (x ∷ a) b h = let r = below_append N a b h.1 in ((h.0, r.0), r.1)
 
 -- the greatest of places below N is below N
-pub greatest-below : (N : ℕ) (xs : List ℕ) → 0 < N → Below N xs → greatest xs < N
+pub greatest_below : (N : ℕ) (xs : List ℕ) → 0 < N → Below N xs → greatest xs < N
 unfolding greatest Below
-greatest-below N [] z b = z
-greatest-below N (x ∷ xs) z b = omega (arith, b.0, greatest-below N xs z b.1)
+greatest_below N [] z b = z
+greatest_below N (x ∷ xs) z b = omega (arith, b.0, greatest_below N xs z b.1)
 
-pub below-greatest : (N : ℕ) (xs : List ℕ) → greatest xs < N → Below N xs
+pub below_greatest : (N : ℕ) (xs : List ℕ) → greatest xs < N → Below N xs
 unfolding greatest Below
-below-greatest N [] h = tt
-below-greatest N (x ∷ xs) h = (omega arith, below-greatest N xs (omega arith))
+below_greatest N [] h = tt
+below_greatest N (x ∷ xs) h = (omega arith, below_greatest N xs (omega arith))
 
 -- ready: no inputs, or the greatest below the watermark
-pub ready-none : (m : ℕ) (xs : List ℕ) → length xs ≡ 0 → ready m xs ≡ true
+pub ready_none : (m : ℕ) (xs : List ℕ) → length xs ≡ 0 → ready m xs ≡ true
 unfolding ready
-ready-none m [] e = refl
-ready-none m (x ∷ xs) e = absurd (omega arith)
+ready_none m [] e = refl
+ready_none m (x ∷ xs) e = absurd (omega arith)
 
-pub ready-low : (m : ℕ) (xs : List ℕ) → greatest xs < m → ready m xs ≡ true
+pub ready_low : (m : ℕ) (xs : List ℕ) → greatest xs < m → ready m xs ≡ true
 unfolding ready
-ready-low m [] h = refl
-ready-low m (x ∷ xs) h = lt-ltb (greatest (x ∷ xs)) m h
+ready_low m [] h = refl
+ready_low m (x ∷ xs) h = lt-ltb (greatest (x ∷ xs)) m h
 
-pub ready-high : (m : ℕ) (xs : List ℕ) → (length xs ≡ 0 → ⊥) → m ≤ greatest xs → ready m xs ≡ false
+pub ready_high : (m : ℕ) (xs : List ℕ) → (length xs ≡ 0 → ⊥) → m ≤ greatest xs → ready m xs ≡ false
 unfolding ready
-ready-high m [] n h = absurd (n refl)
-ready-high m (x ∷ xs) n h = le-ltb (greatest (x ∷ xs)) m h
+ready_high m [] n h = absurd (n refl)
+ready_high m (x ∷ xs) n h = le-ltb (greatest (x ∷ xs)) m h

@@ -33,8 +33,8 @@ module _ (pool : List ℕ) (at n : ℕ) (h : at + n ≤ length pool) where
   unfolding part
   part_end j k = let e : n - j ≡ 0 = omega arith in rw e
 
-  pub part-begin : part pool at n ≡ part pool (at + 0) (n - 0)
-  part-begin = rw (add-zero, sub-zero)
+  pub part_begin : part pool at n ≡ part pool (at + 0) (n - 0)
+  part_begin = rw (add-zero, sub-zero)
 
   pub part_length : length (part pool at n) ≡ n
   unfolding part
@@ -50,10 +50,10 @@ below_at N [] b j h = absurd (omega arith)
 below_at N (x ∷ xs) b zero h = b.0
 below_at N (x ∷ xs) b (suc j) h = below_at N xs b.1 j (omega arith)
 
-pub at-below : (N : ℕ) (xs : List ℕ) → ((j : ℕ) → j < length xs → get_or xs j 0 < N) → Below N xs
+pub at_below : (N : ℕ) (xs : List ℕ) → ((j : ℕ) → j < length xs → get_or xs j 0 < N) → Below N xs
 unfolding Below
-at-below N [] h = tt
-at-below N (x ∷ xs) h = (h 0 (omega arith), at-below N xs (λ j k. h (suc j) (omega arith)))
+at_below N [] h = tt
+at_below N (x ∷ xs) h = (h 0 (omega arith), at_below N xs (λ j k. h (suc j) (omega arith)))
 
 -- a list that lies in the pool with numbers below N is listed there
 pub listed_of : (pool : List ℕ) (at n N m : ℕ) → at + n ≤ length pool → Below N (part pool at n) → N ≤ m → Listed pool at n m

@@ -8,24 +8,24 @@ use native.Mathlib.Omega.{arith}
 use Rattle.rules.specs.Model.{greatest}
 use Rattle.rules.specs.Checks.{any}
 
-pub drop-step : (xs : List ℕ) (i : ℕ) → i < length xs → drop i xs ≡ get_or xs i 0 ∷ drop (i + 1) xs
-drop-step xs i h = rw (add-one, drop-cons xs i 0)
+pub drop_step : (xs : List ℕ) (i : ℕ) → i < length xs → drop i xs ≡ get_or xs i 0 ∷ drop (i + 1) xs
+drop_step xs i h = rw (add-one, drop-cons xs i 0)
 
-pub drop-none : (xs : List ℕ) (i : ℕ) → length xs ≤ i → drop i xs ≡ []
-drop-none xs i h = drop_of_length-le xs h
+pub drop_none : (xs : List ℕ) (i : ℕ) → length xs ≤ i → drop i xs ≡ []
+drop_none xs i h = drop_of_length-le xs h
 
 module _ (t : ℕ → Bool) (xs : List ℕ) (i : ℕ) where
   pub any_found : i < length xs → t (get_or xs i 0) ≡ true → any t (drop i xs) ≡ true
   unfolding any
-  any_found h e = rw (drop-step xs i h, e)
+  any_found h e = rw (drop_step xs i h, e)
 
   pub any_next : i < length xs → t (get_or xs i 0) ≡ false → any t (drop i xs) ≡ any t (drop (i + 1) xs)
   unfolding any
-  any_next h e = ap (any t) (drop-step xs i h) ∙ rw e
+  any_next h e = ap (any t) (drop_step xs i h) ∙ rw e
 
   pub any_none : length xs ≤ i → any t (drop i xs) ≡ false
   unfolding any
-  any_none h = ap (any t) (drop-none xs i h)
+  any_none h = ap (any t) (drop_none xs i h)
 
 pub any_append : (t : ℕ → Bool) (a b : List ℕ) → any t (a ++ b) ≡ (any t a || any t b)
 unfolding any
@@ -42,32 +42,32 @@ any_at t xs i h e =
     let a : any t (take i xs ++ drop i xs) ≡ true = any_append t (take i xs) (drop i xs) ∙ rw (any_found t xs i h e, or-true) in
     subst (λ (l : List ℕ). any t l ≡ true) (take-append-drop i xs) a
 
-pub any-one : (t : ℕ → Bool) (x : ℕ) → any t (x ∷ []) ≡ t x
+pub any_one : (t : ℕ → Bool) (x : ℕ) → any t (x ∷ []) ≡ t x
 unfolding any
-any-one t x = go (t x)
+any_one t x = go (t x)
   where
     go : (c : Bool) → (c || false) ≡ c
     go true = refl
     go false = refl
 
 module _ (xs : List ℕ) where
-  pub greatest-begins : greatest xs ≡ max 0 (greatest (drop 0 xs))
-  greatest-begins = omega arith
+  pub greatest_begins : greatest xs ≡ max 0 (greatest (drop 0 xs))
+  greatest_begins = omega arith
 
-  pub greatest-less : (m i : ℕ) → i < length xs → get_or xs i 0 ≤ m → max m (greatest (drop i xs)) ≡ max m (greatest (drop (i + 1) xs))
+  pub greatest_less : (m i : ℕ) → i < length xs → get_or xs i 0 ≤ m → max m (greatest (drop i xs)) ≡ max m (greatest (drop (i + 1) xs))
   unfolding greatest
-  greatest-less m i h k = rw (drop-step xs i h) (three m (get_or xs i 0) (greatest (drop (i + 1) xs)) k)
+  greatest_less m i h k = rw (drop_step xs i h) (three m (get_or xs i 0) (greatest (drop (i + 1) xs)) k)
     where
       three : (m x y : ℕ) → x ≤ m → max m (max x y) ≡ max m y
       three m x y q = omega arith
 
-  pub greatest-more : (m i : ℕ) → i < length xs → m ≤ get_or xs i 0 → max m (greatest (drop i xs)) ≡ max (get_or xs i 0) (greatest (drop (i + 1) xs))
+  pub greatest_more : (m i : ℕ) → i < length xs → m ≤ get_or xs i 0 → max m (greatest (drop i xs)) ≡ max (get_or xs i 0) (greatest (drop (i + 1) xs))
   unfolding greatest
-  greatest-more m i h k = rw (drop-step xs i h) (three m (get_or xs i 0) (greatest (drop (i + 1) xs)) k)
+  greatest_more m i h k = rw (drop_step xs i h) (three m (get_or xs i 0) (greatest (drop (i + 1) xs)) k)
     where
       three : (m x y : ℕ) → m ≤ x → max m (max x y) ≡ max x y
       three m x y q = omega arith
 
-  pub greatest-ends : (m i : ℕ) → length xs ≤ i → max m (greatest (drop i xs)) ≡ m
+  pub greatest_ends : (m i : ℕ) → length xs ≤ i → max m (greatest (drop i xs)) ≡ m
   unfolding greatest
-  greatest-ends m i h = rw (drop-none xs i h) (omega arith)
+  greatest_ends m i h = rw (drop_none xs i h) (omega arith)

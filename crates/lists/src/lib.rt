@@ -1,12 +1,12 @@
 // A call's lists of places, looked at as arguments. How such a list lies in the pool is said in specs/Part.
 ghost use Rattle.std.specs.Prelude.{◌≡◌, ◌||◌, length, leb, ltb};
-ghost use Rattle.rules.specs.Limits.{most-in-a-list};
+ghost use Rattle.rules.specs.Limits.{most_in_a_list};
 ghost use Rattle.rules.specs.Model.{greatest as greatest-of};
 ghost use Rattle.rules.specs.Checks.{any};
 
 // Whether there are more inputs or outputs than a registration may have.
 pub fn too_many(ins: &[u64], outs: &[u64]) -> bool
-    ensures { result ≡ (ltb most-in-a-list (length ins.now) || ltb most-in-a-list (length outs.now)) }
+    ensures { result ≡ (ltb most_in_a_list (length ins.now) || ltb most_in_a_list (length outs.now)) }
 {
     if rules::MOST_IN_A_LIST < ins.len() {
         return true;

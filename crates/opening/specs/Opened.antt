@@ -4,36 +4,36 @@ use Rattle.std.specs.Prelude.{◌≡◌, List, false, ℕ, ◌+◌, ◌/◌, ◌
 use Rattle.std.proofs.Math.Path.{refl}
 use Rattle.std.proofs.Common.{sym, ap, subst, arith, ltb-false}
 use Rattle.std.proofs.Math.ListN.{length}
-use Rattle.rules.specs.Limits.{most-parallelism, most-places}
-use Rattle.rules.specs.Checks.{pooled, verdict, any, Sizes, spans-needed, waiting-needed, check-open, check-range, too_short}
+use Rattle.rules.specs.Limits.{most_parallelism, most_places}
+use Rattle.rules.specs.Checks.{pooled, verdict, any, Sizes, spans_needed, waiting_needed, check_open, check_range, too_short}
 use Rattle.rules.specs.Model.{initial}
-use Rattle.laws.specs.Accepted.{verdict-head, or-false}
-use Rattle.pool.specs.ListLaws.{lists-open}
-use Rattle.taken.specs.FlagLaws.{flags-open}
-use Rattle.registrar.specs.Keeps.{delayed-open}
-use Rattle.guide.specs.Fresh.{first-guide}
-use Rattle.entries.specs.Entries.{entry-size, capacity, fits}
-use Rattle.records.specs.Filling.{row-size, row-extent, row-capacity, rows_fit}
+use Rattle.laws.specs.Accepted.{verdict_head, or_false}
+use Rattle.pool.specs.ListLaws.{lists_open}
+use Rattle.taken.specs.FlagLaws.{flags_open}
+use Rattle.registrar.specs.Keeps.{delayed_open}
+use Rattle.guide.specs.Fresh.{first_guide}
+use Rattle.entries.specs.Entries.{entry_size, capacity, fits}
+use Rattle.records.specs.Filling.{row_size, row_extent, row_capacity, rows_fit}
 use Rattle.zeros.specs.Zeros.{Cleared}
 use Rattle.waiting.specs.Cleared.{Emptied}
 use Rattle.session.specs.declared.Session.{Session}
 use Rattle.placing.specs.Slices.{Borrowed}
-use Rattle.session.specs.Storage.{Storage, storage, Frame, beyond-refl}
+use Rattle.session.specs.Storage.{Storage, storage, Frame, beyond_refl}
 use Rattle.session.specs.Rep.{Rep}
-use Rattle.opening.specs.Parts.{fresh-guided, fresh-rowed, fresh-tracked, cleared-beyond}
+use Rattle.opening.specs.Parts.{fresh_guided, fresh_rowed, fresh_tracked, cleared_beyond}
 
 -- lengths of storage, in entries and rows where it holds those
-abbrev pub sizes-of : ℕ → ℕ → ℕ → ℕ → ℕ → ℕ → ℕ → Sizes
-sizes-of spans order tally rows marks locations waiting =
-    record { spans = spans / entry-size; order = order / entry-size; rows = rows / row-size; marks = marks; locations = locations; waiting = waiting; tally = tally }
+abbrev pub sizes_of : ℕ → ℕ → ℕ → ℕ → ℕ → ℕ → ℕ → Sizes
+sizes_of spans order tally rows marks locations waiting =
+    record { spans = spans / entry_size; order = order / entry_size; rows = rows / row_size; marks = marks; locations = locations; waiting = waiting; tally = tally }
 
 abbrev pub sizes : Storage → Sizes
-sizes σ = sizes-of (length σ.spans) (length σ.order) (length σ.tally) (length σ.rows) (length σ.marks) (length σ.locations) (length σ.waiting)
+sizes σ = sizes_of (length σ.spans) (length σ.order) (length σ.tally) (length σ.rows) (length σ.marks) (length σ.locations) (length σ.waiting)
 
 -- a session just opened
-abbrev pub first-session : ℕ → ℕ → Session
-first-session P N =
-    record { guide = first-guide P N; watermark = 0; added = 0; used = 0; delayed = 0; flushes = 0; closed = false; registrations = 0; places = 0 }
+abbrev pub first_session : ℕ → ℕ → Session
+first_session P N =
+    record { guide = first_guide P N; watermark = 0; added = 0; used = 0; delayed = 0; flushes = 0; closed = false; registrations = 0; places = 0 }
 
 -- rows, places with their locations, and tally are zeros over the needed lengths, the waiting storage has no head and no flag, and all else
 -- is as it was
@@ -41,7 +41,7 @@ pub record Fresh (P N : ℕ) (σ τ : Storage) : Type 0 where
   pub spans : τ.spans ≡ σ.spans
   pub order : τ.order ≡ σ.order
   pub tally : Cleared 0 (P + 1) σ.tally τ.tally
-  pub rows : Cleared 0 (row-extent N) σ.rows τ.rows
+  pub rows : Cleared 0 (row_extent N) σ.rows τ.rows
   pub marks : Cleared 0 N σ.marks τ.marks
   pub locations : Cleared 0 N σ.locations τ.locations
   pub waiting : Emptied N σ.waiting τ.waiting
@@ -50,10 +50,10 @@ pub record Fresh (P N : ℕ) (σ τ : Storage) : Type 0 where
 -- what opening promises: its number is that of the checks; refused, it leaves the storage as it was, and the session is the fresh one of P 0
 -- and V 0; accepted, the session is the fresh one of P and N and stands, with the storage, for the model at the start
 pub record Opens (P N n : ℕ) (s : Session) (σ τ : Storage) : Type 0 where
-  pub number : n ≡ verdict (check-open P N (sizes σ))
+  pub number : n ≡ verdict (check_open P N (sizes σ))
   pub refused : (n ≡ 0 → ⊥) → τ ≡ σ
-  pub unopened : (n ≡ 0 → ⊥) → s ≡ first-session 0 0
-  pub session : n ≡ 0 → s ≡ first-session P N
+  pub unopened : (n ≡ 0 → ⊥) → s ≡ first_session 0 0
+  pub session : n ≡ 0 → s ≡ first_session P N
   pub cleared : n ≡ 0 → Fresh P N σ τ
   pub rep : n ≡ 0 → Rep P N initial s τ
   pub frame : n ≡ 0 → Frame P N 0 0 σ τ
@@ -61,95 +61,95 @@ pub record Opens (P N n : ℕ) (s : Session) (σ τ : Storage) : Type 0 where
 -- what the checks tell
 pub record Enough (P N : ℕ) (σ : Storage) : Type 0 where
   pub one : 1 ≤ P
-  pub few : P ≤ most-parallelism
+  pub few : P ≤ most_parallelism
   pub places : 1 ≤ N
-  pub small : N ≤ most-places
-  pub spans : fits σ.spans (spans-needed P)
+  pub small : N ≤ most_places
+  pub spans : fits σ.spans (spans_needed P)
   pub order : fits σ.order N
   pub tally : P < length σ.tally
   pub rows : rows_fit σ.rows N
   pub marks : N ≤ length σ.marks
   pub locations : N ≤ length σ.locations
-  pub waiting : waiting-needed N ≤ length σ.waiting
+  pub waiting : waiting_needed N ≤ length σ.waiting
 
-pub enough-of : (P N : ℕ) (σ : Storage) → 0 ≡ verdict (check-open P N (sizes σ)) → Enough P N σ
-unfolding check-open check-range too_short any
-enough-of P N σ e =
-    let a = verdict-head _ _ (sym e) (omega arith) in
-    let b = verdict-head _ _ a.1 (omega arith) in
-    let c = verdict-head _ _ b.1 (omega arith) in
-    let p = or-false (ltb P 1) (ltb most-parallelism P) a.0 in
-    let v = or-false (ltb N 1) (ltb most-places N) b.0 in
-    let d = or-false _ _ c.0 in
-    let f = or-false _ _ d.1 in
-    let g = or-false _ _ f.1 in
-    let h = or-false _ _ g.1 in
-    let i = or-false _ _ h.1 in
-    let j = or-false _ _ i.1 in
-    let k = or-false _ _ j.1 in
+pub enough_of : (P N : ℕ) (σ : Storage) → 0 ≡ verdict (check_open P N (sizes σ)) → Enough P N σ
+unfolding check_open check_range too_short any
+enough_of P N σ e =
+    let a = verdict_head _ _ (sym e) (omega arith) in
+    let b = verdict_head _ _ a.1 (omega arith) in
+    let c = verdict_head _ _ b.1 (omega arith) in
+    let p = or_false (ltb P 1) (ltb most_parallelism P) a.0 in
+    let v = or_false (ltb N 1) (ltb most_places N) b.0 in
+    let d = or_false _ _ c.0 in
+    let f = or_false _ _ d.1 in
+    let g = or_false _ _ f.1 in
+    let h = or_false _ _ g.1 in
+    let i = or_false _ _ h.1 in
+    let j = or_false _ _ i.1 in
+    let k = or_false _ _ j.1 in
     record {
       one = ltb-false P 1 p.0;
-      few = ltb-false most-parallelism P p.1;
+      few = ltb-false most_parallelism P p.1;
       places = ltb-false N 1 v.0;
-      small = ltb-false most-places N v.1;
-      spans = omega (arith, ltb-false (capacity σ.spans) (spans-needed P) d.0);
+      small = ltb-false most_places N v.1;
+      spans = omega (arith, ltb-false (capacity σ.spans) (spans_needed P) d.0);
       order = omega (arith, ltb-false (capacity σ.order) N f.0);
       tally = omega (arith, ltb-false (length σ.tally) (P + 1) k.0);
-      rows = omega (arith, ltb-false (row-capacity σ.rows) N g.0);
+      rows = omega (arith, ltb-false (row_capacity σ.rows) N g.0);
       marks = ltb-false (length σ.marks) N h.0;
       locations = ltb-false (length σ.locations) N i.0;
-      waiting = ltb-false (length σ.waiting) (waiting-needed N) j.0;
+      waiting = ltb-false (length σ.waiting) (waiting_needed N) j.0;
     }
 
 module _ (P N : ℕ) (σ τ : Storage) (E : Enough P N σ) (F : Fresh P N σ τ) where
-  pub fresh-rep : Rep P N initial (first-session P N) τ
+  pub fresh_rep : Rep P N initial (first_session P N) τ
   unfolding initial pooled
-  fresh-rep =
+  fresh_rep =
       record {
         core = record {
           guided =
-              fresh-guided P N σ.tally τ E.one E.few E.places E.small (rw F.spans E.spans) (rw F.order E.order) E.tally F.tally;
-          rowed = fresh-rowed N σ.rows τ E.rows F.rows;
-          tracked = fresh-tracked N σ.marks σ.locations τ E.marks E.locations F.marks F.locations;
-          stored = record { lists = lists-open N τ.waiting τ.pool long; flags = flags-open N τ.waiting long F.waiting.flags };
+              fresh_guided P N σ.tally τ E.one E.few E.places E.small (rw F.spans E.spans) (rw F.order E.order) E.tally F.tally;
+          rowed = fresh_rowed N σ.rows τ E.rows F.rows;
+          tracked = fresh_tracked N σ.marks σ.locations τ E.marks E.locations F.marks F.locations;
+          stored = record { lists = lists_open N τ.waiting τ.pool long; flags = flags_open N τ.waiting long F.waiting.flags };
         };
-        counted = record { added_is = refl; used-is = refl; flushes-is = refl; closed_is = refl; registrations-is = refl; places_is = refl };
-        delayed = delayed-open τ.waiting N long F.waiting.heads;
-        delayed-is = refl;
+        counted = record { added_is = refl; used_is = refl; flushes_is = refl; closed_is = refl; registrations_is = refl; places_is = refl };
+        delayed = delayed_open τ.waiting N long F.waiting.heads;
+        delayed_is = refl;
       }
     where
-      long : waiting-needed N ≤ length τ.waiting
+      long : waiting_needed N ≤ length τ.waiting
       long = omega (arith, F.waiting.long, E.waiting)
 
-  pub fresh-frame : Frame P N 0 0 σ τ
-  fresh-frame =
+  pub fresh_frame : Frame P N 0 0 σ τ
+  fresh_frame =
       record {
         grows = omega arith;
-        spans = rw F.spans (beyond-refl _ σ.spans);
-        order = rw F.order (beyond-refl _ σ.order);
+        spans = rw F.spans (beyond_refl _ σ.spans);
+        order = rw F.order (beyond_refl _ σ.order);
         before = λ j h. absurd (omega arith);
-        tally = cleared-beyond (P + 1) σ.tally τ.tally F.tally;
-        rows = cleared-beyond (row-extent N) σ.rows τ.rows F.rows;
-        marks = cleared-beyond N σ.marks τ.marks F.marks;
-        locations = cleared-beyond N σ.locations τ.locations F.locations;
+        tally = cleared_beyond (P + 1) σ.tally τ.tally F.tally;
+        rows = cleared_beyond (row_extent N) σ.rows τ.rows F.rows;
+        marks = cleared_beyond N σ.marks τ.marks F.marks;
+        locations = cleared_beyond N σ.locations τ.locations F.locations;
         waiting = record { long = F.waiting.long; same = F.waiting.beyond };
         pool = ap length F.pool;
       }
 
 -- the lengths suffice for clearing
 pub record Lengths (p v tally rows marks locations waiting : ℕ) : Type 0 where
-  pub low-p : p ≤ most-parallelism
-  pub low-v : v ≤ most-places
-  pub tally-long : p + 1 ≤ tally
-  pub rows_long : row-extent v ≤ rows
-  pub marks-long : v ≤ marks
-  pub locations-long : v ≤ locations
-  pub waiting-long : waiting-needed v ≤ waiting
+  pub low_p : p ≤ most_parallelism
+  pub low_v : v ≤ most_places
+  pub tally_long : p + 1 ≤ tally
+  pub rows_long : row_extent v ≤ rows
+  pub marks_long : v ≤ marks
+  pub locations_long : v ≤ locations
+  pub waiting_long : waiting_needed v ≤ waiting
 
 -- what clearing promises
 pub record Clears (p v : ℕ) (t rs m l w t' rs' m' l' w' : List ℕ) : Type 0 where
   pub tally : Cleared 0 (p + 1) t t'
-  pub rows : Cleared 0 (row-extent v) rs rs'
+  pub rows : Cleared 0 (row_extent v) rs rs'
   pub marks : Cleared 0 v m m'
   pub locations : Cleared 0 v l l'
   pub waiting : Emptied v w w'
@@ -160,33 +160,33 @@ ClearsOver p v tally rows marks locations waiting =
     Clears p v tally.entry.now rows.entry.now marks.entry.now locations.entry.now waiting.entry.now
     tally.exit.now rows.exit.now marks.exit.now locations.exit.now waiting.exit.now
 
-pub lengths-of : (P N : ℕ) (sp o t rs m l w pool : List ℕ) → 0 ≡ verdict (check-open P N (sizes (storage sp o t rs m l w pool))) → Lengths P N (length t) (length rs) (length m) (length l) (length w)
-lengths-of P N sp o t rs m l w pool e =
-    let E = enough-of P N (storage sp o t rs m l w pool) e in
-    record { low-p = E.few; low-v = E.small; tally-long = omega (arith, E.tally); rows_long = E.rows; marks-long = E.marks; locations-long = E.locations; waiting-long = E.waiting }
+pub lengths_of : (P N : ℕ) (sp o t rs m l w pool : List ℕ) → 0 ≡ verdict (check_open P N (sizes (storage sp o t rs m l w pool))) → Lengths P N (length t) (length rs) (length m) (length l) (length w)
+lengths_of P N sp o t rs m l w pool e =
+    let E = enough_of P N (storage sp o t rs m l w pool) e in
+    record { low_p = E.few; low_v = E.small; tally_long = omega (arith, E.tally); rows_long = E.rows; marks_long = E.marks; locations_long = E.locations; waiting_long = E.waiting }
 
 -- refused, and accepted
 module _ (P N : ℕ) (sp o t rs m l w pool : List ℕ) where
-  pub opens-refused : (n : ℕ) (s : Session) → n ≡ verdict (check-open P N (sizes (storage sp o t rs m l w pool))) → (n ≡ 0 → ⊥) → s ≡ first-session 0 0
+  pub opens_refused : (n : ℕ) (s : Session) → n ≡ verdict (check_open P N (sizes (storage sp o t rs m l w pool))) → (n ≡ 0 → ⊥) → s ≡ first_session 0 0
       → Opens P N n s (storage sp o t rs m l w pool) (storage sp o t rs m l w pool)
-  opens-refused n s e z es =
+  opens_refused n s e z es =
       record { number = e; refused = λ x. refl; unopened = λ x. es; session = λ x. absurd (z x); cleared = λ x. absurd (z x); rep = λ x. absurd (z x); frame = λ x. absurd (z x) }
 
-  pub opens-done : (s : Session) (t' rs' m' l' w' : List ℕ) → 0 ≡ verdict (check-open P N (sizes (storage sp o t rs m l w pool))) → s ≡ first-session P N → Clears P N t rs m l w t' rs' m' l' w'
+  pub opens_done : (s : Session) (t' rs' m' l' w' : List ℕ) → 0 ≡ verdict (check_open P N (sizes (storage sp o t rs m l w pool))) → s ≡ first_session P N → Clears P N t rs m l w t' rs' m' l' w'
       → Opens P N 0 s (storage sp o t rs m l w pool) (storage sp o t' rs' m' l' w' pool)
-  opens-done s t' rs' m' l' w' e es c =
+  opens_done s t' rs' m' l' w' e es c =
       record {
         number = e;
         refused = λ x. absurd (x refl);
         unopened = λ x. absurd (x refl);
         session = λ x. es;
         cleared = λ x. F;
-        rep = λ x. subst (λ (z : Session). Rep P N initial z (storage sp o t' rs' m' l' w' pool)) (sym es) (fresh-rep P N (storage sp o t rs m l w pool) (storage sp o t' rs' m' l' w' pool) E F);
-        frame = λ x. fresh-frame P N (storage sp o t rs m l w pool) (storage sp o t' rs' m' l' w' pool) E F;
+        rep = λ x. subst (λ (z : Session). Rep P N initial z (storage sp o t' rs' m' l' w' pool)) (sym es) (fresh_rep P N (storage sp o t rs m l w pool) (storage sp o t' rs' m' l' w' pool) E F);
+        frame = λ x. fresh_frame P N (storage sp o t rs m l w pool) (storage sp o t' rs' m' l' w' pool) E F;
       }
     where
       E : Enough P N (storage sp o t rs m l w pool)
-      E = enough-of P N (storage sp o t rs m l w pool) e
+      E = enough_of P N (storage sp o t rs m l w pool) e
 
       F : Fresh P N (storage sp o t rs m l w pool) (storage sp o t' rs' m' l' w' pool)
       F =
@@ -203,7 +203,7 @@ module _ (P N : ℕ) (sp o t rs m l w pool : List ℕ) where
 
 -- what the work of an accepted opening promises: of every storage that passes the checks and has these slices, what opening promises
 pub record Begins (P N : ℕ) (s : Session) (t rs m l w t' rs' m' l' w' : List ℕ) : Type 0 where
-  pub opens : (sp o pool : List ℕ) → 0 ≡ verdict (check-open P N (sizes (storage sp o t rs m l w pool)))
+  pub opens : (sp o pool : List ℕ) → 0 ≡ verdict (check_open P N (sizes (storage sp o t rs m l w pool)))
       → Opens P N 0 s (storage sp o t rs m l w pool) (storage sp o t' rs' m' l' w' pool)
 
 -- the same of a function's slices
@@ -212,9 +212,9 @@ BeginsOver P N s tally rows marks locations waiting =
     Begins P N s tally.entry.now rows.entry.now marks.entry.now locations.entry.now waiting.entry.now
     tally.exit.now rows.exit.now marks.exit.now locations.exit.now waiting.exit.now
 
-pub begins : {P N : ℕ} {s : Session} {t rs m l w t' rs' m' l' w' : List ℕ} → s ≡ first-session P N → Clears P N t rs m l w t' rs' m' l' w' → Begins P N s t rs m l w t' rs' m' l' w'
+pub begins : {P N : ℕ} {s : Session} {t rs m l w t' rs' m' l' w' : List ℕ} → s ≡ first_session P N → Clears P N t rs m l w t' rs' m' l' w' → Begins P N s t rs m l w t' rs' m' l' w'
 begins {P} {N} {s} {t} {rs} {m} {l} {w} {t'} {rs'} {m'} {l'} {w'} es c =
-    record { opens = λ sp o pool e. opens-done P N sp o t rs m l w pool s t' rs' m' l' w' e es c }
+    record { opens = λ sp o pool e. opens_done P N sp o t rs m l w pool s t' rs' m' l' w' e es c }
 
 -- what opening promises, of a function's slices and for every pool
 abbrev pub OpensOver : ℕ → ℕ → ℕ → Session → Borrowed → Borrowed → Borrowed → Borrowed → Borrowed → Borrowed → Borrowed → Type 0

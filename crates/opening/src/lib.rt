@@ -1,8 +1,8 @@
 // Opening a session on storage that the caller provides: refusals 1 and 2, and the fresh state.
 ghost use Rattle.std.specs.Prelude.{◌≡◌, ◌≤◌, length};
-ghost use Rattle.rules.specs.Limits.{most-parallelism, most-places};
-ghost use Rattle.rules.specs.Checks.{verdict, check-open, too_short};
-ghost use Rattle.opening.specs.Opened.{sizes-of, Lengths, ClearsOver, BeginsOver, OpensOver, first-session};
+ghost use Rattle.rules.specs.Limits.{most_parallelism, most_places};
+ghost use Rattle.rules.specs.Checks.{verdict, check_open, too_short};
+ghost use Rattle.opening.specs.Opened.{sizes_of, Lengths, ClearsOver, BeginsOver, OpensOver, first_session};
 
 use session::Session;
 
@@ -25,8 +25,8 @@ fn too_short(
     p: usize,
     v: usize,
 ) -> bool
-    requires { (p ≤ most-parallelism) × (v ≤ most-places) }
-    ensures { result ≡ too_short p v (sizes-of spans order tally rows marks locations waiting) }
+    requires { (p ≤ most_parallelism) × (v ≤ most_places) }
+    ensures { result ≡ too_short p v (sizes_of spans order tally rows marks locations waiting) }
 {
     if spans / entries::SIZE < window::SPANS * (p + 1) {
         return true;
@@ -61,7 +61,7 @@ pub fn check_open(
     p: u64,
     v: u64,
 ) -> u64
-    ensures { result ≡ verdict (check-open p v (sizes-of spans order tally rows marks locations waiting)) }
+    ensures { result ≡ verdict (check_open p v (sizes_of spans order tally rows marks locations waiting)) }
 {
     if p < 1 {
         return rules::OUT_OF_RANGE;
@@ -105,7 +105,7 @@ fn clear(
 
 // A session of parallelism p and v places just opened.
 pub fn fresh(p: u32, v: u32) -> Session
-    ensures { result ≡ first-session p v }
+    ensures { result ≡ first_session p v }
 {
     let g = guide::fresh(p, v);
     Session {

@@ -5,43 +5,43 @@ use Rattle.std.proofs.Math.Path.{sym}
 use Rattle.std.proofs.Common.{ap, ◌∙◌, true≢false, arith}
 use Rattle.std.proofs.Math.Decide.{dec_lt}
 use borrow.Author.Tests.{lt-ltb, le-ltb}
-use Rattle.rules.specs.Limits.{most-lane}
+use Rattle.rules.specs.Limits.{most_lane}
 use Rattle.rules.specs.Refusals as refusal
 use Rattle.rules.specs.Checks.{verdict}
 use Rattle.entries.specs.Entries.{capacity}
-use Rattle.entries.specs.Stored.{capacity-fits}
+use Rattle.entries.specs.Stored.{capacity_fits}
 use Rattle.order_copy.specs.Flat.{lane_of, Readable}
-use Rattle.order_copy.specs.Copied.{wide-entry, check-new}
+use Rattle.order_copy.specs.Copied.{wide_entry, check_new}
 
-pub wide-none : (f : List ℕ) (k to : ℕ) → to ≤ k → wide-entry f k (to - k) ≡ false
-unfolding wide-entry
-wide-none f k to h = let e : to - k ≡ 0 = omega arith in rw e
+pub wide_none : (f : List ℕ) (k to : ℕ) → to ≤ k → wide_entry f k (to - k) ≡ false
+unfolding wide_entry
+wide_none f k to h = let e : to - k ≡ 0 = omega arith in rw e
 
-pub wide-found : (f : List ℕ) (k to : ℕ) → k < to → most-lane < lane_of f k → wide-entry f k (to - k) ≡ true
-unfolding wide-entry
-wide-found f k to h w = let e : to - k ≡ suc (to - suc k) = omega arith in rw (e, wide-entry, lt-ltb most-lane (lane_of f k) w)
+pub wide_found : (f : List ℕ) (k to : ℕ) → k < to → most_lane < lane_of f k → wide_entry f k (to - k) ≡ true
+unfolding wide_entry
+wide_found f k to h w = let e : to - k ≡ suc (to - suc k) = omega arith in rw (e, wide_entry, lt-ltb most_lane (lane_of f k) w)
 
-pub wide-next : (f : List ℕ) (k to : ℕ) → k < to → lane_of f k ≤ most-lane → wide-entry f k (to - k) ≡ wide-entry f (k + 1) (to - (k + 1))
-unfolding wide-entry
-wide-next f k to h w =
+pub wide_next : (f : List ℕ) (k to : ℕ) → k < to → lane_of f k ≤ most_lane → wide_entry f k (to - k) ≡ wide_entry f (k + 1) (to - (k + 1))
+unfolding wide_entry
+wide_next f k to h w =
     let e : to - k ≡ suc (to - (k + 1)) = omega arith in
     let s : suc k ≡ k + 1 = omega arith in
-    rw (e, wide-entry, le-ltb most-lane (lane_of f k) w) (ap (λ j. wide-entry f j (to - (k + 1))) s)
+    rw (e, wide_entry, le-ltb most_lane (lane_of f k) w) (ap (λ j. wide_entry f j (to - (k + 1))) s)
 
 -- neither of two tests holds
-none : (x : ℕ) (b : Bool) → (ltb most-lane x || b) ≡ false → (x ≤ most-lane) × (b ≡ false)
+none : (x : ℕ) (b : Bool) → (ltb most_lane x || b) ≡ false → (x ≤ most_lane) × (b ≡ false)
 none x b e =
-    elim (dec_lt most-lane x) [ yes w ↦ absurd (true≢false (sym (ap (λ t. t || b) (lt-ltb most-lane x w)) ∙ e)) | no w ↦ (omega arith, sym (ap (λ t. t || b) (le-ltb most-lane x (omega arith))) ∙ e) ]
+    elim (dec_lt most_lane x) [ yes w ↦ absurd (true≢false (sym (ap (λ t. t || b) (lt-ltb most_lane x w)) ∙ e)) | no w ↦ (omega arith, sym (ap (λ t. t || b) (le-ltb most_lane x (omega arith))) ∙ e) ]
 
 -- no entry is too wide
-narrow : (f : List ℕ) (k n : ℕ) → wide-entry f k n ≡ false → (j : ℕ) → k ≤ j → j < k + n → lane_of f j ≤ most-lane
-unfolding wide-entry
+narrow : (f : List ℕ) (k n : ℕ) → wide_entry f k n ≡ false → (j : ℕ) → k ≤ j → j < k + n → lane_of f j ≤ most_lane
+unfolding wide_entry
 narrow f k zero e j l h = absurd (omega (arith, l, h))
 narrow f k (suc n) e j l h =
-    let p : (lane_of f k ≤ most-lane) × (wide-entry f (suc k) n ≡ false) = none (lane_of f k) (wide-entry f (suc k) n) e in
+    let p : (lane_of f k ≤ most_lane) × (wide_entry f (suc k) n ≡ false) = none (lane_of f k) (wide_entry f (suc k) n) e in
     elim (dec_lt k j) [ yes m ↦ narrow f (suc k) n p.1 j m (omega arith) | no m ↦ here p.0 (omega arith) ]
   where
-    here : lane_of f k ≤ most-lane → j ≡ k → lane_of f j ≤ most-lane
+    here : lane_of f k ≤ most_lane → j ≡ k → lane_of f j ≤ most_lane
     here w s = let x : lane_of f j ≡ lane_of f k = ap (lane_of f) s in omega (arith, w, x)
 
 -- what an accepted copying may presume: the indices are there on both sides, and each entry can be read
@@ -51,42 +51,42 @@ pub record Ready (room : ℕ) (f : List ℕ) (from to : ℕ) : Type 0 where
   pub readable : (k : ℕ) → from ≤ k → k < to → Readable f k
 
 module _ (room : ℕ) (f : List ℕ) (from to : ℕ) where
-  pub past : to < from → refusal.too_short ≡ check-new room f from to
-  unfolding check-new verdict
+  pub past : to < from → refusal.too_short ≡ check_new room f from to
+  unfolding check_new verdict
   past h = rw (lt-ltb to from h)
 
-  pub short-order : from ≤ to → room < to → refusal.too_short ≡ check-new room f from to
-  unfolding check-new verdict
-  short-order a h = rw (le-ltb to from a, lt-ltb room to h)
+  pub short_order : from ≤ to → room < to → refusal.too_short ≡ check_new room f from to
+  unfolding check_new verdict
+  short_order a h = rw (le-ltb to from a, lt-ltb room to h)
 
-  pub short-flat : from ≤ to → to ≤ room → capacity f < to → refusal.too_short ≡ check-new room f from to
-  unfolding check-new verdict
-  short-flat a b h = rw (le-ltb to from a, le-ltb room to b, lt-ltb (capacity f) to h)
+  pub short_flat : from ≤ to → to ≤ room → capacity f < to → refusal.too_short ≡ check_new room f from to
+  unfolding check_new verdict
+  short_flat a b h = rw (le-ltb to from a, le-ltb room to b, lt-ltb (capacity f) to h)
 
-  pub wide : from ≤ to → to ≤ room → to ≤ capacity f → true ≡ wide-entry f from (to - from) → refusal.too_short ≡ check-new room f from to
-  unfolding check-new verdict
+  pub wide : from ≤ to → to ≤ room → to ≤ capacity f → true ≡ wide_entry f from (to - from) → refusal.too_short ≡ check_new room f from to
+  unfolding check_new verdict
   wide a b c e = rw (le-ltb to from a, le-ltb room to b, le-ltb (capacity f) to c, sym e)
 
-  pub fine : from ≤ to → to ≤ room → to ≤ capacity f → false ≡ wide-entry f from (to - from) → 0 ≡ check-new room f from to
-  unfolding check-new verdict
+  pub fine : from ≤ to → to ≤ room → to ≤ capacity f → false ≡ wide_entry f from (to - from) → 0 ≡ check_new room f from to
+  unfolding check_new verdict
   fine a b c e = rw (le-ltb to from a, le-ltb room to b, le-ltb (capacity f) to c, sym e)
 
-  pub ready : check-new room f from to ≡ 0 → Ready room f from to
+  pub ready : check_new room f from to ≡ 0 → Ready room f from to
   ready e = elim (dec_lt to from) [ yes h ↦ absurd (two (past h ∙ e)) | no h ↦ rest (omega arith) ]
     where
       two : ◌≡◌ {A = ℕ} refusal.too_short 0 → ⊥
       two p = omega (arith, p)
 
-      each : from ≤ to → to ≤ capacity f → wide-entry f from (to - from) ≡ false → (k : ℕ) → from ≤ k → k < to → Readable f k
-      each a c d k l h = record { stored = omega (arith, capacity-fits f to c); narrow = narrow f from (to - from) d k l (omega arith) }
+      each : from ≤ to → to ≤ capacity f → wide_entry f from (to - from) ≡ false → (k : ℕ) → from ≤ k → k < to → Readable f k
+      each a c d k l h = record { stored = omega (arith, capacity_fits f to c); narrow = narrow f from (to - from) d k l (omega arith) }
 
-      seen : from ≤ to → to ≤ room → to ≤ capacity f → (w : Bool) → w ≡ wide-entry f from (to - from) → Ready room f from to
+      seen : from ≤ to → to ≤ room → to ≤ capacity f → (w : Bool) → w ≡ wide_entry f from (to - from) → Ready room f from to
       seen a b c true d = absurd (two (wide a b c d ∙ e))
       seen a b c false d = record { order = a; within = b; readable = each a c (sym d) }
 
       rest : from ≤ to → Ready room f from to
       rest a =
           elim (dec_lt room to) [
-            | yes h ↦ absurd (two (short-order a h ∙ e))
-            | no h ↦ elim (dec_lt (capacity f) to) [ yes l ↦ absurd (two (short-flat a (omega arith) l ∙ e)) | no l ↦ seen a (omega arith) (omega arith) (wide-entry f from (to - from)) refl ]
+            | yes h ↦ absurd (two (short_order a h ∙ e))
+            | no h ↦ elim (dec_lt (capacity f) to) [ yes l ↦ absurd (two (short_flat a (omega arith) l ∙ e)) | no l ↦ seen a (omega arith) (omega arith) (wide_entry f from (to - from)) refl ]
           ]

@@ -1,6 +1,6 @@
 -- What copying entries from the flat order makes of an order of structs, and when it is refused. Definitions only. Assumes nothing.
 use Rattle.std.specs.Prelude.{List, [], ◌∷◌, ◌++◌, Bool, false, ◌||◌, ℕ, zero, suc, ◌-◌, take, drop, ltb}
-use Rattle.rules.specs.Limits.{most-lane}
+use Rattle.rules.specs.Limits.{most_lane}
 use Rattle.rules.specs.Refusals as refusal
 use Rattle.rules.specs.Checks.{verdict}
 use Rattle.entries.specs.Entries.{capacity}
@@ -17,11 +17,11 @@ unfoldable pub copied : List OrderInfo → List ℕ → ℕ → ℕ → List Ord
 copied o f from to = take from o ++ (entries f from (to - from) ++ drop to o)
 
 -- one of the n entries from entry k on has a lane of more than 8 bits
-unfoldable pub wide-entry : List ℕ → ℕ → ℕ → Bool
-wide-entry f k zero = false
-wide-entry f k (suc n) = ltb most-lane (lane_of f k) || wide-entry f (suc k) n
+unfoldable pub wide_entry : List ℕ → ℕ → ℕ → Bool
+wide_entry f k zero = false
+wide_entry f k (suc n) = ltb most_lane (lane_of f k) || wide_entry f (suc k) n
 
 -- the copying is refused with 2 where `from` is past `to`, the order of `room` structs or the flat order is too short for `to` entries,
 -- or the last number of one of the entries has more than 24 bits: 16 of parallelism, and more than 8 of lane
-unfoldable pub check-new : ℕ → List ℕ → ℕ → ℕ → ℕ
-check-new room f from to = verdict (record { fails = ltb to from || (ltb room to || (ltb (capacity f) to || wide-entry f from (to - from))); number = refusal.too_short } ∷ [])
+unfoldable pub check_new : ℕ → List ℕ → ℕ → ℕ → ℕ
+check_new room f from to = verdict (record { fails = ltb to from || (ltb room to || (ltb (capacity f) to || wide_entry f from (to - from))); number = refusal.too_short } ∷ [])

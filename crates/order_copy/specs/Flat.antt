@@ -1,8 +1,8 @@
 -- An entry of the flat order as a struct. Definitions only. Assumes nothing.
 use Rattle.std.specs.Prelude.{List, ℕ, ◌≤◌}
-use Rattle.rules.specs.Limits.{most-lane}
+use Rattle.rules.specs.Limits.{most_lane}
 use Rattle.entries.specs.declared.Entry.{Entry}
-use Rattle.entries.specs.Entries.{has-entry, entry_at}
+use Rattle.entries.specs.Entries.{has_entry, entry_at}
 use Rattle.order_copy.specs.declared.OrderInfo.{OrderInfo}
 
 -- a flat entry as a struct
@@ -18,5 +18,5 @@ lane_of f k = (entry_at f k).lane
 
 -- entry k is there, and its lane has 8 bits
 pub record Readable (f : List ℕ) (k : ℕ) : Type 0 where
-  pub stored : has-entry f k
-  pub narrow : lane_of f k ≤ most-lane
+  pub stored : has_entry f k
+  pub narrow : lane_of f k ≤ most_lane

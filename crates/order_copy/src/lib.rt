@@ -1,10 +1,10 @@
 // An order of entry structs beside the flat one: one entry copied, and the checks before copying. Crate order_entries has the loop, as
 // the call that hosts make.
 ghost use Rattle.std.specs.Prelude.{◌≡◌, ◌<◌, ◌-◌, length, set};
-ghost use Rattle.rules.specs.Calls.{unless-refused};
+ghost use Rattle.rules.specs.Calls.{unless_refused};
 ghost use Rattle.entries.specs.Entries.{fits};
 ghost use Rattle.order_copy.specs.Flat.{Readable, entry_of};
-ghost use Rattle.order_copy.specs.Copied.{wide-entry, check-new};
+ghost use Rattle.order_copy.specs.Copied.{wide_entry, check_new};
 
 // An entry of the order (the Rust's OrderInfo), laid out as in C: 16 bytes.
 #[repr(C)]
@@ -43,7 +43,7 @@ pub fn append(order: &mut [OrderInfo], at: usize, e: OrderInfo)
 // Whether the last number of one of the entries `from` to `to` - 1 of the flat order has more than 24 bits: a lane of more than 8.
 fn has_wide(flat: &[u32], from: usize, to: usize) -> bool
     requires { fits flat.now to }
-    ensures { result ≡ wide-entry flat.now from (to - from) }
+    ensures { result ≡ wide_entry flat.now from (to - from) }
 {
     let mut k = from;
     while k < to {
@@ -58,7 +58,7 @@ fn has_wide(flat: &[u32], from: usize, to: usize) -> bool
 
 // The number of a copying of entries `from` to `to` - 1 of the flat order to an order of `room` structs: 0, or 2 where it is refused.
 pub fn check_new(room: usize, flat: &[u32], from: usize, to: usize) -> u64
-    ensures { result ≡ check-new room flat.now from to }
+    ensures { result ≡ check_new room flat.now from to }
 {
     if to < from {
         return rules::TOO_SHORT;
@@ -77,7 +77,7 @@ pub fn check_new(room: usize, flat: &[u32], from: usize, to: usize) -> u64
 
 // Where the copying stops: at `to`, or at once where it is refused.
 pub fn stop_at(n: u64, from: usize, to: usize) -> usize
-    ensures { result ≡ unless-refused n from to }
+    ensures { result ≡ unless_refused n from to }
 {
     if n == 0 {
         return to;

@@ -1,8 +1,8 @@
 // The order as a lent slice of entry structs. The session keeps its order as a flat slice of numbers (crate entries); a caller that wants
 // structs lends a slice of them beside it and after each call has the new entries copied there.
 ghost use Rattle.std.specs.Prelude.{◌≡◌, length};
-ghost use Rattle.rules.specs.Calls.{unless-refused};
-ghost use Rattle.order_copy.specs.Copied.{copied, check-new};
+ghost use Rattle.rules.specs.Calls.{unless_refused};
+ghost use Rattle.order_copy.specs.Copied.{copied, check_new};
 
 use order_copy::OrderInfo;
 
@@ -16,8 +16,8 @@ pub extern "C" fn order_append_new(
     from: usize,
     to: usize,
 ) -> u64
-    ensures { (result ≡ check-new (length order.old) flat.now from to)
-        × (order.new ≡ unless-refused result order.old (copied order.old flat.now from to)) }
+    ensures { (result ≡ check_new (length order.old) flat.now from to)
+        × (order.new ≡ unless_refused result order.old (copied order.old flat.now from to)) }
 {
     let n = order_copy::check_new(order.len(), flat, from, to);
     let end = order_copy::stop_at(n, from, to);

@@ -1,7 +1,7 @@
 // The steps of placing over the guide's storage: the release of span 0, and spans opened.
 ghost use Rattle.std.specs.Prelude.{◌≡◌, ◌≤◌};
 ghost use Rattle.rules.specs.Guide.{release};
-ghost use Rattle.buffer.specs.Moves.{released-guide};
+ghost use Rattle.buffer.specs.Moves.{released_guide};
 ghost use Rattle.placing.specs.Done.{Free, FreeTwo};
 ghost use Rattle.placing.specs.Slices.{Standing, Becomes};
 
@@ -12,7 +12,7 @@ pub fn release_one(g: Guide, spans: &[u32], order: &mut [u32], tally: &mut [u32]
     requires standing { Standing g spans order tally }
     requires free { Free g }
     ensures becomes { Becomes g result spans order tally (release g.p 1) }
-    ensures rotated { result ≡ released-guide g }
+    ensures rotated { result ≡ released_guide g }
 {
     let w = g.window;
     let a = w.lens[0] as u32;

@@ -2,8 +2,8 @@
 // storage for each registration says where its lists start, how many inputs it has, and its lane. This crate alone knows where a cell lies:
 // of the quarters of v numbers, the third holds them.
 ghost use Rattle.std.specs.Prelude.{◌≡◌, ◌≤◌, ◌<◌, length};
-ghost use Rattle.rules.specs.Checks.{waiting-needed};
-ghost use Rattle.pool.specs.Lists.{lane-limit, inputs-limit, start-limit, stored, Storable, with_cell, start_of, inputs-of, lane_of, end_of};
+ghost use Rattle.rules.specs.Checks.{waiting_needed};
+ghost use Rattle.pool.specs.Lists.{lane_limit, inputs_limit, start_limit, stored, Storable, with_cell, start_of, inputs_of, lane_of, end_of};
 
 // A cell has the lane in its lowest 8 bits, the count of inputs in 16 above them, and the start in the 40 above these: all outputs together
 // are at most v, a registration has at most 65,535 inputs, and so lists start below 2^40.
@@ -29,7 +29,7 @@ pub fn store_list(pool: &mut [u32], at: usize, xs: &[u64])
 
 // Notes where registration r's lists start in the pool, how many inputs it has, and its lane.
 pub fn set_cell(waiting: &mut [u64], v: usize, r: usize, start: usize, inputs: usize, lane: u64)
-    requires { (r < v) × (waiting-needed v ≤ length waiting.old) × (start < start-limit) × (inputs < inputs-limit) × (lane < lane-limit) }
+    requires { (r < v) × (waiting_needed v ≤ length waiting.old) × (start < start_limit) × (inputs < inputs_limit) × (lane < lane_limit) }
     ensures { waiting.new ≡ with_cell waiting.old v r start inputs lane }
 {
     waiting[2 * v + r] = (start as u64 * INPUTS_LIMIT + inputs as u64) * LANE_LIMIT + lane;
@@ -37,7 +37,7 @@ pub fn set_cell(waiting: &mut [u64], v: usize, r: usize, start: usize, inputs: u
 
 // Where registration r's lists start in the pool.
 pub fn list_start(waiting: &[u64], v: usize, r: usize) -> usize
-    requires { (r < v) × (waiting-needed v ≤ length waiting.now) }
+    requires { (r < v) × (waiting_needed v ≤ length waiting.now) }
     ensures { result ≡ start_of waiting.now v r }
 {
     (waiting[2 * v + r] / (INPUTS_LIMIT * LANE_LIMIT)) as usize
@@ -45,15 +45,15 @@ pub fn list_start(waiting: &[u64], v: usize, r: usize) -> usize
 
 // How many inputs registration r has.
 pub fn list_inputs(waiting: &[u64], v: usize, r: usize) -> usize
-    requires { (r < v) × (waiting-needed v ≤ length waiting.now) }
-    ensures { result ≡ inputs-of waiting.now v r }
+    requires { (r < v) × (waiting_needed v ≤ length waiting.now) }
+    ensures { result ≡ inputs_of waiting.now v r }
 {
     (waiting[2 * v + r] / LANE_LIMIT % INPUTS_LIMIT) as usize
 }
 
 // The lane of registration r.
 pub fn lane_of(waiting: &[u64], v: usize, r: usize) -> u16
-    requires { (r < v) × (waiting-needed v ≤ length waiting.now) }
+    requires { (r < v) × (waiting_needed v ≤ length waiting.now) }
     ensures { result ≡ lane_of waiting.now v r }
 {
     (waiting[2 * v + r] % LANE_LIMIT) as u16
@@ -61,7 +61,7 @@ pub fn lane_of(waiting: &[u64], v: usize, r: usize) -> u16
 
 // Where the lists of registration r, of n in all, end in the pool, of which `used` numbers are used.
 pub fn list_end(waiting: &[u64], v: usize, r: usize, n: usize, used: usize) -> usize
-    requires { (r < n) × (n ≤ v) × (waiting-needed v ≤ length waiting.now) }
+    requires { (r < n) × (n ≤ v) × (waiting_needed v ≤ length waiting.now) }
     ensures { result ≡ end_of waiting.now v r n used }
 {
     if r + 1 < n {

@@ -2,7 +2,7 @@
 ghost use Rattle.std.specs.Prelude.{◌≡◌, ◌+◌, ◌<◌, ◌≤◌};
 ghost use Rattle.rules.specs.Guide.{put, release, settle};
 ghost use Rattle.entries.specs.Entries.{item_of};
-ghost use Rattle.buffer.specs.View.{length-of, number_of};
+ghost use Rattle.buffer.specs.View.{length_of, number_of};
 ghost use Rattle.placing.specs.Done.{Free, FreeTwo};
 ghost use Rattle.placing.specs.Slices.{Standing, Becomes};
 
@@ -43,9 +43,9 @@ pub fn place_existing(
 ) -> Pushed
     requires standing { Standing g spans order tally }
     requires free { Free g }
-    requires le_i { (1 ≤ i) × ((i < 32) × (length-of g i ≤ g.p)) }
-    ensures becomes { Becomes g result.guide spans order tally (λ b. settle g.p (length-of g i + 1) (put i (item_of e) b)) }
-    ensures location { (result.span ≡ number_of g i) × (result.pos ≡ length-of g i) }
+    requires le_i { (1 ≤ i) × ((i < 32) × (length_of g i ≤ g.p)) }
+    ensures becomes { Becomes g result.guide spans order tally (λ b. settle g.p (length_of g i + 1) (put i (item_of e) b)) }
+    ensures location { (result.span ≡ number_of g i) × (result.pos ≡ length_of g i) }
 {
     let mut w = g.window;
     let mut n = g.written;

@@ -1,8 +1,8 @@
 // Why a registration waits, for hosts, by one number: after an encoded list of calls on a fresh session, and after a job.
 ghost use Rattle.std.specs.Prelude.{◌≡◌};
-ghost use Rattle.rules.specs.Reason.{reason-number};
+ghost use Rattle.rules.specs.Reason.{reason_number};
 ghost use Rattle.session.specs.Storage.{across};
-ghost use Rattle.explaining.specs.Explaining.{explained-as, Small};
+ghost use Rattle.explaining.specs.Explaining.{explained_as, Small};
 ghost use Rattle.reason.specs.Exported.{ReplayReason, OrderReason};
 ghost use Rattle.reason.specs.Telling.{MayTell, Tells};
 
@@ -13,7 +13,7 @@ use session::Session;
 // A reason as one number, 64 · (2^24 · input + place), or the number of a refusal.
 fn by_number(x: Reason) -> u64
     requires { Small x }
-    ensures { result ≡ reason-number (explained-as x) }
+    ensures { result ≡ reason_number (explained_as x) }
 {
     match x {
         Reason::Waits { input, place } => rules::REPLY_RADIX * (rules::PLACE_RADIX * input + place),

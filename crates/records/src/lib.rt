@@ -2,7 +2,7 @@
 // order, the rows of their registrations are filled, all but written, which is stored apart.
 ghost use Rattle.std.specs.Prelude.{◌≡◌, ◌+◌, ◌^◌, ◌<◌};
 ghost use Rattle.entries.specs.Entries.{row, fits};
-ghost use Rattle.records.specs.Filling.{has-row, written_at, with-written, fill_one, filled, Fillable};
+ghost use Rattle.records.specs.Filling.{has_row, written_at, with_written, fill_one, filled, Fillable};
 
 use entries::Entry;
 
@@ -11,7 +11,7 @@ pub const SIZE: usize = 5;
 
 // Fills all but written in the row of an entry that stands at index n of the order.
 fn fill_one(rows: &mut [u32], n: u32, e: Entry)
-    requires { has-row rows.old e.added }
+    requires { has_row rows.old e.added }
     ensures { rows.new ≡ fill_one rows.old n e }
 {
     let i = SIZE * e.added as usize;
@@ -35,7 +35,7 @@ pub fn fill_rows(order: &[u32], rows: &mut [u32], n: u32, a: u32)
 
 // What registration r's row has as written.
 pub fn written_of(rows: &[u32], r: u32) -> u32
-    requires { has-row rows.now r }
+    requires { has_row rows.now r }
     ensures { result ≡ written_at rows.now r }
 {
     rows[SIZE * r as usize + 2]
@@ -43,8 +43,8 @@ pub fn written_of(rows: &[u32], r: u32) -> u32
 
 // Stores written in registration r's row; all else stays.
 pub fn note_written(rows: &mut [u32], r: u32, written: u32)
-    requires { has-row rows.old r }
-    ensures { rows.new ≡ with-written rows.old r written }
+    requires { has_row rows.old r }
+    ensures { rows.new ≡ with_written rows.old r written }
 {
     let i = SIZE * r as usize + 2;
     rows[i] = written;

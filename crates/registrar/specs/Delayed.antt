@@ -3,16 +3,16 @@
 use Rattle.std.specs.Prelude.{◌≡◌, true, false, cond, ℕ, suc, ◌+◌, ◌*◌, ◌≤◌, ◌<◌, length, set, take, drop, eqb}
 use mathlib.Core.List.{List, [], ◌∷◌, ◌++◌, Memᴰ}
 use Rattle.rules.specs.Model.{Pending, due, left, queue, push}
-use Rattle.rules.specs.Checks.{waiting-needed}
+use Rattle.rules.specs.Checks.{waiting_needed}
 use Rattle.laws.specs.Delaying.{Sorted}
 use Rattle.registrar.specs.Reading.{head_at, link_at}
 
 -- the storage with another head link of place p, and with another link of registration r
-abbrev pub with-head : List ℕ → ℕ → ℕ → List ℕ
-with-head w p h = set w p h
+abbrev pub with_head : List ℕ → ℕ → ℕ → List ℕ
+with_head w p h = set w p h
 
-abbrev pub with-link : List ℕ → ℕ → ℕ → ℕ → List ℕ
-with-link w v r h = set w (v + r) h
+abbrev pub with_link : List ℕ → ℕ → ℕ → ℕ → List ℕ
+with_link w v r h = set w (v + r) h
 
 -- the registrations under place p, newest first
 unfoldable pub newest : ℕ → List Pending → List ℕ
@@ -41,7 +41,7 @@ Linked w v h (r ∷ l) = (h ≡ suc r) × (r < v) × Linked w v (link_at w v r) 
 -- storage holds the delayed registrations ps, by the chains of the places from lo on, and the stack st from link `top` on. The heads of
 -- places below lo are stale
 pub record Delayed (w : List ℕ) (v lo : ℕ) (ps : List Pending) (top : ℕ) (st : List ℕ) : Type 0 where
-  pub long : waiting-needed v ≤ length w
+  pub long : waiting_needed v ≤ length w
   pub chains : (p : ℕ) → lo ≤ p → p < v → Chain w v v (head_at w p) (newest p ps)
   pub stack : Linked w v top st
   pub sorted : Sorted ps
@@ -71,19 +71,19 @@ pub record Joins (w : List ℕ) (v p r : ℕ) (w' : List ℕ) : Type 0 where
 -- `stack`: r is on top
 pub record Stacks (w : List ℕ) (v r top t : ℕ) (w' : List ℕ) : Type 0 where
   pub delayed : (lo : ℕ) (ps : List Pending) (st : List ℕ) → Delayed w v lo ps top st → pends r ps + occurs r st ≡ 0 → Delayed w' v lo ps t (r ∷ st)
-  pub top-is : t ≡ r + 1
+  pub top_is : t ≡ r + 1
   pub kept : LinksOnly w v w'
 
 -- there is a chain at link h
 pub record Chained (w : List ℕ) (v h : ℕ) : Type 0 where
   pub l : List ℕ
   pub chain : Chain w v v h l
-  pub long : waiting-needed v ≤ length w
+  pub long : waiting_needed v ≤ length w
 
 -- the links of l turned round onto `top`, and the link of the last of l
 abbrev pub relinked : List ℕ → ℕ → ℕ → List ℕ → List ℕ
 relinked w v top [] = w
-relinked w v top (r ∷ l) = relinked (with-link w v r top) v (suc r) l
+relinked w v top (r ∷ l) = relinked (with_link w v r top) v (suc r) l
 
 abbrev pub top_of : ℕ → List ℕ → ℕ
 top_of top [] = top
@@ -105,7 +105,7 @@ pub record Oldest (w : List ℕ) (v h r : ℕ) : Type 0 where
 -- the oldest's link leads to `top`, and the link of the newest
 abbrev pub spliced : List ℕ → ℕ → ℕ → List ℕ → List ℕ
 spliced w v top [] = w
-spliced w v top (r ∷ l) = with-link w v (last_of r l) top
+spliced w v top (r ∷ l) = with_link w v (last_of r l) top
 
 abbrev pub head_of : ℕ → List ℕ → ℕ
 head_of top [] = top

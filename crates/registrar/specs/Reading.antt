@@ -12,10 +12,10 @@ abbrev pub link_at : List ℕ → ℕ → ℕ → ℕ
 link_at w v r = get_or w (v + r) 0
 
 -- the registrations from link h on, at most f of them: the newest first
-unfoldable pub chain-from : ℕ → List ℕ → ℕ → ℕ → List ℕ
-chain-from zero w v h = []
-chain-from (suc f) w v zero = []
-chain-from (suc f) w v (suc r) = r ∷ chain-from f w v (link_at w v r)
+unfoldable pub chain_from : ℕ → List ℕ → ℕ → ℕ → List ℕ
+chain_from zero w v h = []
+chain_from (suc f) w v zero = []
+chain_from (suc f) w v (suc r) = r ∷ chain_from f w v (link_at w v r)
 
 -- a chain of place p put in front of others, the oldest first
 abbrev pub onto : ℕ → List ℕ → List Pending → List Pending
@@ -28,5 +28,5 @@ reading zero p ch = []
 reading (suc n) p ch = onto p (ch p) (reading n (suc p) ch)
 
 -- who waits: of each of the v places from lo on, the first untracked one, those in its chain. Nobody waits under a place below lo
-unfoldable pub waiting-in : List ℕ → ℕ → ℕ → List Pending
-waiting-in w v lo = reading (v - lo) lo (λ p. chain-from v w v (head_at w p))
+unfoldable pub waiting_in : List ℕ → ℕ → ℕ → List Pending
+waiting_in w v lo = reading (v - lo) lo (λ p. chain_from v w v (head_at w p))

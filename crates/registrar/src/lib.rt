@@ -3,14 +3,14 @@
 // A link is 0 for none, else the registration plus 1. This crate alone knows where they lie, by `head`, `set_head`, `link`, `set_link` and
 // `clear`: of the quarters of v numbers, the first holds the heads, the second the links.
 ghost use Rattle.std.specs.Prelude.{◌≡◌, ◌≤◌, ◌<◌, length};
-ghost use Rattle.rules.specs.Checks.{waiting-needed};
+ghost use Rattle.rules.specs.Checks.{waiting_needed};
 ghost use Rattle.zeros.specs.Zeros.{Cleared};
 ghost use Rattle.registrar.specs.Reading.{head_at, link_at};
-ghost use Rattle.registrar.specs.Delayed.{with-head, with-link, Chained, Joins, Stacks, Turns, Splices, Oldest, Advancing, AdvancesSet, AdvancesPlaced};
+ghost use Rattle.registrar.specs.Delayed.{with_head, with_link, Chained, Joins, Stacks, Turns, Splices, Oldest, Advancing, AdvancesSet, AdvancesPlaced};
 
 // Nothing waits under any place.
 pub fn clear(waiting: &mut [u64], v: usize)
-    requires { waiting-needed v ≤ length waiting.old }
+    requires { waiting_needed v ≤ length waiting.old }
     ensures { Cleared 0 v waiting.old waiting.new }
 {
     zeros::clear64(waiting, 0, v);
@@ -27,14 +27,14 @@ fn head(waiting: &[u64], p: usize) -> u64
 // Stores place p's head link.
 fn set_head(waiting: &mut [u64], p: usize, to: u64)
     requires { p < length waiting.old }
-    ensures { waiting.new ≡ with-head waiting.old p to }
+    ensures { waiting.new ≡ with_head waiting.old p to }
 {
     waiting[p] = to;
 }
 
 // Registration r's link.
 fn link(waiting: &[u64], v: usize, r: usize) -> u64
-    requires { (r < v) × (waiting-needed v ≤ length waiting.now) }
+    requires { (r < v) × (waiting_needed v ≤ length waiting.now) }
     ensures { result ≡ link_at waiting.now v r }
 {
     waiting[v + r]
@@ -42,15 +42,15 @@ fn link(waiting: &[u64], v: usize, r: usize) -> u64
 
 // Stores registration r's link.
 fn set_link(waiting: &mut [u64], v: usize, r: usize, to: u64)
-    requires { (r < v) × (waiting-needed v ≤ length waiting.old) }
-    ensures { waiting.new ≡ with-link waiting.old v r to }
+    requires { (r < v) × (waiting_needed v ≤ length waiting.old) }
+    ensures { waiting.new ≡ with_link waiting.old v r to }
 {
     waiting[v + r] = to;
 }
 
 // Registration r joins those that wait under place p.
 pub fn delay(waiting: &mut [u64], v: usize, p: usize, r: usize)
-    requires { (p < v) × (r < v) × (waiting-needed v ≤ length waiting.old) }
+    requires { (p < v) × (r < v) × (waiting_needed v ≤ length waiting.old) }
     ensures { Joins waiting.old v p r waiting.new }
 {
     let newest = head(waiting, p);
@@ -60,7 +60,7 @@ pub fn delay(waiting: &mut [u64], v: usize, p: usize, r: usize)
 
 // Registration r is put on the stack whose top link is `top`; the new top link.
 pub fn stack(waiting: &mut [u64], v: usize, r: usize, top: u64) -> u64
-    requires { (r < v) × (waiting-needed v ≤ length waiting.old) }
+    requires { (r < v) × (waiting_needed v ≤ length waiting.old) }
     ensures { Stacks waiting.old v r top result waiting.new }
 {
     set_link(waiting, v, r, top);
@@ -69,7 +69,7 @@ pub fn stack(waiting: &mut [u64], v: usize, r: usize, top: u64) -> u64
 
 // The link under registration r: the stack's top link once r is taken off it.
 pub fn next(waiting: &[u64], v: usize, r: usize) -> u64
-    requires { (r < v) × (waiting-needed v ≤ length waiting.now) }
+    requires { (r < v) × (waiting_needed v ≤ length waiting.now) }
     ensures { result ≡ link_at waiting.now v r }
 {
     link(waiting, v, r)

@@ -7,7 +7,7 @@ use Rattle.session.specs.Storage.{storage}
 use Rattle.jobturn.specs.Turned.{StandsFor, FiguresOf}
 use Rattle.jobturn.specs.declared.EndFigures.{EndFigures}
 use Rattle.writer.specs.Wrote.{Wrote}
-use Rattle.listing.specs.Listed.{head_bytes, line-bytes}
+use Rattle.listing.specs.Listed.{head_bytes, line_bytes}
 
 -- order and rows are those of a session that stands for the model k, and f has P and the model's numbers
 pub record Shown (P N W : ℕ) (k : Model) (order rows : List ℕ) (f : EndFigures) : Type 0 where
@@ -28,7 +28,7 @@ pub record MayReport (order rows : List ℕ) (room : ℕ) (f : EndFigures) : Typ
   pub W : ℕ
   pub model : Model
   pub shown : Shown P N W model order rows f
-  pub enough : head_bytes + line-bytes * N ≤ room
+  pub enough : head_bytes + line_bytes * N ≤ room
 
 abbrev pub Reports : List ℕ → List ℕ → List ℕ → List ℕ → EndFigures → ℕ → Type 0
 Reports order rows entry exit f r =

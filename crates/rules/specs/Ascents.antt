@@ -1,15 +1,15 @@
 -- Document 02, M-106: the ascending profile worked through. The numbers of lists of calls where each check turns, which of the calls are
 -- accepted, J1's order, and each lent length one short. Computed from the definitions.
 use Rattle.std.specs.Prelude.{◌≡◌, refl, List, [], ◌∷◌, map, ℕ, ◌^◌}
-use Rattle.rules.specs.Guide.{Entry, parallelism, parallelism-by, last-parallelism, annotate, released, fresh, release, flush as flush-guide, seek, found, begin}
+use Rattle.rules.specs.Guide.{Entry, parallelism, parallelism_by, last_parallelism, annotate, released, fresh, release, flush as flush_guide, seek, found, begin}
 use Rattle.rules.specs.Guide.{choose, put, settle, apply, place}
-use Rattle.rules.specs.Model.{initial, member, marked, tracked, run-from, watermark, greatest, ready, loc-of, later, top, after, spotted, reg_of, place-one, due, left}
-use Rattle.rules.specs.Model.{queue, keep, push, off, rest, with-set, with-add, cascade, settle-all, do-set, do-add, with-record, note-add, note-flush, note-final}
-use Rattle.rules.specs.Model.{with-flush, do-flush, do-final}
-use Rattle.rules.specs.Checks.{Sizes, verdict, any, repeats, written-by, taken, pooled, check-range, check-closed, check-places, check-flush, check-final}
-use Rattle.rules.specs.Calls.{Call, set, add, flush, final, apply-call, unless-refused}
+use Rattle.rules.specs.Model.{initial, member, marked, tracked, run_from, watermark, greatest, ready, loc_of, later, top, after, spotted, reg_of, place_one, due, left}
+use Rattle.rules.specs.Model.{queue, keep, push, off, rest, with_set, with_add, cascade, settle_all, do_set, do_add, with_record, note_add, note_flush, note_final}
+use Rattle.rules.specs.Model.{with_flush, do_flush, do_final}
+use Rattle.rules.specs.Checks.{Sizes, verdict, any, repeats, written_by, taken, pooled, check_range, check_closed, check_places, check_flush, check_final}
+use Rattle.rules.specs.Calls.{Call, set, add, flush, final, apply_call, unless_refused}
 use Rattle.rules.specs.Sessions.{one, J1}
-use Rattle.rules.specs.Ascending.{ascend, first-or, set-breach, add-breach, check-open, check-set, check-add, checks, answer, step, run, answers, accepted}
+use Rattle.rules.specs.Ascending.{ascend, first_or, set_breach, add_breach, check_open, check_set, check_add, checks, answer, step, run, answers, accepted}
 
 abbrev two : ℕ → ℕ → List ℕ
 two x y = x ∷ y ∷ []
@@ -48,11 +48,11 @@ counted =
     ∷ add 0 (one 0) []
     ∷ []
 
-pub numbers-got : List (List ℕ)
-numbers-got = answers 2 9 100 turning initial ∷ answers 2 2 0 (add 0 [] [] ∷ add 0 [] [] ∷ add 0 [] [] ∷ []) initial ∷ answers 2 2 100 full initial ∷ answers 2 3 2 counted initial ∷ []
+pub numbers_got : List (List ℕ)
+numbers_got = answers 2 9 100 turning initial ∷ answers 2 2 0 (add 0 [] [] ∷ add 0 [] [] ∷ add 0 [] [] ∷ []) initial ∷ answers 2 2 100 full initial ∷ answers 2 3 2 counted initial ∷ []
 
-pub numbers-want : List (List ℕ)
-numbers-want =
+pub numbers_want : List (List ℕ)
+numbers_want =
     (21 ∷ 0 ∷ 21 ∷ 21 ∷ 21 ∷ 6 ∷ 6 ∷ 21 ∷ 21 ∷ 21 ∷ 0 ∷ 21 ∷ 0 ∷ [])
     ∷ (0 ∷ 0 ∷ 9 ∷ [])
     ∷ (0 ∷ 0 ∷ 21 ∷ 5 ∷ 0 ∷ 21 ∷ 0 ∷ 0 ∷ 7 ∷ 7 ∷ 7 ∷ [])
@@ -63,44 +63,44 @@ numbers-want =
 entry : Entry → List ℕ
 entry e = e.item.added ∷ e.item.accepted ∷ e.parallelism ∷ []
 
-pub order-got : List (List ℕ)
-order-got = one (run 2 2 100 full initial).recorded.places ∷ map entry (run 2 6 100 J1 initial).guide.order
+pub order_got : List (List ℕ)
+order_got = one (run 2 2 100 full initial).recorded.places ∷ map entry (run 2 6 100 J1 initial).guide.order
 
-pub order-want : List (List ℕ)
-order-want = one 2 ∷ (0 ∷ 0 ∷ 2 ∷ []) ∷ (2 ∷ 2 ∷ 2 ∷ []) ∷ (1 ∷ 1 ∷ 2 ∷ []) ∷ (3 ∷ 3 ∷ 1 ∷ []) ∷ []
+pub order_want : List (List ℕ)
+order_want = one 2 ∷ (0 ∷ 0 ∷ 2 ∷ []) ∷ (2 ∷ 2 ∷ 2 ∷ []) ∷ (1 ∷ 1 ∷ 2 ∷ []) ∷ (3 ∷ 3 ∷ 1 ∷ []) ∷ []
 
 -- which calls are accepted
-pub accepted-got : List (List Call)
-accepted-got = accepted 2 9 100 turning initial ∷ accepted 2 3 2 counted initial ∷ []
+pub accepted_got : List (List Call)
+accepted_got = accepted 2 9 100 turning initial ∷ accepted 2 3 2 counted initial ∷ []
 
-pub accepted-want : List (List Call)
-accepted-want = (set 0 ∷ add 0 (two 0 0) (two 1 2) ∷ add 0 (one 2) [] ∷ []) ∷ (add 255 [] (two 0 1) ∷ []) ∷ []
+pub accepted_want : List (List Call)
+accepted_want = (set 0 ∷ add 0 (two 0 0) (two 1 2) ∷ add 0 (one 2) [] ∷ []) ∷ (add 255 [] (two 0 1) ∷ []) ∷ []
 
 -- opening with P = 2 and V = 9: no waiting storage; then each length one short, and P and V out of their ranges
 lent : ℕ → ℕ → ℕ → ℕ → ℕ → ℕ → Sizes
 lent spans order rows marks locations tally = record { spans = spans; order = order; rows = rows; marks = marks; locations = locations; waiting = 0; tally = tally }
 
-pub opening-got : List ℕ
-opening-got =
-    verdict (check-open 2 9 (lent 96 9 9 9 9 3))
-    ∷ verdict (check-open 2 9 (lent 95 9 9 9 9 3))
-    ∷ verdict (check-open 2 9 (lent 96 8 9 9 9 3))
-    ∷ verdict (check-open 2 9 (lent 96 9 8 9 9 3))
-    ∷ verdict (check-open 2 9 (lent 96 9 9 8 9 3))
-    ∷ verdict (check-open 2 9 (lent 96 9 9 9 8 3))
-    ∷ verdict (check-open 2 9 (lent 96 9 9 9 9 2))
-    ∷ verdict (check-open 0 9 (lent 0 0 0 0 0 0))
-    ∷ verdict (check-open 2 16777217 (lent 0 0 0 0 0 0))
+pub opening_got : List ℕ
+opening_got =
+    verdict (check_open 2 9 (lent 96 9 9 9 9 3))
+    ∷ verdict (check_open 2 9 (lent 95 9 9 9 9 3))
+    ∷ verdict (check_open 2 9 (lent 96 8 9 9 9 3))
+    ∷ verdict (check_open 2 9 (lent 96 9 8 9 9 3))
+    ∷ verdict (check_open 2 9 (lent 96 9 9 8 9 3))
+    ∷ verdict (check_open 2 9 (lent 96 9 9 9 8 3))
+    ∷ verdict (check_open 2 9 (lent 96 9 9 9 9 2))
+    ∷ verdict (check_open 0 9 (lent 0 0 0 0 0 0))
+    ∷ verdict (check_open 2 16777217 (lent 0 0 0 0 0 0))
     ∷ []
 
-pub opening-want : List ℕ
-opening-want = 0 ∷ 2 ∷ 2 ∷ 2 ∷ 2 ∷ 2 ∷ 2 ∷ 1 ∷ 1 ∷ []
+pub opening_want : List ℕ
+opening_want = 0 ∷ 2 ∷ 2 ∷ 2 ∷ 2 ∷ 2 ∷ 2 ∷ 1 ∷ 1 ∷ []
 
-pub ascents : (numbers-got ≡ numbers-want) × (order-got ≡ order-want) × (accepted-got ≡ accepted-want) × (opening-got ≡ opening-want)
-unfolding turning full counted entry lent J1 numbers-got numbers-want order-got order-want accepted-got accepted-want opening-got opening-want
-    parallelism parallelism-by last-parallelism annotate released fresh release flush-guide seek found begin choose put settle apply place
-    initial member marked tracked run-from watermark greatest ready loc-of later top after spotted reg_of place-one due left queue keep push off rest with-set with-add cascade settle-all do-set do-add
-    with-record note-add note-flush note-final with-flush do-flush do-final
-    verdict any repeats written-by taken pooled check-range check-closed check-places check-flush check-final apply-call unless-refused
-    ascend first-or set-breach add-breach check-open check-set check-add checks answer step run answers accepted
+pub ascents : (numbers_got ≡ numbers_want) × (order_got ≡ order_want) × (accepted_got ≡ accepted_want) × (opening_got ≡ opening_want)
+unfolding turning full counted entry lent J1 numbers_got numbers_want order_got order_want accepted_got accepted_want opening_got opening_want
+    parallelism parallelism_by last_parallelism annotate released fresh release flush_guide seek found begin choose put settle apply place
+    initial member marked tracked run_from watermark greatest ready loc_of later top after spotted reg_of place_one due left queue keep push off rest with_set with_add cascade settle_all do_set do_add
+    with_record note_add note_flush note_final with_flush do_flush do_final
+    verdict any repeats written_by taken pooled check_range check_closed check_places check_flush check_final apply_call unless_refused
+    ascend first_or set_breach add_breach check_open check_set check_add checks answer step run answers accepted
 ascents = (refl, refl, refl, refl)

@@ -6,20 +6,20 @@ use Rattle.std.proofs.Math.Option.{Option, some, none}
 use Rattle.rules.specs.Calls.{Call, set, add, flush, final}
 
 -- the number that a call starts with
-abbrev pub set-tag : ℕ
-set-tag = 1
+abbrev pub set_tag : ℕ
+set_tag = 1
 
-abbrev pub add-tag : ℕ
-add-tag = 2
+abbrev pub add_tag : ℕ
+add_tag = 2
 
-abbrev pub flush-tag : ℕ
-flush-tag = 3
+abbrev pub flush_tag : ℕ
+flush_tag = 3
 
-abbrev pub final-tag : ℕ
-final-tag = 4
+abbrev pub final_tag : ℕ
+final_tag = 4
 
-abbrev pub lane-add-tag : ℕ
-lane-add-tag = 5
+abbrev pub lane_add_tag : ℕ
+lane_add_tag = 5
 
 -- a call read off the front, and the numbers that follow it
 pub record Front : Type 0 where
@@ -39,55 +39,55 @@ unfoldable pub set_front : List ℕ → Option Front
 set_front [] = none
 set_front (x ∷ l) = some (record { call = set x; rest = l })
 
-unfoldable pub add-outs : ℕ → List ℕ → Option Counted → Option Front
-add-outs lane ins none = none
-add-outs lane ins (some c) = some (record { call = add lane ins c.items; rest = c.rest })
+unfoldable pub add_outs : ℕ → List ℕ → Option Counted → Option Front
+add_outs lane ins none = none
+add_outs lane ins (some c) = some (record { call = add lane ins c.items; rest = c.rest })
 
-unfoldable pub add-front : ℕ → Option Counted → Option Front
-add-front lane none = none
-add-front lane (some c) = add-outs lane c.items (counted c.rest)
+unfoldable pub add_front : ℕ → Option Counted → Option Front
+add_front lane none = none
+add_front lane (some c) = add_outs lane c.items (counted c.rest)
 
-unfoldable pub lane-front : List ℕ → Option Front
-lane-front [] = none
-lane-front (lane ∷ l) = add-front lane (counted l)
+unfoldable pub lane_front : List ℕ → Option Front
+lane_front [] = none
+lane_front (lane ∷ l) = add_front lane (counted l)
 
 unfoldable pub front : List ℕ → Option Front
 front [] = none
 front (tag ∷ l) =
-    elim (eqb tag set-tag) [
+    elim (eqb tag set_tag) [
       | true ↦ set_front l
       | false ↦
-          elim (eqb tag add-tag) [
-            | true ↦ add-front 0 (counted l)
+          elim (eqb tag add_tag) [
+            | true ↦ add_front 0 (counted l)
             | false ↦
-                elim (eqb tag flush-tag) [
+                elim (eqb tag flush_tag) [
                   | true ↦ some (record { call = flush; rest = l })
                   | false ↦
-                      elim (eqb tag final-tag) [
+                      elim (eqb tag final_tag) [
                         | true ↦ some (record { call = final; rest = l })
-                        | false ↦ elim (eqb tag lane-add-tag) [ true ↦ lane-front l | false ↦ none ]
+                        | false ↦ elim (eqb tag lane_add_tag) [ true ↦ lane_front l | false ↦ none ]
                       ]
                 ]
           ]
     ]
 
-unfoldable pub before-all : Call → Option (List Call) → Option (List Call)
-before-all c none = none
-before-all c (some cs) = some (c ∷ cs)
+unfoldable pub before_all : Call → Option (List Call) → Option (List Call)
+before_all c none = none
+before_all c (some cs) = some (c ∷ cs)
 
 -- a call and what `decode` makes of the numbers that follow it
 unfoldable pub and_then : Option Front → (List ℕ → Option (List Call)) → Option (List Call)
 and_then none decode = none
-and_then (some c) decode = before-all c.call (decode c.rest)
+and_then (some c) decode = before_all c.call (decode c.rest)
 
-unfoldable pub unless-empty : List ℕ → Option (List Call) → Option (List Call)
-unless-empty [] cs = some []
-unless-empty (x ∷ l) cs = cs
+unfoldable pub unless_empty : List ℕ → Option (List Call) → Option (List Call)
+unless_empty [] cs = some []
+unless_empty (x ∷ l) cs = cs
 
 -- the whole list, of at most f calls; none where it is malformed or truncated
-unfoldable pub decode-from : ℕ → List ℕ → Option (List Call)
-decode-from zero l = unless-empty l none
-decode-from (suc f) l = unless-empty l (and_then (front l) (λ rest. decode-from f rest))
+unfoldable pub decode_from : ℕ → List ℕ → Option (List Call)
+decode_from zero l = unless_empty l none
+decode_from (suc f) l = unless_empty l (and_then (front l) (λ rest. decode_from f rest))
 
 unfoldable pub decode : List ℕ → Option (List Call)
-decode l = decode-from (length l) l
+decode l = decode_from (length l) l

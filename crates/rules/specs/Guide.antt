@@ -35,20 +35,20 @@ unfoldable pub fresh : Guide
 fresh = record { first = 0; spans = replicate 32 []; order = [] }
 
 -- the rules for span i of a entries, the next having b, at position q; the tests are P ≤ a, P ≤ b and q < b
-unfoldable pub parallelism-by : ℕ → ℕ → ℕ → ℕ → Bool → Bool → Bool → ℕ
-parallelism-by P a b q true true before = P
-parallelism-by P a b q true false true = P
-parallelism-by P a b q true false false = max (P + b - q) 1
-parallelism-by P a b q false true before = a
-parallelism-by P a b q false false before = min a (b + a - q)
+unfoldable pub parallelism_by : ℕ → ℕ → ℕ → ℕ → Bool → Bool → Bool → ℕ
+parallelism_by P a b q true true before = P
+parallelism_by P a b q true false true = P
+parallelism_by P a b q true false false = max (P + b - q) 1
+parallelism_by P a b q false true before = a
+parallelism_by P a b q false false before = min a (b + a - q)
 
 unfoldable pub parallelism : ℕ → ℕ → ℕ → ℕ → ℕ
-unfolding parallelism-by
-parallelism P a b q = parallelism-by P a b q (leb P a) (leb P b) (ltb q b)
+unfolding parallelism_by
+parallelism P a b q = parallelism_by P a b q (leb P a) (leb P b) (ltb q b)
 
 -- the rule for span 31, in a flush
-unfoldable pub last-parallelism : ℕ → ℕ → ℕ
-last-parallelism a q = a - q
+unfoldable pub last_parallelism : ℕ → ℕ → ℕ
+last_parallelism a q = a - q
 
 -- the entries of a span from position q on, each with the parallelism of its position
 unfoldable pub annotate : (ℕ → ℕ) → ℕ → List Item → List Entry
@@ -59,7 +59,7 @@ annotate f q (e ∷ es) = record { item = e; parallelism = f q } ∷ annotate f 
 unfoldable pub released : ℕ → ℕ → List (List Item) → List Entry
 released P zero ss = []
 released P (suc n) [] = []
-released P (suc n) (s ∷ []) = annotate (last-parallelism (length s)) 0 s
+released P (suc n) (s ∷ []) = annotate (last_parallelism (length s)) 0 s
 released P (suc n) (s ∷ (t ∷ ss)) = annotate (parallelism P (length s) (length t)) 0 s ++ released P n (t ∷ ss)
 
 -- releasing spans 0 to n-1: their entries are appended in the old window, then it is rotated

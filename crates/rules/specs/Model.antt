@@ -3,7 +3,7 @@
 -- Calls. V is written N. The watermark stands for the high mark: it is the mark plus 1, or 0 where there is none. Assumes nothing.
 use Rattle.std.specs.Prelude.{List, [], ◌∷◌, ◌++◌, Bool, true, false, ◌||◌, ℕ, zero, suc, ◌+◌, ◌-◌, max, length, get_or, set as set_at, ltb, eqb}
 use Rattle.std.proofs.Math.Option.{Option, some, none}
-use Rattle.rules.specs.Guide.{Loc, origin, Guide, fresh, flush as flush-guide, Placed, place}
+use Rattle.rules.specs.Guide.{Loc, origin, Guide, fresh, flush as flush_guide, Placed, place}
 
 -- a registration: its lane (document 02, M-104), the places that it reads and those that it writes
 pub record Reg : Type 0 where
@@ -56,13 +56,13 @@ unfoldable pub tracked : Model → ℕ → Bool
 tracked k x = member x k.sets || marked x k.located
 
 -- the first untracked place from n on, looking at no more than f places
-unfoldable pub run-from : (ℕ → Bool) → ℕ → ℕ → ℕ
-run-from t zero n = n
-run-from t (suc f) n = elim (t n) [ true ↦ run-from t f (suc n) | false ↦ n ]
+unfoldable pub run_from : (ℕ → Bool) → ℕ → ℕ → ℕ
+run_from t zero n = n
+run_from t (suc f) n = elim (t n) [ true ↦ run_from t f (suc n) | false ↦ n ]
 
 -- places 0 to watermark-1 are all tracked: the high mark plus 1, or 0 for none
 unfoldable pub watermark : ℕ → Model → ℕ
-watermark N k = run-from (tracked k) N 0
+watermark N k = run_from (tracked k) N 0
 
 unfoldable pub greatest : List ℕ → ℕ
 greatest [] = 0
@@ -74,10 +74,10 @@ ready m [] = true
 ready m (x ∷ xs) = ltb (greatest (x ∷ xs)) m
 
 -- the location of a place; a set one has (0,0)
-unfoldable pub loc-of : List Located → ℕ → Loc
+unfoldable pub loc_of : List Located → ℕ → Loc
 unfolding origin
-loc-of [] x = origin
-loc-of (y ∷ ys) x = elim (eqb x y.at) [ true ↦ y.loc | false ↦ loc-of ys x ]
+loc_of [] x = origin
+loc_of (y ∷ ys) x = elim (eqb x y.at) [ true ↦ y.loc | false ↦ loc_of ys x ]
 
 -- the greater location: by span, then position
 unfoldable pub later : Loc → Loc → Loc
@@ -88,7 +88,7 @@ later l m =
 unfoldable pub top : List Located → List ℕ → Loc
 unfolding origin
 top ls [] = origin
-top ls (x ∷ xs) = later (loc-of ls x) (top ls xs)
+top ls (x ∷ xs) = later (loc_of ls x) (top ls xs)
 
 -- the greatest location among the inputs, absent where there are none
 unfoldable pub after : List Located → List ℕ → Option Loc
@@ -100,17 +100,17 @@ unfoldable pub spotted : Loc → List ℕ → List Located
 spotted l [] = []
 spotted l (x ∷ xs) = record { at = x; loc = l } ∷ spotted l xs
 
-no-reg : Reg
-no-reg = record { lane = 0; ins = []; outs = [] }
+no_reg : Reg
+no_reg = record { lane = 0; ins = []; outs = [] }
 
 -- the accepted add numbered r
 unfoldable pub reg_of : Model → ℕ → Reg
-unfolding no-reg
-reg_of k r = get_or k.adds r no-reg
+unfolding no_reg
+reg_of k r = get_or k.adds r no_reg
 
 -- placing registration r, the own add of c registrations having ended
-unfoldable pub place-one : ℕ → ℕ → ℕ → Model → Model
-place-one P c r k =
+unfoldable pub place_one : ℕ → ℕ → ℕ → Model → Model
+place_one P c r k =
     let p : Placed = place P (after k.located (reg_of k r).ins) (record { value = r; added = r; accepted = c; lane = (reg_of k r).lane }) k.guide in
     record {
       adds = k.adds;
@@ -158,24 +158,24 @@ unfoldable pub cascade : ℕ → ℕ → ℕ → ℕ → List ℕ → Model → 
 cascade P N c zero st k = k
 cascade P N c (suc f) [] k = k
 cascade P N c (suc f) (r ∷ st) k =
-    let j : Model = place-one P c r k in
+    let j : Model = place_one P c r k in
     cascade P N c f (push (off N j) st) (rest N j)
 
 -- no more can be placed than stand on the stack or wait
-unfoldable pub settle-all : ℕ → ℕ → ℕ → List ℕ → Model → Model
-settle-all P N c st k = cascade P N c (length st + length k.pending) st k
+unfoldable pub settle_all : ℕ → ℕ → ℕ → List ℕ → Model → Model
+settle_all P N c st k = cascade P N c (length st + length k.pending) st k
 
 -- set: the place is marked; what comes off is placed in that order, each with all that it sets off before the next
-unfoldable pub with-set : ℕ → Model → Model
-with-set x k =
+unfoldable pub with_set : ℕ → Model → Model
+with_set x k =
     record { adds = k.adds; sets = x ∷ k.sets; located = k.located; pending = k.pending; guide = k.guide; flushes = k.flushes; closed = k.closed; recorded = k.recorded }
 
-unfoldable pub do-set : ℕ → ℕ → ℕ → Model → Model
-do-set P N x k = settle-all P N (length k.adds) (off N (with-set x k)) (rest N (with-set x k))
+unfoldable pub do_set : ℕ → ℕ → ℕ → Model → Model
+do_set P N x k = settle_all P N (length k.adds) (off N (with_set x k)) (rest N (with_set x k))
 
 -- add: the next number; it is placed, with what it sets off, or waits
-unfoldable pub with-add : Reg → Model → Model
-with-add a k =
+unfoldable pub with_add : Reg → Model → Model
+with_add a k =
     record {
       adds = k.adds ++ (a ∷ []);
       sets = k.sets;
@@ -187,52 +187,52 @@ with-add a k =
       recorded = k.recorded;
     }
 
-unfoldable pub do-add : ℕ → ℕ → Reg → Model → Model
-do-add P N a k =
+unfoldable pub do_add : ℕ → ℕ → Reg → Model → Model
+do_add P N a k =
     elim (ready (watermark N k) a.ins) [
-      | true ↦ settle-all P N (length k.adds) (length k.adds ∷ []) (with-add a k)
-      | false ↦ keep (queue (record { under = greatest a.ins; reg = length k.adds }) k.pending) (with-add a k)
+      | true ↦ settle_all P N (length k.adds) (length k.adds ∷ []) (with_add a k)
+      | false ↦ keep (queue (record { under = greatest a.ins; reg = length k.adds }) k.pending) (with_add a k)
     ]
 
 -- the record's part of a model
-unfoldable pub with-record : Recorded → Model → Model
-with-record d k =
+unfoldable pub with_record : Recorded → Model → Model
+with_record d k =
     record { adds = k.adds; sets = k.sets; located = k.located; pending = k.pending; guide = k.guide; flushes = k.flushes; closed = k.closed; recorded = d }
 
 -- at the end of add the row's written becomes the order's length, also for one that waits
-unfoldable pub note-add : Model → Model
-note-add k =
-    with-record (record { written = k.recorded.written ++ (length k.guide.order ∷ []); places = k.recorded.places }) k
+unfoldable pub note_add : Model → Model
+note_add k =
+    with_record (record { written = k.recorded.written ++ (length k.guide.order ∷ []); places = k.recorded.places }) k
 
 -- flush and final store it in the row of the latest registration, if any
-unfoldable pub note-flush : Model → Model
-note-flush k =
-    with-record (record { written = set_at k.recorded.written (length k.recorded.written - 1) (length k.guide.order); places = k.recorded.places }) k
+unfoldable pub note_flush : Model → Model
+note_flush k =
+    with_record (record { written = set_at k.recorded.written (length k.recorded.written - 1) (length k.guide.order); places = k.recorded.places }) k
 
 -- final fixes places: the high mark plus 1, or 0
-unfoldable pub note-final : ℕ → Model → Model
-note-final N k = with-record (record { written = k.recorded.written; places = watermark N k }) k
+unfoldable pub note_final : ℕ → Model → Model
+note_final N k = with_record (record { written = k.recorded.written; places = watermark N k }) k
 
 -- and registrations, by closing: no call adds one afterwards. Before it they are 0
 abbrev pub registrations : Model → ℕ
 registrations k = elim k.closed [ true ↦ length k.adds | false ↦ 0 ]
 
 -- all 32 spans are released; the count of plain flushes is f, and c says whether it is closed
-unfoldable pub with-flush : ℕ → ℕ → Bool → Model → Model
-with-flush P f c k =
+unfoldable pub with_flush : ℕ → ℕ → Bool → Model → Model
+with_flush P f c k =
     record {
       adds = k.adds;
       sets = k.sets;
       located = k.located;
       pending = k.pending;
-      guide = flush-guide P k.guide;
+      guide = flush_guide P k.guide;
       flushes = f;
       closed = c;
       recorded = k.recorded;
     }
 
-unfoldable pub do-flush : ℕ → Model → Model
-do-flush P k = note-flush (with-flush P (suc k.flushes) k.closed k)
+unfoldable pub do_flush : ℕ → Model → Model
+do_flush P k = note_flush (with_flush P (suc k.flushes) k.closed k)
 
-unfoldable pub do-final : ℕ → ℕ → Model → Model
-do-final P N k = note-final N (note-flush (with-flush P k.flushes true k))
+unfoldable pub do_final : ℕ → ℕ → Model → Model
+do_final P N k = note_final N (note_flush (with_flush P k.flushes true k))

@@ -2,10 +2,10 @@
 -- and V are read and not judged, no call is judged, and every line is read. Only 16 and 15 are refused, in that order. Assumes nothing.
 use Rattle.std.specs.Prelude.{List, [], ◌∷◌, Bool, true, false, ℕ, suc, ◌+◌, ◌*◌, length, ltb}
 use Rattle.std.proofs.Math.Option.{some, none}
-use Rattle.rules.specs.Limits.{most-job-bytes}
+use Rattle.rules.specs.Limits.{most_job_bytes}
 use Rattle.rules.specs.Refusals as refusal
 use Rattle.rules.specs.Calls.{Call, set, add, flush, final}
-use Rattle.rules.specs.Job.{single, label, inputs, last, start_of, inputs-of, outputs-of, Begun, nothing, labelled, reading, places_of, parallelism-of, line_of, lines, ragged}
+use Rattle.rules.specs.Job.{single, label, inputs, last, start_of, inputs_of, outputs_of, Begun, nothing, labelled, reading, places_of, parallelism_of, line_of, lines, ragged}
 
 -- "its registrations n, pool numbers w, plain flushes f"
 pub record Needs : Type 0 where
@@ -13,8 +13,8 @@ pub record Needs : Type 0 where
   pub pool : ℕ
   pub flushes : ℕ
 
-unfoldable pub no-needs : Needs
-no-needs = record { registrations = 0; pool = 0; flushes = 0 }
+unfoldable pub no_needs : Needs
+no_needs = record { registrations = 0; pool = 0; flushes = 0 }
 
 -- the needs with a call more
 unfoldable pub with_call : Call → Needs → Needs
@@ -24,8 +24,8 @@ with_call flush c = record { registrations = c.registrations; pool = c.pool; flu
 with_call final c = c
 
 -- "2n + 32(f + 1) as a ceiling on released spans"
-unfoldable pub most-spans : Needs → ℕ
-most-spans c = 2 * c.registrations + 32 * (c.flushes + 1)
+unfoldable pub most_spans : Needs → ℕ
+most_spans c = 2 * c.registrations + 32 * (c.flushes + 1)
 
 -- what is read: the needs, or the line and the number of a refusal
 pub data Reading : Type 0 where
@@ -39,37 +39,37 @@ ending n [] true c = unread n refusal.malformed
 ending n (l ∷ ls) rag c = unread n refusal.malformed
 
 -- the lines from line n on; a lane is read and not judged
-unfoldable pub need-lines : ℕ → Begun → List (List ℕ) → Bool → Needs → Reading
-need-lines n begun [] rag c = unread n refusal.malformed
-need-lines n nothing (l ∷ ls) rag c =
+unfoldable pub need_lines : ℕ → Begun → List (List ℕ) → Bool → Needs → Reading
+need_lines n begun [] rag c = unread n refusal.malformed
+need_lines n nothing (l ∷ ls) rag c =
     elim (start_of (line_of l)) [
-      | some (single call) ↦ need-lines (suc n) nothing ls rag (with_call call c)
-      | some (label x) ↦ need-lines (suc n) (labelled x) ls rag c
-      | some (inputs ins) ↦ need-lines (suc n) (reading 0 ins) ls rag c
+      | some (single call) ↦ need_lines (suc n) nothing ls rag (with_call call c)
+      | some (label x) ↦ need_lines (suc n) (labelled x) ls rag c
+      | some (inputs ins) ↦ need_lines (suc n) (reading 0 ins) ls rag c
       | some last ↦ ending (suc n) ls rag (with_call final c)
       | none ↦ unread n refusal.malformed
     ]
-need-lines n (labelled x) (l ∷ ls) rag c =
-    elim (inputs-of (line_of l)) [
-      | some ins ↦ need-lines (suc n) (reading x ins) ls rag c
+need_lines n (labelled x) (l ∷ ls) rag c =
+    elim (inputs_of (line_of l)) [
+      | some ins ↦ need_lines (suc n) (reading x ins) ls rag c
       | none ↦ unread n refusal.malformed
     ]
-need-lines n (reading x ins) (l ∷ ls) rag c =
-    elim (outputs-of (line_of l)) [
-      | some outs ↦ need-lines (suc n) nothing ls rag (with_call (add x ins outs) c)
+need_lines n (reading x ins) (l ∷ ls) rag c =
+    elim (outputs_of (line_of l)) [
+      | some outs ↦ need_lines (suc n) nothing ls rag (with_call (add x ins outs) c)
       | none ↦ unread n refusal.malformed
     ]
 
 -- line 2
-unfoldable pub need-places : List (List ℕ) → Bool → Reading
-need-places [] rag = unread 2 refusal.malformed
-need-places (l ∷ ls) rag = elim (places_of (line_of l)) [ some N ↦ need-lines 3 nothing ls rag no-needs | none ↦ unread 2 refusal.malformed ]
+unfoldable pub need_places : List (List ℕ) → Bool → Reading
+need_places [] rag = unread 2 refusal.malformed
+need_places (l ∷ ls) rag = elim (places_of (line_of l)) [ some N ↦ need_lines 3 nothing ls rag no_needs | none ↦ unread 2 refusal.malformed ]
 
 -- line 1
-unfoldable pub need-job : List (List ℕ) → Bool → Reading
-need-job [] rag = unread 1 refusal.malformed
-need-job (l ∷ ls) rag = elim (parallelism-of (line_of l)) [ some P ↦ need-places ls rag | none ↦ unread 1 refusal.malformed ]
+unfoldable pub need_job : List (List ℕ) → Bool → Reading
+need_job [] rag = unread 1 refusal.malformed
+need_job (l ∷ ls) rag = elim (parallelism_of (line_of l)) [ some P ↦ need_places ls rag | none ↦ unread 1 refusal.malformed ]
 
 -- 16: a job over 65,536 bytes, before anything else
 unfoldable pub needs : List ℕ → Reading
-needs bs = elim (ltb most-job-bytes (length bs)) [ true ↦ unread 1 refusal.long-job | false ↦ need-job (lines bs) (ragged bs) ]
+needs bs = elim (ltb most_job_bytes (length bs)) [ true ↦ unread 1 refusal.long_job | false ↦ need_job (lines bs) (ragged bs) ]

@@ -1,7 +1,7 @@
 -- Document 01, "Placements worked through": the bold ones, G1 to G5 and W1 to W6, as one list, computed from the definitions.
 use Rattle.std.specs.Prelude.{◌≡◌, refl, List, [], ◌∷◌, map, ℕ, zero, suc, length, take, replicate}
 use Rattle.std.proofs.Math.Option.{Option, some, none}
-use Rattle.rules.specs.Guide.{Loc, Item, Entry, parallelism, parallelism-by, last-parallelism, annotate, released, fresh, release, flush, seek, found, begin, choose, Placed}
+use Rattle.rules.specs.Guide.{Loc, Item, Entry, parallelism, parallelism_by, last_parallelism, annotate, released, fresh, release, flush, seek, found, begin, choose, Placed}
 use Rattle.rules.specs.Guide.{put, settle, apply, place}
 
 item : Item
@@ -67,5 +67,5 @@ bold =
 
 -- of each the two are the same
 pub placements : map (λ x. x.got) bold ≡ map (λ x. x.want) bold
-unfolding bold steps chain at shown parallelisms span pair start item parallelism parallelism-by last-parallelism annotate released fresh release flush seek found begin choose put settle apply place
+unfolding bold steps chain at shown parallelisms span pair start item parallelism parallelism_by last_parallelism annotate released fresh release flush seek found begin choose put settle apply place
 placements = refl

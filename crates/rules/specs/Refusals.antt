@@ -9,64 +9,64 @@ out_of_range = 1
 abbrev pub too_short : ℕ
 too_short = 2
 
-abbrev pub too-many-numbers : ℕ
-too-many-numbers = 3
+abbrev pub too_many_numbers : ℕ
+too_many_numbers = 3
 
-abbrev pub flagged-place : ℕ
-flagged-place = 4
+abbrev pub flagged_place : ℕ
+flagged_place = 4
 
-abbrev pub unknown-place : ℕ
-unknown-place = 5
+abbrev pub unknown_place : ℕ
+unknown_place = 5
 
-abbrev pub repeated-output : ℕ
-repeated-output = 6
+abbrev pub repeated_output : ℕ
+repeated_output = 6
 
 abbrev pub malformed : ℕ
 malformed = 15
 
-abbrev pub long-job : ℕ
-long-job = 16
+abbrev pub long_job : ℕ
+long_job = 16
 
-abbrev pub long-listing : ℕ
-long-listing = 17
+abbrev pub long_listing : ℕ
+long_listing = 17
 
 -- document 02, M-104: "18, lane over 255"
-abbrev pub unknown-lane : ℕ
-unknown-lane = 18
+abbrev pub unknown_lane : ℕ
+unknown_lane = 18
 
 -- "Refused by the state"
 abbrev pub closed : ℕ
 closed = 7
 
-abbrev pub taken-place : ℕ
-taken-place = 8
+abbrev pub taken_place : ℕ
+taken_place = 8
 
-abbrev pub too-many-registrations : ℕ
-too-many-registrations = 9
+abbrev pub too_many_registrations : ℕ
+too_many_registrations = 9
 
-abbrev pub full-pool : ℕ
-full-pool = 10
+abbrev pub full_pool : ℕ
+full_pool = 10
 
-abbrev pub too-many-flushes : ℕ
-too-many-flushes = 11
+abbrev pub too_many_flushes : ℕ
+too_many_flushes = 11
 
-abbrev pub still-waiting : ℕ
-still-waiting = 12
+abbrev pub still_waiting : ℕ
+still_waiting = 12
 
 -- document 02, M-105: "19, never accepted; 20, accepted but not waiting"
-abbrev pub never-accepted : ℕ
-never-accepted = 19
+abbrev pub never_accepted : ℕ
+never_accepted = 19
 
-abbrev pub not-waiting : ℕ
-not-waiting = 20
+abbrev pub not_waiting : ℕ
+not_waiting = 20
 
 -- document 02, M-106: "21, a breach of the profile"
-abbrev pub profile-breach : ℕ
-profile-breach = 21
+abbrev pub profile_breach : ℕ
+profile_breach = 21
 
 -- the guide alone
-abbrev pub not-held : ℕ
-not-held = 13
+abbrev pub not_held : ℕ
+not_held = 13
 
-abbrev pub guide-exhausted : ℕ
-guide-exhausted = 14
+abbrev pub guide_exhausted : ℕ
+guide_exhausted = 14

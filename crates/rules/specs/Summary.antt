@@ -2,7 +2,7 @@
 use Rattle.std.specs.Prelude.{List, [], ◌∷◌, true, false, ℕ, zero, suc, ◌+◌, ◌*◌, take, drop, get_or, leb, Float}
 use Rattle.std.specs.Float.{binary32}
 use Rattle.std.specs.Float.Ieee.{round}
-use Rattle.rules.specs.Limits.{average-divisor, low-counts, sums-of-thousands}
+use Rattle.rules.specs.Limits.{average_divisor, low_counts, sums_of_thousands}
 
 unfoldable pub sum : List ℕ → ℕ
 sum [] = 0
@@ -10,15 +10,15 @@ sum (n ∷ t) = n + sum t
 
 -- the tally's sum divided by 65,000 and rounded once, in binary32
 unfoldable pub average : List ℕ → Float
-average t = round binary32 false (sum t) average-divisor
+average t = round binary32 false (sum t) average_divisor
 
 -- the first p from `at` on with twice the running sum at least the sum `all`, so far being the running sum before it; 0 past the end
-unfoldable pub median-from : ℕ → ℕ → ℕ → List ℕ → ℕ
-median-from all at so_far [] = 0
-median-from all at so_far (n ∷ t) = elim (leb all (2 * (so_far + n))) [ true ↦ at | false ↦ median-from all (suc at) (so_far + n) t ]
+unfoldable pub median_from : ℕ → ℕ → ℕ → List ℕ → ℕ
+median_from all at so_far [] = 0
+median_from all at so_far (n ∷ t) = elim (leb all (2 * (so_far + n))) [ true ↦ at | false ↦ median_from all (suc at) (so_far + n) t ]
 
 unfoldable pub median : List ℕ → ℕ
-median t = median-from (sum t) 0 0 t
+median t = median_from (sum t) 0 0 t
 
 -- n counts from `at` on, unstored ones being 0
 unfoldable pub counts : ℕ → ℕ → List ℕ → List ℕ
@@ -38,4 +38,4 @@ pub record Figures : Type 0 where
 
 -- the average, the median, the counts for 0 to 127 and 65 sums of thousands
 unfoldable pub figures : List ℕ → Figures
-figures t = record { average = average t; median = median t; low = counts low-counts 0 t; thousands = thousands sums-of-thousands 0 t }
+figures t = record { average = average t; median = median t; low = counts low_counts 0 t; thousands = thousands sums_of_thousands 0 t }

@@ -15,8 +15,8 @@ newline = 10
 abbrev pub comma : ℕ
 comma = 44
 
-abbrev pub zero-digit : ℕ
-zero-digit = 48
+abbrev pub zero_digit : ℕ
+zero_digit = 48
 
-abbrev pub nine-digit : ℕ
-nine-digit = 57
+abbrev pub nine_digit : ℕ
+nine_digit = 57

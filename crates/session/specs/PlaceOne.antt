@@ -1,18 +1,18 @@
 -- What the code of one placing needs at each call, and its promise, from what its callees promise. Assumes nothing.
 use Rattle.std.specs.Prelude.{◌≡◌, List, ℕ, ◌+◌, ◌-◌, ◌^◌, ◌≤◌, ◌<◌, length}
 use Rattle.std.proofs.Common.{sym, ap, subst, arith}
-use Rattle.rules.specs.Limits.{most-places}
-use Rattle.rules.specs.Model.{Model, run-from, reg_of, place-one}
+use Rattle.rules.specs.Limits.{most_places}
+use Rattle.rules.specs.Model.{Model, run_from, reg_of, place_one}
 use Rattle.laws.specs.Placeable.{Placeable}
 use Rattle.lists.specs.Part.{part, Below}
 use Rattle.pool.specs.Lists.{Lists}
-use Rattle.tracking.specs.Tracking.{packed, tracked-in}
-use Rattle.tracking.specs.Places.{stamped-from}
+use Rattle.tracking.specs.Tracking.{packed, tracked_in}
+use Rattle.tracking.specs.Places.{stamped_from}
 use Rattle.entries.specs.Entries.{fits, row, item_of}
 use Rattle.buffer.specs.declared.Guide.{Guide}
 use Rattle.buffer.specs.View.{view}
 use Rattle.placing.specs.Stands.{Stands}
-use Rattle.guide.specs.Ready.{Ready, Near, after-of}
+use Rattle.guide.specs.Ready.{Ready, Near, after_of}
 use Rattle.guide.specs.Pushes.{Pushes}
 use Rattle.records.specs.Filling.{filled, Fillable}
 use Rattle.session.specs.declared.After.{After}
@@ -20,8 +20,8 @@ use Rattle.session.specs.Storage.{Storage}
 use Rattle.session.specs.Outputs.{Settling, Settled}
 use Rattle.session.specs.Rep.{Core}
 use Rattle.session.specs.Parts.{base}
-use Rattle.session.specs.Placed.{MayPut, entry-for, placed-storage, all-below, base-placeable, put-push, put_fill}
-use Rattle.session.specs.Placing.{Found, may-settle, placed, placed-frame}
+use Rattle.session.specs.Placed.{MayPut, entry_for, placed_storage, all_below, base_placeable, put_push, put_fill}
+use Rattle.session.specs.Placing.{Found, may_settle, placed, placed_frame}
 use Rattle.session.specs.PlaceNext.{MayPlace, PlacesOne}
 
 -- registration r is one of those whose lists lie in the pool
@@ -30,9 +30,9 @@ pub record MayFind (locations w pool : List ℕ) (v added used r : ℕ) : Type 0
   pub lists : Lists v k.adds used w pool
   pub mine : r < length k.adds
   pub added_is : added ≡ length k.adds
-  pub ins-below : Below v (reg_of k r).ins
+  pub ins_below : Below v (reg_of k r).ins
   pub long : v ≤ length locations
-  pub small : v ≤ most-places
+  pub small : v ≤ most_places
 
 -- what is found is that of r's lists
 pub record Finds (locations w pool : List ℕ) (v added used r : ℕ) (f : After) : Type 0 where
@@ -41,22 +41,22 @@ pub record Finds (locations w pool : List ℕ) (v added used r : ℕ) (f : After
 module _ (c r : ℕ) (g : Guide) (watermark added used : ℕ) (σ : Storage) where
   module _ (a : MayPlace c g watermark added used σ r) where
     may : Placeable a.P a.N r a.k
-    may = base-placeable (base a.core) a.sound
+    may = base_placeable (base a.core) a.sound
 
     lists_at : Lists g.v a.k.adds used σ.waiting σ.pool
     lists_at =
-        subst (λ (v : ℕ). Lists v a.k.adds used σ.waiting σ.pool) (sym a.core.guided.v-is)
-        (subst (λ (x : ℕ). Lists a.N a.k.adds x σ.waiting σ.pool) (sym a.used-is) a.core.stored.lists)
+        subst (λ (v : ℕ). Lists v a.k.adds used σ.waiting σ.pool) (sym a.core.guided.v_is)
+        (subst (λ (x : ℕ). Lists a.N a.k.adds x σ.waiting σ.pool) (sym a.used_is) a.core.stored.lists)
 
-  pub asks-find : MayPlace c g watermark added used σ r → MayFind σ.locations σ.waiting σ.pool g.v added used r
-  asks-find a =
+  pub asks_find : MayPlace c g watermark added used σ r → MayFind σ.locations σ.waiting σ.pool g.v added used r
+  asks_find a =
       record {
         k = a.k;
         lists = lists_at a;
         mine = (may a).mine;
         added_is = a.added_is;
-        ins-below = subst (λ (v : ℕ). Below v (reg_of a.k r).ins) (sym a.core.guided.v-is) (all-below a.N (reg_of a.k r).ins (may a).lists.ins-below);
-        long = omega (arith, a.core.tracked.places.locations-long, a.core.guided.v-is);
+        ins_below = subst (λ (v : ℕ). Below v (reg_of a.k r).ins) (sym a.core.guided.v_is) (all_below a.N (reg_of a.k r).ins (may a).lists.ins_below);
+        long = omega (arith, a.core.tracked.places.locations_long, a.core.guided.v_is);
         small = a.core.guided.stands.small;
       }
 
@@ -67,39 +67,39 @@ module _ (c r : ℕ) (g : Guide) (watermark added used : ℕ) (σ : Storage) whe
     abbrev put : MayPlace c g watermark added used σ r → MayPut c r g watermark σ f.has f.span f.pos f.lane
     put a = record { P = a.P; N = a.N; W = a.W; k = a.k; st = a.st; base = base a.core; sound = a.sound; ended = a.ended; led = (found a).led }
 
-    pub asks-push : MayPlace c g watermark added used σ r
-        → Stands g σ.spans σ.order σ.tally × (Ready g.p g.v (view g σ.spans σ.order) × Near (view g σ.spans σ.order) (after-of f.has f.span f.pos))
-    asks-push a = put-push (put a)
+    pub asks_push : MayPlace c g watermark added used σ r
+        → Stands g σ.spans σ.order σ.tally × (Ready g.p g.v (view g σ.spans σ.order) × Near (view g σ.spans σ.order) (after_of f.has f.span f.pos))
+    asks_push a = put_push (put a)
 
-    pub asks-settle : MayPlace c g watermark added used σ r → Settling σ.marks σ.locations σ.pool f.at f.n g.v watermark
-    asks-settle a = may-settle f (put a) (found a)
+    pub asks_settle : MayPlace c g watermark added used σ r → Settling σ.marks σ.locations σ.pool f.at f.n g.v watermark
+    asks_settle a = may_settle f (put a) (found a)
 
     module _ (h : Guide) (sp o t : List ℕ) (span pos : ℕ)
-        (U : Pushes g h (after-of f.has f.span f.pos) (item_of (entry-for r c f.lane)) σ.spans σ.order σ.tally sp o t span pos) where
+        (U : Pushes g h (after_of f.has f.span f.pos) (item_of (entry_for r c f.lane)) σ.spans σ.order σ.tally sp o t span pos) where
       abbrev n : ℕ
       n = g.written
 
       abbrev new : ℕ
       new = h.written - g.written
 
-      pub asks-fill : MayPlace c g watermark added used σ r → (fits o (n + new) × (n + new < 2 ^ 32)) × Fillable o n new σ.rows
-      asks-fill a = put_fill (put a) U
+      pub asks_fill : MayPlace c g watermark added used σ r → (fits o (n + new) × (n + new < 2 ^ 32)) × Fillable o n new σ.rows
+      asks_fill a = put_fill (put a) U
 
-      pub places-one : (rs m l : List ℕ) (watermark' : ℕ) → MayPlace c g watermark added used σ r → rs ≡ filled σ.rows n (row o n new)
+      pub places_one : (rs m l : List ℕ) (watermark' : ℕ) → MayPlace c g watermark added used σ r → rs ≡ filled σ.rows n (row o n new)
           → Settled σ.marks σ.locations (part σ.pool f.at f.n) (packed span pos) g.v m l watermark'
-          → PlacesOne c r g watermark added used σ h watermark' (placed-storage σ sp o t rs m l)
-      places-one rs m l watermark' a er Z =
+          → PlacesOne c r g watermark added used σ h watermark' (placed_storage σ sp o t rs m l)
+      places_one rs m l watermark' a er Z =
           record {
-            core = λ P N W k st C S E ea eu. core (record { P = P; N = N; W = W; k = k; st = st; core = C; sound = S; ended = E; added_is = ea; used-is = eu });
-            rises = omega (arith, Z.watermark-is, ap (λ (x : List ℕ). run-from (tracked-in x) g.v 0) Z.stamps.marks-are, stamped-from g.v watermark σ.marks xs G.long G.low);
-            frame = placed-frame f (put a) (found a) U er Z;
+            core = λ P N W k st C S E ea eu. core (record { P = P; N = N; W = W; k = k; st = st; core = C; sound = S; ended = E; added_is = ea; used_is = eu });
+            rises = omega (arith, Z.watermark_is, ap (λ (x : List ℕ). run_from (tracked_in x) g.v 0) Z.stamps.marks_are, stamped_from g.v watermark σ.marks xs G.long G.low);
+            frame = placed_frame f (put a) (found a) U er Z;
           }
         where
           xs : List ℕ
           xs = part σ.pool f.at f.n
 
           G : Settling σ.marks σ.locations σ.pool f.at f.n g.v watermark
-          G = asks-settle a
+          G = asks_settle a
 
-          core : (b : MayPlace c g watermark added used σ r) → Core b.P b.N (place-one b.P c r b.k) h watermark' (placed-storage σ sp o t rs m l)
+          core : (b : MayPlace c g watermark added used σ r) → Core b.P b.N (place_one b.P c r b.k) h watermark' (placed_storage σ sp o t rs m l)
           core b = placed f (put b) (found b) U er Z b.core.stored

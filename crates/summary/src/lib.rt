@@ -1,11 +1,11 @@
 // What final gives of the tally, as one struct, and written into numbers that a host lends.
 ghost use Rattle.std.specs.Prelude.{◌≡◌, ◌++◌, ◌+◌, ◌≤◌, ltb, length, take, drop};
 ghost use Rattle.std.proofs.Math.Seq.{paste};
-ghost use Rattle.rules.specs.Limits.{most-places};
+ghost use Rattle.rules.specs.Limits.{most_places};
 ghost use Rattle.rules.specs.Summary as rules;
 ghost use Rattle.figures.specs.Small.{Small};
 ghost use Rattle.summary.specs.Figured.{figured, Tallied, Writable};
-ghost use Rattle.summary.specs.Layout.{summary-size, summary-numbers, summary-number, summary-after};
+ghost use Rattle.summary.specs.Layout.{summary_size, summary_numbers, summary_number, summary_after};
 
 // The numbers of a summary: the average's 32 bits, the median, from LOW_AT on the low counts, and from SUMS_AT on the sums of thousands.
 const LOW_AT: usize = 2;
@@ -52,7 +52,7 @@ pub fn finalize(tally: &[u32], p: u32) -> Summary
 
 // Whether the sum of any counts is above 2^24; it stops where it is, so nothing overflows.
 fn sum_too_great(t: &[u32]) -> bool
-    ensures { result ≡ ltb most-places (rules.sum t.now) }
+    ensures { result ≡ ltb most_places (rules.sum t.now) }
 {
     let mut s: u32 = 0;
     for i in 0..t.len() {
@@ -66,7 +66,7 @@ fn sum_too_great(t: &[u32]) -> bool
 
 // The number of a summary of the tally in `count` numbers: 0, or 1 or 2 where it is refused.
 fn check_summary(tally: &[u32], count: usize) -> u64
-    ensures { result ≡ summary-number tally.now count }
+    ensures { result ≡ summary_number tally.now count }
 {
     if figures::COUNTS < tally.len() {
         return rules::OUT_OF_RANGE;
@@ -92,8 +92,8 @@ fn copy(from: &[u32], to: &mut [u32], at: usize)
 
 // Writes a summary as numbers; what lies past them stays.
 fn write(s: Summary, to: &mut [u32])
-    requires { (Writable s) × (summary-size ≤ length to.old) }
-    ensures { to.new ≡ summary-numbers (figured s) ++ drop summary-size to.old }
+    requires { (Writable s) × (summary_size ≤ length to.old) }
+    ensures { to.new ≡ summary_numbers (figured s) ++ drop summary_size to.old }
 {
     let low = s.low;
     let sums = s.thousands;
@@ -108,8 +108,8 @@ fn write(s: Summary, to: &mut [u32])
 // than 195 numbers in `summary`, and then nothing is written.
 #[unsafe(no_mangle)]
 pub extern "C" fn order_summary(tally: &[u32], summary: &mut [u32]) -> u64
-    ensures number { result ≡ summary-number tally.now (length summary.old) }
-    ensures written { summary.new ≡ summary-after result tally.now summary.old }
+    ensures number { result ≡ summary_number tally.now (length summary.old) }
+    ensures written { summary.new ≡ summary_after result tally.now summary.old }
 {
     let n = check_summary(tally, summary.len());
     if n == 0 {

@@ -5,37 +5,37 @@ use Rattle.std.proofs.Common.{arith}
 use Rattle.std.proofs.Math.ListN.{length-set}
 use Rattle.std.proofs.Math.Seq.{get_or-set_same, get_or-set_other, set-set}
 use Rattle.std.proofs.lemmas.List.{set-get_or}
-use Rattle.rules.specs.Checks.{waiting-needed}
+use Rattle.rules.specs.Checks.{waiting_needed}
 
-abbrev pub flags-at : ℕ → ℕ
-flags-at v = 3 * v
+abbrev pub flags_at : ℕ → ℕ
+flags_at v = 3 * v
 
 -- the flag of place x of v, and the storage with another one
 unfoldable pub flag_at : List ℕ → ℕ → ℕ → ℕ
-flag_at w v x = get_or w (flags-at v + x) 0
+flag_at w v x = get_or w (flags_at v + x) 0
 
-unfoldable pub with-flag : List ℕ → ℕ → ℕ → ℕ → List ℕ
-with-flag w v x n = set w (flags-at v + x) n
+unfoldable pub with_flag : List ℕ → ℕ → ℕ → ℕ → List ℕ
+with_flag w v x n = set w (flags_at v + x) n
 
 module _ (w : List ℕ) (v x n : ℕ) where
-  pub flag-length : length (with-flag w v x n) ≡ length w
-  unfolding with-flag
-  flag-length = simp length-set
+  pub flag_length : length (with_flag w v x n) ≡ length w
+  unfolding with_flag
+  flag_length = simp length-set
 
   -- what is stored is read
-  pub flag_same : x < v → waiting-needed v ≤ length w → flag_at (with-flag w v x n) v x ≡ n
-  unfolding flag_at with-flag
+  pub flag_same : x < v → waiting_needed v ≤ length w → flag_at (with_flag w v x n) v x ≡ n
+  unfolding flag_at with_flag
   flag_same h long = get_or-set_same w _ n 0 (omega arith)
 
-  pub flag-other : (y : ℕ) → (y ≡ x → ⊥) → flag_at (with-flag w v x n) v y ≡ flag_at w v y
-  unfolding flag_at with-flag
-  flag-other y h = get_or-set_other w _ _ n 0 (λ e. h (omega arith))
+  pub flag_other : (y : ℕ) → (y ≡ x → ⊥) → flag_at (with_flag w v x n) v y ≡ flag_at w v y
+  unfolding flag_at with_flag
+  flag_other y h = get_or-set_other w _ _ n 0 (λ e. h (omega arith))
 
   -- the later store counts, and one that stores what stood there changes nothing
-  pub flag-twice : (m : ℕ) → with-flag (with-flag w v x n) v x m ≡ with-flag w v x m
-  unfolding with-flag
-  flag-twice m = set-set w _ n m
+  pub flag_twice : (m : ℕ) → with_flag (with_flag w v x n) v x m ≡ with_flag w v x m
+  unfolding with_flag
+  flag_twice m = set-set w _ n m
 
-pub flag-own : (w : List ℕ) (v x : ℕ) → with-flag w v x (flag_at w v x) ≡ w
-unfolding flag_at with-flag
-flag-own w v x = set-get_or w _ 0
+pub flag_own : (w : List ℕ) (v x : ℕ) → with_flag w v x (flag_at w v x) ≡ w
+unfolding flag_at with_flag
+flag_own w v x = set-get_or w _ 0

@@ -1,9 +1,9 @@
 -- Flags of taken places: 1 for a place that is set, written or promised, else 0; while repeats are looked for, 2 more for a place already
 -- met. Definitions; the laws are in Raising, FlagLaws and ClaimLaws. Assumes nothing.
 use Rattle.std.specs.Prelude.{◌≡◌, List, [], ◌∷◌, Bool, true, false, cond, not, ◌||◌, ℕ, ◌+◌, ◌≤◌, ◌<◌, length, take, leb, eqb}
-use Rattle.rules.specs.Checks.{any, repeats, waiting-needed}
+use Rattle.rules.specs.Checks.{any, repeats, waiting_needed}
 use Rattle.lists.specs.Part.{Below}
-use Rattle.taken.specs.Flag.{flag_at, with-flag}
+use Rattle.taken.specs.Flag.{flag_at, with_flag}
 
 -- the flag of place x says that it is taken
 unfoldable pub taken_at : List ℕ → ℕ → ℕ → Bool
@@ -11,17 +11,17 @@ taken_at w v x = eqb (flag_at w v x) 1
 
 -- the flags are those of the test t
 pub record Flags (N : ℕ) (t : ℕ → Bool) (w : List ℕ) : Type 0 where
-  pub long : waiting-needed N ≤ length w
+  pub long : waiting_needed N ≤ length w
   pub at : (x : ℕ) → x < N → flag_at w N x ≡ cond {A = ℕ} (t x) 1 0
 
 -- w with the flag of each place of xs set
 unfoldable pub claimed : List ℕ → ℕ → List ℕ → List ℕ
 claimed w v [] = w
-claimed w v (x ∷ xs) = claimed (with-flag w v x 1) v xs
+claimed w v (x ∷ xs) = claimed (with_flag w v x 1) v xs
 
 -- every flag is 0 or 1
 pub record Plain (w : List ℕ) (v : ℕ) : Type 0 where
-  pub long : waiting-needed v ≤ length w
+  pub long : waiting_needed v ≤ length w
   pub plain : (x : ℕ) → x < v → flag_at w v x ≤ 1
 
 -- and the places are below v
@@ -32,7 +32,7 @@ pub record Flagged (w : List ℕ) (v : ℕ) (xs : List ℕ) : Type 0 where
 -- w with the flag of each place of xs raised by 2
 unfoldable pub raised : List ℕ → ℕ → List ℕ → List ℕ
 raised w v [] = w
-raised w v (x ∷ xs) = raised (with-flag w v x (flag_at w v x + 2)) v xs
+raised w v (x ∷ xs) = raised (with_flag w v x (flag_at w v x + 2)) v xs
 
 -- the first n of xs do not repeat and are raised; xs repeats exactly where it has more than n
 pub record Raises (w : List ℕ) (v : ℕ) (xs : List ℕ) (n : ℕ) (w' : List ℕ) : Type 0 where

@@ -1,23 +1,23 @@
 // Which places are taken: a flag for each place in the waiting storage, 1 if it is set, written or promised, else 0. This crate alone
 // knows where a flag lies, by `flag`, `set_flag` and `clear`: of the quarters of v numbers, the fourth holds them.
 ghost use Rattle.std.specs.Prelude.{◌≡◌, ◌≤◌, ◌<◌, length};
-ghost use Rattle.rules.specs.Checks.{any, waiting-needed};
+ghost use Rattle.rules.specs.Checks.{any, waiting_needed};
 ghost use Rattle.lists.specs.Part.{Below};
 ghost use Rattle.zeros.specs.Zeros.{Cleared};
-ghost use Rattle.taken.specs.Flag.{flags-at, flag_at, with-flag};
+ghost use Rattle.taken.specs.Flag.{flags_at, flag_at, with_flag};
 ghost use Rattle.taken.specs.Flags.{taken_at, Plain, Flagged, Raises, Lowering, Lowers, Repeats, Unclaiming, Unclaims, Claims};
 
 // Takes all flags back.
 pub fn clear(waiting: &mut [u64], v: usize)
-    requires { waiting-needed v ≤ length waiting.old }
-    ensures { Cleared (flags-at v) (waiting-needed v) waiting.old waiting.new }
+    requires { waiting_needed v ≤ length waiting.old }
+    ensures { Cleared (flags_at v) (waiting_needed v) waiting.old waiting.new }
 {
     zeros::clear64(waiting, 3 * v, 4 * v);
 }
 
 // The flag of place x of v.
 fn flag(waiting: &[u64], v: usize, x: usize) -> u64
-    requires { (x < v) × (waiting-needed v ≤ length waiting.now) }
+    requires { (x < v) × (waiting_needed v ≤ length waiting.now) }
     ensures { result ≡ flag_at waiting.now v x }
 {
     waiting[3 * v + x]
@@ -25,8 +25,8 @@ fn flag(waiting: &[u64], v: usize, x: usize) -> u64
 
 // Stores the flag of place x of v.
 fn set_flag(waiting: &mut [u64], v: usize, x: usize, to: u64)
-    requires { (x < v) × (waiting-needed v ≤ length waiting.old) }
-    ensures { waiting.new ≡ with-flag waiting.old v x to }
+    requires { (x < v) × (waiting_needed v ≤ length waiting.old) }
+    ensures { waiting.new ≡ with_flag waiting.old v x to }
 {
     waiting[3 * v + x] = to;
 }
@@ -78,7 +78,7 @@ pub fn repeats(outs: &[u64], waiting: &mut [u64], v: usize) -> bool
 
 // Whether place x is flagged as taken.
 pub fn is_taken(waiting: &[u64], v: usize, x: usize) -> bool
-    requires { (x < v) × (waiting-needed v ≤ length waiting.now) }
+    requires { (x < v) × (waiting_needed v ≤ length waiting.now) }
     ensures { result ≡ taken_at waiting.now v x }
 {
     flag(waiting, v, x) == 1
@@ -86,7 +86,7 @@ pub fn is_taken(waiting: &[u64], v: usize, x: usize) -> bool
 
 // Whether one of outs is flagged as taken.
 pub fn any_taken(outs: &[u64], waiting: &[u64], v: usize) -> bool
-    requires { (Below v outs.now) × (waiting-needed v ≤ length waiting.now) }
+    requires { (Below v outs.now) × (waiting_needed v ≤ length waiting.now) }
     ensures { result ≡ any (taken_at waiting.now v) outs.now }
 {
     let mut i = 0;
@@ -101,8 +101,8 @@ pub fn any_taken(outs: &[u64], waiting: &[u64], v: usize) -> bool
 
 // Flags place x as taken.
 pub fn claim_one(waiting: &mut [u64], v: usize, x: usize)
-    requires { (x < v) × (waiting-needed v ≤ length waiting.old) }
-    ensures { waiting.new ≡ with-flag waiting.old v x 1 }
+    requires { (x < v) × (waiting_needed v ≤ length waiting.old) }
+    ensures { waiting.new ≡ with_flag waiting.old v x 1 }
 {
     set_flag(waiting, v, x, 1);
 }

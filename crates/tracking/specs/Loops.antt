@@ -7,60 +7,60 @@ use Prim.Native.Nat.{ℕ, zero, suc, ◌+◌, ◌-◌, ◌≤◌, ◌<◌, max}
 use Rattle.std.proofs.Math.Nat.{sub-zero}
 use native.Mathlib.Omega.{arith}
 use Rattle.std.proofs.Math.ListN.{length-set}
-use Rattle.rules.specs.Model.{run-from}
-use Rattle.lists.specs.Part.{part, part_step, part_end, part-begin}
+use Rattle.rules.specs.Model.{run_from}
+use Rattle.lists.specs.Part.{part, part_step, part_end, part_begin}
 use Rattle.tracking.specs.Tracking.{peak, stamped, nz}
 
 -- what is left to do from the j-th place on
-abbrev pub to-peak : List ℕ → ℕ → ℕ → List ℕ → ℕ → ℕ → ℕ
-to-peak pool at n l m j = max m (peak l (part pool (at + j) (n - j)))
+abbrev pub to_peak : List ℕ → ℕ → ℕ → List ℕ → ℕ → ℕ → ℕ
+to_peak pool at n l m j = max m (peak l (part pool (at + j) (n - j)))
 
-abbrev to-stamp : List ℕ → ℕ → ℕ → ℕ → List ℕ → ℕ → List ℕ
-to-stamp pool at n v l j = stamped l (part pool (at + j) (n - j)) v
+abbrev to_stamp : List ℕ → ℕ → ℕ → ℕ → List ℕ → ℕ → List ℕ
+to_stamp pool at n v l j = stamped l (part pool (at + j) (n - j)) v
 
 module _ (pool : List ℕ) (at n : ℕ) (h : at + n ≤ length pool) where
   module _ (l : List ℕ) where
-    pub peak-begins : peak l (part pool at n) ≡ to-peak pool at n l 0 0
-    peak-begins = ap (λ x. peak l x) (part-begin pool at n h) ∙ sym (zero-max (peak l (part pool (at + 0) (n - 0))))
+    pub peak_begins : peak l (part pool at n) ≡ to_peak pool at n l 0 0
+    peak_begins = ap (λ x. peak l x) (part_begin pool at n h) ∙ sym (zero_max (peak l (part pool (at + 0) (n - 0))))
       where
-        zero-max : (x : ℕ) → max 0 x ≡ x
-        zero-max x = omega arith
+        zero_max : (x : ℕ) → max 0 x ≡ x
+        zero_max x = omega arith
 
-    pub peak-less : (m j : ℕ) → j < n → get_or l (get_or pool (at + j) 0) 0 ≤ m → to-peak pool at n l m j ≡ to-peak pool at n l m (j + 1)
+    pub peak_less : (m j : ℕ) → j < n → get_or l (get_or pool (at + j) 0) 0 ≤ m → to_peak pool at n l m j ≡ to_peak pool at n l m (j + 1)
     unfolding peak
-    peak-less m j k q = rw (part_step pool at n h j k) (three m (get_or l (get_or pool (at + j) 0) 0) (peak l (part pool (at + (j + 1)) (n - (j + 1)))) q)
+    peak_less m j k q = rw (part_step pool at n h j k) (three m (get_or l (get_or pool (at + j) 0) 0) (peak l (part pool (at + (j + 1)) (n - (j + 1)))) q)
       where
         three : (m x y : ℕ) → x ≤ m → max m (max x y) ≡ max m y
         three m x y q = omega arith
 
-    pub peak-more : (m j : ℕ) → j < n → m ≤ get_or l (get_or pool (at + j) 0) 0 → to-peak pool at n l m j ≡ to-peak pool at n l (get_or l (get_or pool (at + j) 0) 0) (j + 1)
+    pub peak_more : (m j : ℕ) → j < n → m ≤ get_or l (get_or pool (at + j) 0) 0 → to_peak pool at n l m j ≡ to_peak pool at n l (get_or l (get_or pool (at + j) 0) 0) (j + 1)
     unfolding peak
-    peak-more m j k q = rw (part_step pool at n h j k) (three m (get_or l (get_or pool (at + j) 0) 0) (peak l (part pool (at + (j + 1)) (n - (j + 1)))) q)
+    peak_more m j k q = rw (part_step pool at n h j k) (three m (get_or l (get_or pool (at + j) 0) 0) (peak l (part pool (at + (j + 1)) (n - (j + 1)))) q)
       where
         three : (m x y : ℕ) → m ≤ x → max m (max x y) ≡ max x y
         three m x y q = omega arith
 
-    pub peak-ends : (m j : ℕ) → n ≤ j → to-peak pool at n l m j ≡ m
+    pub peak_ends : (m j : ℕ) → n ≤ j → to_peak pool at n l m j ≡ m
     unfolding peak
-    peak-ends m j k = rw (part_end pool at n h j k) (omega arith)
+    peak_ends m j k = rw (part_end pool at n h j k) (omega arith)
 
 -- the loop of `stamp`, of one of its two slices, at j: the places from the j-th on are still to be stamped
 pub record Stamping (pool : List ℕ) (at n v : ℕ) (l₀ l : List ℕ) (j : ℕ) : Type 0 where
   pub long : length l ≡ length l₀
-  pub left : stamped l₀ (part pool at n) v ≡ to-stamp pool at n v l j
+  pub left : stamped l₀ (part pool at n) v ≡ to_stamp pool at n v l j
 
 module _ {pool : List ℕ} {at n : ℕ} (h : at + n ≤ length pool) where
-  pub stamp-start : (v : ℕ) (l : List ℕ) → Stamping pool at n v l l 0
-  stamp-start v l = record { long = refl; left = ap (λ x. stamped l x v) (part-begin pool at n h) }
+  pub stamp_start : (v : ℕ) (l : List ℕ) → Stamping pool at n v l l 0
+  stamp_start v l = record { long = refl; left = ap (λ x. stamped l x v) (part_begin pool at n h) }
 
   module _ {v : ℕ} {l₀ l : List ℕ} {j : ℕ} (g : Stamping pool at n v l₀ l j) where
-    pub stamp-next : {x : ℕ} → x ≡ get_or pool (at + j) 0 → j < n → Stamping pool at n v l₀ (set l x v) (j + 1)
+    pub stamp_next : {x : ℕ} → x ≡ get_or pool (at + j) 0 → j < n → Stamping pool at n v l₀ (set l x v) (j + 1)
     unfolding stamped
-    stamp-next {x} e k = record { long = length-set l x v ∙ g.long; left = rw e (g.left ∙ rw (part_step pool at n h j k)) }
+    stamp_next {x} e k = record { long = length-set l x v ∙ g.long; left = rw e (g.left ∙ rw (part_step pool at n h j k)) }
 
-    pub stamp-end : n ≤ j → l ≡ stamped l₀ (part pool at n) v
+    pub stamp_end : n ≤ j → l ≡ stamped l₀ (part pool at n) v
     unfolding stamped
-    stamp-end k = sym (g.left ∙ rw (part_end pool at n h j k))
+    stamp_end k = sym (g.left ∙ rw (part_end pool at n h j k))
 
 -- the run of tracked places
 module _ (t : ℕ → Bool) where
@@ -68,56 +68,56 @@ module _ (t : ℕ → Bool) where
   bool true = inl refl
   bool false = inr refl
 
-  run-skip : (n f m : ℕ) → m + n ≤ run-from t f m → run-from t f m ≡ run-from t (f - n) (m + n)
-  unfolding run-from
-  run-skip zero f m h = rw (sub-zero, add-zero)
-  run-skip (suc n) zero m h = absurd (omega arith)
-  run-skip (suc n) (suc f) m h = go (bool (t m)) (λ k. run-skip n f (suc m) k)
+  run_skip : (n f m : ℕ) → m + n ≤ run_from t f m → run_from t f m ≡ run_from t (f - n) (m + n)
+  unfolding run_from
+  run_skip zero f m h = rw (sub-zero, add-zero)
+  run_skip (suc n) zero m h = absurd (omega arith)
+  run_skip (suc n) (suc f) m h = go (bool (t m)) (λ k. run_skip n f (suc m) k)
     where
-      go : (t m ≡ true) ⊎ (t m ≡ false) → (suc m + n ≤ run-from t f (suc m) → run-from t f (suc m) ≡ run-from t (f - n) (suc m + n)) → run-from t (suc f) m ≡ run-from t (suc f - suc n) (m + suc n)
+      go : (t m ≡ true) ⊎ (t m ≡ false) → (suc m + n ≤ run_from t f (suc m) → run_from t f (suc m) ≡ run_from t (f - n) (suc m + n)) → run_from t (suc f) m ≡ run_from t (suc f - suc n) (m + suc n)
       go (inl e) r =
-          let h' = rw (run-from, e) at h in
+          let h' = rw (run_from, e) at h in
           let x : suc f - suc n ≡ f - n = omega arith in
           let y : m + suc n ≡ suc m + n = omega arith in
-          rw (x, y) (rw (run-from, e) (r (omega arith)))
-      go (inr e) r = let h' = rw (run-from, e) at h in absurd (omega arith)
+          rw (x, y) (rw (run_from, e) (r (omega arith)))
+      go (inr e) r = let h' = rw (run_from, e) at h in absurd (omega arith)
 
-  pub run-begins : (v from : ℕ) → from ≤ run-from t v 0 → run-from t v 0 ≡ run-from t (v - from) from
-  run-begins v from h = run-skip from v 0 (omega arith) ∙ ap (λ x. run-from t (v - from) x) (zero-add from)
+  pub run_begins : (v from : ℕ) → from ≤ run_from t v 0 → run_from t v 0 ≡ run_from t (v - from) from
+  run_begins v from h = run_skip from v 0 (omega arith) ∙ ap (λ x. run_from t (v - from) x) (zero-add from)
 
-  run-le : (f m : ℕ) → run-from t f m ≤ m + f
-  unfolding run-from
-  run-le zero m = omega arith
-  run-le (suc f) m = go (bool (t m)) (run-le f (suc m))
+  run_le : (f m : ℕ) → run_from t f m ≤ m + f
+  unfolding run_from
+  run_le zero m = omega arith
+  run_le (suc f) m = go (bool (t m)) (run_le f (suc m))
     where
-      go : (t m ≡ true) ⊎ (t m ≡ false) → run-from t f (suc m) ≤ suc m + f → run-from t (suc f) m ≤ m + suc f
-      go (inl e) r = rw (run-from, e) (omega arith)
-      go (inr e) r = rw (run-from, e) (omega arith)
+      go : (t m ≡ true) ⊎ (t m ≡ false) → run_from t f (suc m) ≤ suc m + f → run_from t (suc f) m ≤ m + suc f
+      go (inl e) r = rw (run_from, e) (omega arith)
+      go (inr e) r = rw (run_from, e) (omega arith)
 
-  pub run-most : (v : ℕ) → run-from t v 0 ≤ v
-  run-most v = omega (arith, run-le v 0)
+  pub run_most : (v : ℕ) → run_from t v 0 ≤ v
+  run_most v = omega (arith, run_le v 0)
 
-  pub run_more : (v i : ℕ) → i < v → t i ≡ true → run-from t (v - i) i ≡ run-from t (v - (i + 1)) (i + 1)
-  unfolding run-from
+  pub run_more : (v i : ℕ) → i < v → t i ≡ true → run_from t (v - i) i ≡ run_from t (v - (i + 1)) (i + 1)
+  unfolding run_from
   run_more v i h e =
       let x : v - i ≡ suc (v - (i + 1)) = omega arith in
       let y : i + 1 ≡ suc i = omega arith in
-      rw (x, y) (rw (run-from, e))
+      rw (x, y) (rw (run_from, e))
 
-  pub run-stops : (v i : ℕ) → i < v → t i ≡ false → run-from t (v - i) i ≡ i
-  unfolding run-from
-  run-stops v i h e = let x : v - i ≡ suc (v - (i + 1)) = omega arith in rw x (rw (run-from, e))
+  pub run_stops : (v i : ℕ) → i < v → t i ≡ false → run_from t (v - i) i ≡ i
+  unfolding run_from
+  run_stops v i h e = let x : v - i ≡ suc (v - (i + 1)) = omega arith in rw x (rw (run_from, e))
 
-  pub run_ends : (v i : ℕ) → v ≤ i → run-from t (v - i) i ≡ i
-  unfolding run-from
+  pub run_ends : (v i : ℕ) → v ≤ i → run_from t (v - i) i ≡ i
+  unfolding run_from
   run_ends v i h = let x : v - i ≡ 0 = omega arith in rw x
 
-pub nz-no : (x : ℕ) → x ≡ 0 → nz x ≡ false
+pub nz_no : (x : ℕ) → x ≡ 0 → nz x ≡ false
 unfolding nz
-nz-no zero e = refl
-nz-no (suc n) e = absurd (omega arith)
+nz_no zero e = refl
+nz_no (suc n) e = absurd (omega arith)
 
-pub nz-yes : (x : ℕ) → (x ≡ 0 → ⊥) → nz x ≡ true
+pub nz_yes : (x : ℕ) → (x ≡ 0 → ⊥) → nz x ≡ true
 unfolding nz
-nz-yes zero e = absurd (e refl)
-nz-yes (suc n) e = refl
+nz_yes zero e = absurd (e refl)
+nz_yes (suc n) e = refl

@@ -1,7 +1,7 @@
 -- What is stored of places: a mark each (rules/Record.mark-by, 0 where untracked) and a location each, as one number (rules/Record.pack).
 -- Definitions that the promises cite; laws are in Loops and Places. Assumes nothing.
 use Rattle.std.specs.Prelude.{◌≡◌, List, [], ◌∷◌, Bool, true, false, ℕ, zero, suc, ◌/◌, ◌%◌, max, get_or, set}
-use Rattle.rules.specs.Limits.{location-radix, mark-written}
+use Rattle.rules.specs.Limits.{location_radix, mark_written}
 use Rattle.rules.specs.Guide.{Loc}
 use Rattle.rules.specs.Record.{pack}
 
@@ -10,7 +10,7 @@ abbrev pub packed : ℕ → ℕ → ℕ
 packed span pos = pack (record { span = span; pos = pos })
 
 abbrev pub unpacked : ℕ → Loc
-unpacked n = record { span = n / location-radix; pos = n % location-radix }
+unpacked n = record { span = n / location_radix; pos = n % location_radix }
 
 -- the greatest of the locations of the places xs
 unfoldable pub peak : List ℕ → List ℕ → ℕ
@@ -27,10 +27,10 @@ nz zero = false
 nz (suc n) = true
 
 -- a place is tracked where its mark is not 0
-unfoldable pub tracked-in : List ℕ → ℕ → Bool
-tracked-in marks x = nz (get_or marks x 0)
+unfoldable pub tracked_in : List ℕ → ℕ → Bool
+tracked_in marks x = nz (get_or marks x 0)
 
 -- the places xs are marked as written and have the location, no other has changed
 pub record Stamped (marks locations xs : List ℕ) (loc : ℕ) (marks' locations' : List ℕ) : Type 0 where
-  pub marks-are : marks' ≡ stamped marks xs mark-written
-  pub locations-are : locations' ≡ stamped locations xs loc
+  pub marks_are : marks' ≡ stamped marks xs mark_written
+  pub locations_are : locations' ≡ stamped locations xs loc

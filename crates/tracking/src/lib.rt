@@ -2,9 +2,9 @@
 // location is the greatest number; this crate alone makes it of a span and a position, and takes it apart.
 ghost use Rattle.std.specs.Prelude.{◌≡◌, ◌<◌, ◌≤◌, length, set};
 ghost use Rattle.rules.specs.Limits.{mark_set};
-ghost use Rattle.rules.specs.Model.{run-from};
+ghost use Rattle.rules.specs.Model.{run_from};
 ghost use Rattle.lists.specs.Part.{part, Listed};
-ghost use Rattle.tracking.specs.Tracking.{packed, unpacked, peak, Stamped, tracked-in};
+ghost use Rattle.tracking.specs.Tracking.{packed, unpacked, peak, Stamped, tracked_in};
 
 fn wide(x: u32) -> usize
     ensures { result ≡ x }
@@ -71,8 +71,8 @@ pub fn set_mark(marks: &mut [u16], x: usize)
 
 // The watermark of the first v places, looked for from `from` on: the places before `from` are known to be tracked.
 pub fn advance(marks: &[u16], v: usize, from: usize) -> usize
-    requires { (v ≤ length marks.now) × (from ≤ run-from (tracked-in marks.now) v 0) }
-    ensures { result ≡ run-from (tracked-in marks.now) v 0 }
+    requires { (v ≤ length marks.now) × (from ≤ run_from (tracked_in marks.now) v 0) }
+    ensures { result ≡ run_from (tracked_in marks.now) v 0 }
 {
     let mut i = from;
     while i < v {

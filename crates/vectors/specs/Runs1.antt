@@ -2,24 +2,24 @@
 use Rattle.std.specs.Prelude.{◌≡◌, refl, List, [], ◌∷◌, map}
 use Rattle.std.specs.Int.Count.{count_trailing_zeros}
 use Rattle.std.specs.Float.Ieee.{round, size, span, climb, units, odd, to_bits}
-use Rattle.rules.specs.Guide.{parallelism, parallelism-by, last-parallelism, annotate, released, fresh, release, flush as flush-guide, seek, found, begin, choose, put, settle}
+use Rattle.rules.specs.Guide.{parallelism, parallelism_by, last_parallelism, annotate, released, fresh, release, flush as flush_guide, seek, found, begin, choose, put, settle}
 use Rattle.rules.specs.Guide.{apply, place, tallied, tally}
-use Rattle.rules.specs.Model.{initial, member, marked, tracked, run-from, watermark, greatest, ready, loc-of, later, top, after, spotted, reg_of, place-one, due, left, queue}
-use Rattle.rules.specs.Model.{keep, push as push-stack, off, rest, with-set, with-add, cascade, settle-all, do-set, do-add, with-record, note-add, note-flush, note-final}
-use Rattle.rules.specs.Model.{with-flush, do-flush, do-final}
-use Rattle.rules.specs.Checks.{verdict, any, repeats, written-by, taken, pooled, check-closed, check-places, check-set, check-add, check-flush, check-final}
-use Rattle.rules.specs.Calls.{checks, answer, apply-call, unless-refused, step, run, set, flush, final}
-use Rattle.rules.specs.Alone.{alone, holds, stray, worn, check-push, check-flush-alone, requests, reply, location, serve, serve-step, serve-all}
-use Rattle.rules.specs.Summary.{sum, average, median-from, median, counts, thousands, figures}
-use Rattle.rules.specs.Record.{mark-by, unfilled, fill, row-after, row_of, summary}
-use Rattle.vectors.specs.Shown.{Compared, add, at, item, keep-zero, trimmed, window, entry, held-item, joined, row, rows-from, place-row, places-from, traced, figured}
-use Rattle.vectors.specs.Shown.{closing, after-calls, traced-calls, where_to, served, after-requests, traced-requests}
+use Rattle.rules.specs.Model.{initial, member, marked, tracked, run_from, watermark, greatest, ready, loc_of, later, top, after, spotted, reg_of, place_one, due, left, queue}
+use Rattle.rules.specs.Model.{keep, push as push_stack, off, rest, with_set, with_add, cascade, settle_all, do_set, do_add, with_record, note_add, note_flush, note_final}
+use Rattle.rules.specs.Model.{with_flush, do_flush, do_final}
+use Rattle.rules.specs.Checks.{verdict, any, repeats, written_by, taken, pooled, check_closed, check_places, check_set, check_add, check_flush, check_final}
+use Rattle.rules.specs.Calls.{checks, answer, apply_call, unless_refused, step, run, set, flush, final}
+use Rattle.rules.specs.Alone.{alone, holds, stray, worn, check_push, check_flush_alone, requests, reply, location, serve, serve_step, serve_all}
+use Rattle.rules.specs.Summary.{sum, average, median_from, median, counts, thousands, figures}
+use Rattle.rules.specs.Record.{mark_by, unfilled, fill, row_after, row_of, summary}
+use Rattle.vectors.specs.Shown.{Compared, add, at, item, keep_zero, trimmed, window, entry, held_item, joined, row, rows_from, place_row, places_from, traced, figured}
+use Rattle.vectors.specs.Shown.{closing, after_calls, traced_calls, where_to, served, after_requests, traced_requests}
 
 pub runs : List Compared
 runs =
     -- R1
     record {
-      got = traced-calls 2 3 (set 1 ∷ set 2 ∷ add (2 ∷ []) [] ∷ add (1 ∷ []) [] ∷ set 0 ∷ final ∷ []);
+      got = traced_calls 2 3 (set 1 ∷ set 2 ∷ add (2 ∷ []) [] ∷ add (1 ∷ []) [] ∷ set 0 ∷ final ∷ []);
       want = ((0 ∷ 0 ∷ 0 ∷ 0 ∷ []) ∷ (0 ∷ 0 ∷ 0 ∷ 0 ∷ []) ∷ (0 ∷ 0 ∷ 0 ∷ 0 ∷ []) ∷ (0 ∷ 0 ∷ 0 ∷ 0 ∷ []) ∷ (0 ∷ 0 ∷ 3 ∷ 1 ∷ 2 ∷ []) ∷ (0 ∷ 2 ∷ 3 ∷ 33 ∷ []) ∷ [])
           ∷ ((1 ∷ 1 ∷ 2 ∷ 2 ∷ []) ∷ (0 ∷ 0 ∷ 2 ∷ 1 ∷ []) ∷ []) ∷ ((0 ∷ 2 ∷ 0 ∷ 1 ∷ 1 ∷ []) ∷ (1 ∷ 2 ∷ 2 ∷ 0 ∷ 2 ∷ []) ∷ [])
           ∷ ((0 ∷ 49152 ∷ 0 ∷ 0 ∷ []) ∷ (1 ∷ 49152 ∷ 0 ∷ 0 ∷ []) ∷ (2 ∷ 49152 ∷ 0 ∷ 0 ∷ []) ∷ []) ∷ [] ∷ ((0 ∷ 1 ∷ 1 ∷ []) ∷ []) ∷ []
@@ -27,7 +27,7 @@ runs =
     }
     -- R2
     ∷ record {
-      got = traced-calls 2 3 (set 1 ∷ set 2 ∷ add (2 ∷ []) [] ∷ add (1 ∷ []) [] ∷ add [] (0 ∷ []) ∷ final ∷ []);
+      got = traced_calls 2 3 (set 1 ∷ set 2 ∷ add (2 ∷ []) [] ∷ add (1 ∷ []) [] ∷ add [] (0 ∷ []) ∷ final ∷ []);
       want = ((0 ∷ 0 ∷ 0 ∷ 0 ∷ []) ∷ (0 ∷ 0 ∷ 0 ∷ 0 ∷ []) ∷ (0 ∷ 0 ∷ 0 ∷ 0 ∷ []) ∷ (0 ∷ 0 ∷ 0 ∷ 0 ∷ []) ∷ (0 ∷ 0 ∷ 3 ∷ 1 ∷ 2 ∷ 1 ∷ []) ∷ (0 ∷ 3 ∷ 3 ∷ 33 ∷ []) ∷ [])
           ∷ ((2 ∷ 2 ∷ 2 ∷ 2 ∷ []) ∷ (0 ∷ 0 ∷ 2 ∷ 2 ∷ []) ∷ (1 ∷ 1 ∷ 2 ∷ 1 ∷ []) ∷ []) ∷ ((0 ∷ 2 ∷ 0 ∷ 1 ∷ 2 ∷ []) ∷ (1 ∷ 2 ∷ 0 ∷ 2 ∷ 1 ∷ []) ∷ (2 ∷ 2 ∷ 3 ∷ 0 ∷ 2 ∷ []) ∷ [])
           ∷ ((0 ∷ 32768 ∷ 1 ∷ 0 ∷ []) ∷ (1 ∷ 49152 ∷ 0 ∷ 0 ∷ []) ∷ (2 ∷ 49152 ∷ 0 ∷ 0 ∷ []) ∷ []) ∷ [] ∷ ((0 ∷ 1 ∷ 2 ∷ []) ∷ []) ∷ []
@@ -35,14 +35,14 @@ runs =
     }
     -- R3
     ∷ record {
-      got = traced-calls 2 3 (set 2 ∷ add (2 ∷ []) [] ∷ set 0 ∷ set 1 ∷ final ∷ []);
+      got = traced_calls 2 3 (set 2 ∷ add (2 ∷ []) [] ∷ set 0 ∷ set 1 ∷ final ∷ []);
       want = ((0 ∷ 0 ∷ 0 ∷ 0 ∷ []) ∷ (0 ∷ 0 ∷ 0 ∷ 0 ∷ []) ∷ (0 ∷ 0 ∷ 1 ∷ 0 ∷ []) ∷ (0 ∷ 0 ∷ 3 ∷ 0 ∷ 0 ∷ 1 ∷ []) ∷ (0 ∷ 1 ∷ 3 ∷ 32 ∷ []) ∷ []) ∷ ((0 ∷ 0 ∷ 1 ∷ 1 ∷ []) ∷ [])
           ∷ ((0 ∷ 1 ∷ 1 ∷ 0 ∷ 1 ∷ []) ∷ []) ∷ ((0 ∷ 49152 ∷ 0 ∷ 0 ∷ []) ∷ (1 ∷ 49152 ∷ 0 ∷ 0 ∷ []) ∷ (2 ∷ 49152 ∷ 0 ∷ 0 ∷ []) ∷ []) ∷ [] ∷ ((0 ∷ 1 ∷ 0 ∷ []) ∷ []) ∷ []
           ∷ ((1 ∷ 3 ∷ []) ∷ (931204662 ∷ []) ∷ (1 ∷ []) ∷ (128 ∷ 0 ∷ 1 ∷ []) ∷ (65 ∷ 1 ∷ []) ∷ []) ∷ [];
     }
     -- J1
     ∷ record {
-      got = traced-calls 2 6 (set 0 ∷ add (0 ∷ []) (1 ∷ []) ∷ add (1 ∷ []) (2 ∷ []) ∷ add (0 ∷ []) (3 ∷ []) ∷ add [] (4 ∷ []) ∷ final ∷ []);
+      got = traced_calls 2 6 (set 0 ∷ add (0 ∷ []) (1 ∷ []) ∷ add (1 ∷ []) (2 ∷ []) ∷ add (0 ∷ []) (3 ∷ []) ∷ add [] (4 ∷ []) ∷ final ∷ []);
       want = ((0 ∷ 0 ∷ 1 ∷ 0 ∷ []) ∷ (0 ∷ 0 ∷ 2 ∷ 0 ∷ 0 ∷ 1 ∷ []) ∷ (0 ∷ 0 ∷ 3 ∷ 0 ∷ 0 ∷ 1 ∷ 1 ∷ []) ∷ (0 ∷ 0 ∷ 4 ∷ 1 ∷ 2 ∷ 1 ∷ []) ∷ (0 ∷ 2 ∷ 5 ∷ 2 ∷ 2 ∷ [])
           ∷ (0 ∷ 4 ∷ 5 ∷ 34 ∷ []) ∷ []) ∷ ((0 ∷ 0 ∷ 0 ∷ 2 ∷ []) ∷ (2 ∷ 2 ∷ 2 ∷ 2 ∷ []) ∷ (1 ∷ 1 ∷ 1 ∷ 2 ∷ []) ∷ (3 ∷ 3 ∷ 3 ∷ 1 ∷ []) ∷ [])
           ∷ ((0 ∷ 0 ∷ 0 ∷ 0 ∷ 2 ∷ []) ∷ (1 ∷ 1 ∷ 0 ∷ 2 ∷ 2 ∷ []) ∷ (2 ∷ 2 ∷ 0 ∷ 1 ∷ 2 ∷ []) ∷ (3 ∷ 3 ∷ 4 ∷ 3 ∷ 1 ∷ []) ∷ [])
@@ -51,7 +51,7 @@ runs =
     }
     -- a chain
     ∷ record {
-      got = traced-calls 5 26 (set 0 ∷ add (0 ∷ []) (1 ∷ []) ∷ add (1 ∷ []) (2 ∷ []) ∷ add (2 ∷ []) (3 ∷ []) ∷ add (3 ∷ []) (4 ∷ []) ∷ add (4 ∷ []) (5 ∷ [])
+      got = traced_calls 5 26 (set 0 ∷ add (0 ∷ []) (1 ∷ []) ∷ add (1 ∷ []) (2 ∷ []) ∷ add (2 ∷ []) (3 ∷ []) ∷ add (3 ∷ []) (4 ∷ []) ∷ add (4 ∷ []) (5 ∷ [])
           ∷ add (5 ∷ []) (6 ∷ []) ∷ add (6 ∷ []) (7 ∷ []) ∷ add (7 ∷ []) (8 ∷ []) ∷ add (8 ∷ []) (9 ∷ []) ∷ add (9 ∷ []) (10 ∷ []) ∷ add (10 ∷ []) (11 ∷ [])
           ∷ add (11 ∷ []) (12 ∷ []) ∷ add (12 ∷ []) (13 ∷ []) ∷ add (13 ∷ []) (14 ∷ []) ∷ add (14 ∷ []) (15 ∷ []) ∷ flush ∷ add (15 ∷ []) (16 ∷ []) ∷ add (16 ∷ []) (17 ∷ [])
           ∷ add (17 ∷ []) (18 ∷ []) ∷ add (18 ∷ []) (19 ∷ []) ∷ add (19 ∷ []) (20 ∷ []) ∷ add (20 ∷ []) (21 ∷ []) ∷ add (21 ∷ []) (22 ∷ []) ∷ add (22 ∷ []) (23 ∷ [])
@@ -85,7 +85,7 @@ runs =
     }
     -- a chain
     ∷ record {
-      got = traced-calls 1 26 (set 0 ∷ add (0 ∷ []) (1 ∷ []) ∷ add (1 ∷ []) (2 ∷ []) ∷ add (2 ∷ []) (3 ∷ []) ∷ add (3 ∷ []) (4 ∷ []) ∷ add (4 ∷ []) (5 ∷ [])
+      got = traced_calls 1 26 (set 0 ∷ add (0 ∷ []) (1 ∷ []) ∷ add (1 ∷ []) (2 ∷ []) ∷ add (2 ∷ []) (3 ∷ []) ∷ add (3 ∷ []) (4 ∷ []) ∷ add (4 ∷ []) (5 ∷ [])
           ∷ add (5 ∷ []) (6 ∷ []) ∷ add (6 ∷ []) (7 ∷ []) ∷ add (7 ∷ []) (8 ∷ []) ∷ add (8 ∷ []) (9 ∷ []) ∷ add (9 ∷ []) (10 ∷ []) ∷ add (10 ∷ []) (11 ∷ [])
           ∷ add (11 ∷ []) (12 ∷ []) ∷ add (12 ∷ []) (13 ∷ []) ∷ add (13 ∷ []) (14 ∷ []) ∷ add (14 ∷ []) (15 ∷ []) ∷ add (15 ∷ []) (16 ∷ []) ∷ add (16 ∷ []) (17 ∷ [])
           ∷ add (17 ∷ []) (18 ∷ []) ∷ add (18 ∷ []) (19 ∷ []) ∷ add (19 ∷ []) (20 ∷ []) ∷ add (20 ∷ []) (21 ∷ []) ∷ add (21 ∷ []) (22 ∷ []) ∷ flush ∷ add (22 ∷ []) (23 ∷ [])
@@ -113,7 +113,7 @@ runs =
     }
     -- a chain
     ∷ record {
-      got = traced-calls 7 31 (set 0 ∷ add (0 ∷ []) (1 ∷ []) ∷ add (1 ∷ []) (2 ∷ []) ∷ add (2 ∷ []) (3 ∷ []) ∷ add (3 ∷ []) (4 ∷ []) ∷ add (4 ∷ []) (5 ∷ [])
+      got = traced_calls 7 31 (set 0 ∷ add (0 ∷ []) (1 ∷ []) ∷ add (1 ∷ []) (2 ∷ []) ∷ add (2 ∷ []) (3 ∷ []) ∷ add (3 ∷ []) (4 ∷ []) ∷ add (4 ∷ []) (5 ∷ [])
           ∷ add (5 ∷ []) (6 ∷ []) ∷ add (6 ∷ []) (7 ∷ []) ∷ add (7 ∷ []) (8 ∷ []) ∷ add (8 ∷ []) (9 ∷ []) ∷ add (9 ∷ []) (10 ∷ []) ∷ add (10 ∷ []) (11 ∷ [])
           ∷ add (11 ∷ []) (12 ∷ []) ∷ add (12 ∷ []) (13 ∷ []) ∷ add (13 ∷ []) (14 ∷ []) ∷ add (14 ∷ []) (15 ∷ []) ∷ add (15 ∷ []) (16 ∷ []) ∷ add (16 ∷ []) (17 ∷ [])
           ∷ add (17 ∷ []) (18 ∷ []) ∷ add (18 ∷ []) (19 ∷ []) ∷ add (19 ∷ []) (20 ∷ []) ∷ add (20 ∷ []) (21 ∷ []) ∷ add (21 ∷ []) (22 ∷ []) ∷ add (22 ∷ []) (23 ∷ [])
@@ -162,7 +162,7 @@ runs =
     }
     -- a chain
     ∷ record {
-      got = traced-calls 3 32 (set 0 ∷ add (0 ∷ []) (1 ∷ []) ∷ add (1 ∷ []) (2 ∷ []) ∷ add (2 ∷ []) (3 ∷ []) ∷ add (3 ∷ []) (4 ∷ []) ∷ add (4 ∷ []) (5 ∷ [])
+      got = traced_calls 3 32 (set 0 ∷ add (0 ∷ []) (1 ∷ []) ∷ add (1 ∷ []) (2 ∷ []) ∷ add (2 ∷ []) (3 ∷ []) ∷ add (3 ∷ []) (4 ∷ []) ∷ add (4 ∷ []) (5 ∷ [])
           ∷ add (5 ∷ []) (6 ∷ []) ∷ add (6 ∷ []) (7 ∷ []) ∷ add (7 ∷ []) (8 ∷ []) ∷ add (8 ∷ []) (9 ∷ []) ∷ add (9 ∷ []) (10 ∷ []) ∷ add (10 ∷ []) (11 ∷ [])
           ∷ add (11 ∷ []) (12 ∷ []) ∷ add (12 ∷ []) (13 ∷ []) ∷ add (13 ∷ []) (14 ∷ []) ∷ add (14 ∷ []) (15 ∷ []) ∷ add (15 ∷ []) (16 ∷ []) ∷ add (16 ∷ []) (17 ∷ [])
           ∷ add (17 ∷ []) (18 ∷ []) ∷ add (18 ∷ []) (19 ∷ []) ∷ add (19 ∷ []) (20 ∷ []) ∷ add (20 ∷ []) (21 ∷ []) ∷ add (21 ∷ []) (22 ∷ []) ∷ add (22 ∷ []) (23 ∷ [])
@@ -212,7 +212,7 @@ runs =
     }
     -- a chain
     ∷ record {
-      got = after-calls 4 26 (set 0 ∷ add (0 ∷ []) (1 ∷ []) ∷ add (1 ∷ []) (2 ∷ []) ∷ add (2 ∷ []) (3 ∷ []) ∷ add (3 ∷ []) (4 ∷ []) ∷ add (4 ∷ []) (5 ∷ []) ∷ add (5 ∷ []) (6 ∷ [])
+      got = after_calls 4 26 (set 0 ∷ add (0 ∷ []) (1 ∷ []) ∷ add (1 ∷ []) (2 ∷ []) ∷ add (2 ∷ []) (3 ∷ []) ∷ add (3 ∷ []) (4 ∷ []) ∷ add (4 ∷ []) (5 ∷ []) ∷ add (5 ∷ []) (6 ∷ [])
           ∷ add (6 ∷ []) (7 ∷ []) ∷ add (7 ∷ []) (8 ∷ []) ∷ add (8 ∷ []) (9 ∷ []) ∷ add (9 ∷ []) (10 ∷ []) ∷ add (10 ∷ []) (11 ∷ []) ∷ add (11 ∷ []) (12 ∷ [])
           ∷ add (12 ∷ []) (13 ∷ []) ∷ add (13 ∷ []) (14 ∷ []) ∷ add (14 ∷ []) (15 ∷ []) ∷ add (15 ∷ []) (16 ∷ []) ∷ add (16 ∷ []) (17 ∷ []) ∷ add (17 ∷ []) (18 ∷ [])
           ∷ add (18 ∷ []) (19 ∷ []) ∷ add (19 ∷ []) (20 ∷ []) ∷ add (20 ∷ []) (21 ∷ []) ∷ flush ∷ add (21 ∷ []) (22 ∷ []) ∷ add (22 ∷ []) (23 ∷ []) ∷ add (23 ∷ []) (24 ∷ [])
@@ -235,7 +235,7 @@ runs =
     }
     -- a chain
     ∷ record {
-      got = after-calls 2 29 (set 0 ∷ add (0 ∷ []) (1 ∷ []) ∷ add (1 ∷ []) (2 ∷ []) ∷ add (2 ∷ []) (3 ∷ []) ∷ add (3 ∷ []) (4 ∷ []) ∷ add (4 ∷ []) (5 ∷ []) ∷ flush
+      got = after_calls 2 29 (set 0 ∷ add (0 ∷ []) (1 ∷ []) ∷ add (1 ∷ []) (2 ∷ []) ∷ add (2 ∷ []) (3 ∷ []) ∷ add (3 ∷ []) (4 ∷ []) ∷ add (4 ∷ []) (5 ∷ []) ∷ flush
           ∷ add (5 ∷ []) (6 ∷ []) ∷ add (6 ∷ []) (7 ∷ []) ∷ add (7 ∷ []) (8 ∷ []) ∷ add (8 ∷ []) (9 ∷ []) ∷ add (9 ∷ []) (10 ∷ []) ∷ add (10 ∷ []) (11 ∷ [])
           ∷ add (11 ∷ []) (12 ∷ []) ∷ add (12 ∷ []) (13 ∷ []) ∷ add (13 ∷ []) (14 ∷ []) ∷ add (14 ∷ []) (15 ∷ []) ∷ add (15 ∷ []) (16 ∷ []) ∷ add (16 ∷ []) (17 ∷ [])
           ∷ add (17 ∷ []) (18 ∷ []) ∷ add (18 ∷ []) (19 ∷ []) ∷ add (19 ∷ []) (20 ∷ []) ∷ add (20 ∷ []) (21 ∷ []) ∷ add (21 ∷ []) (22 ∷ []) ∷ add (22 ∷ []) (23 ∷ [])
@@ -260,7 +260,7 @@ runs =
     }
     -- a chain
     ∷ record {
-      got = after-calls 6 29 (set 0 ∷ add (0 ∷ []) (1 ∷ []) ∷ add (1 ∷ []) (2 ∷ []) ∷ add (2 ∷ []) (3 ∷ []) ∷ add (3 ∷ []) (4 ∷ []) ∷ add (4 ∷ []) (5 ∷ []) ∷ add (5 ∷ []) (6 ∷ [])
+      got = after_calls 6 29 (set 0 ∷ add (0 ∷ []) (1 ∷ []) ∷ add (1 ∷ []) (2 ∷ []) ∷ add (2 ∷ []) (3 ∷ []) ∷ add (3 ∷ []) (4 ∷ []) ∷ add (4 ∷ []) (5 ∷ []) ∷ add (5 ∷ []) (6 ∷ [])
           ∷ add (6 ∷ []) (7 ∷ []) ∷ add (7 ∷ []) (8 ∷ []) ∷ add (8 ∷ []) (9 ∷ []) ∷ add (9 ∷ []) (10 ∷ []) ∷ add (10 ∷ []) (11 ∷ []) ∷ add (11 ∷ []) (12 ∷ [])
           ∷ add (12 ∷ []) (13 ∷ []) ∷ add (13 ∷ []) (14 ∷ []) ∷ add (14 ∷ []) (15 ∷ []) ∷ add (15 ∷ []) (16 ∷ []) ∷ add (16 ∷ []) (17 ∷ []) ∷ add (17 ∷ []) (18 ∷ [])
           ∷ add (18 ∷ []) (19 ∷ []) ∷ add (19 ∷ []) (20 ∷ []) ∷ add (20 ∷ []) (21 ∷ []) ∷ add (21 ∷ []) (22 ∷ []) ∷ add (22 ∷ []) (23 ∷ []) ∷ add (23 ∷ []) (24 ∷ [])
@@ -285,7 +285,7 @@ runs =
     }
     -- a chain
     ∷ record {
-      got = after-calls 4 35 (set 0 ∷ add (0 ∷ []) (1 ∷ []) ∷ add (1 ∷ []) (2 ∷ []) ∷ add (2 ∷ []) (3 ∷ []) ∷ add (3 ∷ []) (4 ∷ []) ∷ add (4 ∷ []) (5 ∷ []) ∷ add (5 ∷ []) (6 ∷ [])
+      got = after_calls 4 35 (set 0 ∷ add (0 ∷ []) (1 ∷ []) ∷ add (1 ∷ []) (2 ∷ []) ∷ add (2 ∷ []) (3 ∷ []) ∷ add (3 ∷ []) (4 ∷ []) ∷ add (4 ∷ []) (5 ∷ []) ∷ add (5 ∷ []) (6 ∷ [])
           ∷ add (6 ∷ []) (7 ∷ []) ∷ add (7 ∷ []) (8 ∷ []) ∷ add (8 ∷ []) (9 ∷ []) ∷ add (9 ∷ []) (10 ∷ []) ∷ add (10 ∷ []) (11 ∷ []) ∷ add (11 ∷ []) (12 ∷ [])
           ∷ add (12 ∷ []) (13 ∷ []) ∷ add (13 ∷ []) (14 ∷ []) ∷ flush ∷ add (14 ∷ []) (15 ∷ []) ∷ add (15 ∷ []) (16 ∷ []) ∷ add (16 ∷ []) (17 ∷ []) ∷ add (17 ∷ []) (18 ∷ [])
           ∷ add (18 ∷ []) (19 ∷ []) ∷ add (19 ∷ []) (20 ∷ []) ∷ add (20 ∷ []) (21 ∷ []) ∷ add (21 ∷ []) (22 ∷ []) ∷ add (22 ∷ []) (23 ∷ []) ∷ add (23 ∷ []) (24 ∷ [])
@@ -315,7 +315,7 @@ runs =
     }
     -- layers
     ∷ record {
-      got = traced-calls 5 7 (set 0 ∷ add (0 ∷ 0 ∷ 0 ∷ []) (1 ∷ []) ∷ add (1 ∷ []) (2 ∷ []) ∷ add (2 ∷ 2 ∷ 2 ∷ []) (3 ∷ []) ∷ add (3 ∷ 3 ∷ []) (4 ∷ []) ∷ add (4 ∷ []) (5 ∷ [])
+      got = traced_calls 5 7 (set 0 ∷ add (0 ∷ 0 ∷ 0 ∷ []) (1 ∷ []) ∷ add (1 ∷ []) (2 ∷ []) ∷ add (2 ∷ 2 ∷ 2 ∷ []) (3 ∷ []) ∷ add (3 ∷ 3 ∷ []) (4 ∷ []) ∷ add (4 ∷ []) (5 ∷ [])
           ∷ add (5 ∷ 5 ∷ 5 ∷ []) (6 ∷ []) ∷ final ∷ []);
       want = ((0 ∷ 0 ∷ 1 ∷ 0 ∷ []) ∷ (0 ∷ 0 ∷ 2 ∷ 0 ∷ 0 ∷ 1 ∷ []) ∷ (0 ∷ 0 ∷ 3 ∷ 0 ∷ 0 ∷ 1 ∷ 1 ∷ []) ∷ (0 ∷ 0 ∷ 4 ∷ 0 ∷ 0 ∷ 1 ∷ 1 ∷ 1 ∷ [])
           ∷ (0 ∷ 0 ∷ 5 ∷ 0 ∷ 0 ∷ 1 ∷ 1 ∷ 1 ∷ 1 ∷ []) ∷ (0 ∷ 0 ∷ 6 ∷ 0 ∷ 0 ∷ 1 ∷ 1 ∷ 1 ∷ 1 ∷ 1 ∷ []) ∷ (0 ∷ 0 ∷ 7 ∷ 0 ∷ 0 ∷ 1 ∷ 1 ∷ 1 ∷ 1 ∷ 1 ∷ 1 ∷ []) ∷ (0 ∷ 6 ∷ 7 ∷ 32 ∷ [])
@@ -327,7 +327,7 @@ runs =
     }
     -- layers
     ∷ record {
-      got = traced-calls 7 10 (set 0 ∷ add (0 ∷ 0 ∷ 0 ∷ []) (1 ∷ []) ∷ add (1 ∷ []) (2 ∷ []) ∷ add (2 ∷ []) (3 ∷ []) ∷ add (3 ∷ 3 ∷ []) (4 ∷ []) ∷ add (4 ∷ 4 ∷ []) (5 ∷ [])
+      got = traced_calls 7 10 (set 0 ∷ add (0 ∷ 0 ∷ 0 ∷ []) (1 ∷ []) ∷ add (1 ∷ []) (2 ∷ []) ∷ add (2 ∷ []) (3 ∷ []) ∷ add (3 ∷ 3 ∷ []) (4 ∷ []) ∷ add (4 ∷ 4 ∷ []) (5 ∷ [])
           ∷ add (5 ∷ 5 ∷ 5 ∷ []) (6 ∷ []) ∷ add (6 ∷ 6 ∷ 6 ∷ []) (7 ∷ []) ∷ add (7 ∷ 7 ∷ []) (8 ∷ []) ∷ add (8 ∷ 8 ∷ []) (9 ∷ []) ∷ final ∷ []);
       want = ((0 ∷ 0 ∷ 1 ∷ 0 ∷ []) ∷ (0 ∷ 0 ∷ 2 ∷ 0 ∷ 0 ∷ 1 ∷ []) ∷ (0 ∷ 0 ∷ 3 ∷ 0 ∷ 0 ∷ 1 ∷ 1 ∷ []) ∷ (0 ∷ 0 ∷ 4 ∷ 0 ∷ 0 ∷ 1 ∷ 1 ∷ 1 ∷ [])
           ∷ (0 ∷ 0 ∷ 5 ∷ 0 ∷ 0 ∷ 1 ∷ 1 ∷ 1 ∷ 1 ∷ []) ∷ (0 ∷ 0 ∷ 6 ∷ 0 ∷ 0 ∷ 1 ∷ 1 ∷ 1 ∷ 1 ∷ 1 ∷ []) ∷ (0 ∷ 0 ∷ 7 ∷ 0 ∷ 0 ∷ 1 ∷ 1 ∷ 1 ∷ 1 ∷ 1 ∷ 1 ∷ [])
@@ -342,7 +342,7 @@ runs =
     }
     -- layers
     ∷ record {
-      got = traced-calls 1 12 (set 0 ∷ add (0 ∷ 0 ∷ []) (1 ∷ []) ∷ add (1 ∷ []) (2 ∷ []) ∷ add (2 ∷ []) (3 ∷ []) ∷ add (3 ∷ 3 ∷ []) (4 ∷ []) ∷ add (4 ∷ []) (5 ∷ [])
+      got = traced_calls 1 12 (set 0 ∷ add (0 ∷ 0 ∷ []) (1 ∷ []) ∷ add (1 ∷ []) (2 ∷ []) ∷ add (2 ∷ []) (3 ∷ []) ∷ add (3 ∷ 3 ∷ []) (4 ∷ []) ∷ add (4 ∷ []) (5 ∷ [])
           ∷ add (5 ∷ 5 ∷ []) (6 ∷ []) ∷ add (6 ∷ []) (7 ∷ []) ∷ add (7 ∷ 7 ∷ 7 ∷ []) (8 ∷ []) ∷ add (8 ∷ 8 ∷ 8 ∷ []) (9 ∷ []) ∷ add (9 ∷ []) (10 ∷ [])
           ∷ add (10 ∷ 10 ∷ 10 ∷ []) (11 ∷ []) ∷ final ∷ []);
       want = ((0 ∷ 0 ∷ 1 ∷ 0 ∷ []) ∷ (0 ∷ 0 ∷ 2 ∷ 1 ∷ 1 ∷ []) ∷ (0 ∷ 1 ∷ 3 ∷ 2 ∷ 1 ∷ []) ∷ (0 ∷ 2 ∷ 4 ∷ 3 ∷ 1 ∷ []) ∷ (0 ∷ 3 ∷ 5 ∷ 4 ∷ 1 ∷ []) ∷ (0 ∷ 4 ∷ 6 ∷ 5 ∷ 1 ∷ [])
@@ -357,7 +357,7 @@ runs =
     }
     -- layers
     ∷ record {
-      got = traced-calls 7 14 (set 0 ∷ add (0 ∷ 0 ∷ []) (1 ∷ []) ∷ add (1 ∷ 1 ∷ []) (2 ∷ []) ∷ add (2 ∷ 2 ∷ 2 ∷ []) (3 ∷ []) ∷ add (3 ∷ 3 ∷ 3 ∷ []) (4 ∷ [])
+      got = traced_calls 7 14 (set 0 ∷ add (0 ∷ 0 ∷ []) (1 ∷ []) ∷ add (1 ∷ 1 ∷ []) (2 ∷ []) ∷ add (2 ∷ 2 ∷ 2 ∷ []) (3 ∷ []) ∷ add (3 ∷ 3 ∷ 3 ∷ []) (4 ∷ [])
           ∷ add (4 ∷ []) (5 ∷ []) ∷ add (5 ∷ 5 ∷ 5 ∷ []) (6 ∷ []) ∷ add (6 ∷ 6 ∷ 6 ∷ []) (7 ∷ []) ∷ add (7 ∷ []) (8 ∷ []) ∷ add (8 ∷ 8 ∷ []) (9 ∷ []) ∷ add (9 ∷ 9 ∷ []) (10 ∷ [])
           ∷ add (10 ∷ 10 ∷ []) (11 ∷ []) ∷ add (11 ∷ []) (12 ∷ []) ∷ add (12 ∷ 12 ∷ 12 ∷ []) (13 ∷ []) ∷ final ∷ []);
       want = ((0 ∷ 0 ∷ 1 ∷ 0 ∷ []) ∷ (0 ∷ 0 ∷ 2 ∷ 0 ∷ 0 ∷ 1 ∷ []) ∷ (0 ∷ 0 ∷ 3 ∷ 0 ∷ 0 ∷ 1 ∷ 1 ∷ []) ∷ (0 ∷ 0 ∷ 4 ∷ 0 ∷ 0 ∷ 1 ∷ 1 ∷ 1 ∷ [])
@@ -377,7 +377,7 @@ runs =
     }
     -- layers
     ∷ record {
-      got = after-calls 2 24 (set 0 ∷ set 1 ∷ set 2 ∷ add (0 ∷ []) (3 ∷ []) ∷ add (0 ∷ 1 ∷ 1 ∷ []) (4 ∷ []) ∷ add (0 ∷ []) (5 ∷ []) ∷ add (5 ∷ 5 ∷ 3 ∷ []) (6 ∷ [])
+      got = after_calls 2 24 (set 0 ∷ set 1 ∷ set 2 ∷ add (0 ∷ []) (3 ∷ []) ∷ add (0 ∷ 1 ∷ 1 ∷ []) (4 ∷ []) ∷ add (0 ∷ []) (5 ∷ []) ∷ add (5 ∷ 5 ∷ 3 ∷ []) (6 ∷ [])
           ∷ add (5 ∷ 3 ∷ 3 ∷ []) (7 ∷ []) ∷ add (3 ∷ 4 ∷ []) (8 ∷ []) ∷ add (7 ∷ 6 ∷ 7 ∷ []) (9 ∷ []) ∷ add (8 ∷ 8 ∷ 8 ∷ []) (10 ∷ []) ∷ add (6 ∷ []) (11 ∷ [])
           ∷ add (11 ∷ 10 ∷ 10 ∷ []) (12 ∷ []) ∷ add (9 ∷ 9 ∷ []) (13 ∷ []) ∷ add (9 ∷ 10 ∷ 9 ∷ []) (14 ∷ []) ∷ add (13 ∷ 14 ∷ []) (15 ∷ []) ∷ add (12 ∷ 14 ∷ 14 ∷ []) (16 ∷ [])
           ∷ add (12 ∷ 14 ∷ 13 ∷ []) (17 ∷ []) ∷ add (16 ∷ []) (18 ∷ []) ∷ add (15 ∷ 15 ∷ 17 ∷ []) (19 ∷ []) ∷ add (15 ∷ 16 ∷ 15 ∷ []) (20 ∷ []) ∷ add (20 ∷ 19 ∷ 20 ∷ []) (21 ∷ [])
@@ -398,7 +398,7 @@ runs =
     }
     -- layers
     ∷ record {
-      got = after-calls 8 26 (set 0 ∷ set 1 ∷ add (0 ∷ 1 ∷ []) (2 ∷ []) ∷ add (1 ∷ []) (3 ∷ []) ∷ add (3 ∷ []) (4 ∷ []) ∷ add (3 ∷ []) (5 ∷ []) ∷ add (5 ∷ 5 ∷ 5 ∷ []) (6 ∷ [])
+      got = after_calls 8 26 (set 0 ∷ set 1 ∷ add (0 ∷ 1 ∷ []) (2 ∷ []) ∷ add (1 ∷ []) (3 ∷ []) ∷ add (3 ∷ []) (4 ∷ []) ∷ add (3 ∷ []) (5 ∷ []) ∷ add (5 ∷ 5 ∷ 5 ∷ []) (6 ∷ [])
           ∷ add (5 ∷ 4 ∷ []) (7 ∷ []) ∷ add (6 ∷ 6 ∷ 6 ∷ []) (8 ∷ []) ∷ add (7 ∷ 7 ∷ []) (9 ∷ []) ∷ add (8 ∷ 9 ∷ 8 ∷ []) (10 ∷ []) ∷ add (8 ∷ 9 ∷ []) (11 ∷ [])
           ∷ add (11 ∷ []) (12 ∷ []) ∷ add (10 ∷ 11 ∷ []) (13 ∷ []) ∷ add (12 ∷ 13 ∷ []) (14 ∷ []) ∷ add (13 ∷ 12 ∷ []) (15 ∷ []) ∷ add (14 ∷ []) (16 ∷ [])
           ∷ add (15 ∷ []) (17 ∷ []) ∷ add (17 ∷ []) (18 ∷ []) ∷ add (17 ∷ 17 ∷ 17 ∷ []) (19 ∷ []) ∷ add (18 ∷ []) (20 ∷ []) ∷ add (18 ∷ 18 ∷ 18 ∷ []) (21 ∷ [])
@@ -421,7 +421,7 @@ runs =
     }
     -- layers
     ∷ record {
-      got = after-calls 6 28 (set 0 ∷ set 1 ∷ add (0 ∷ 0 ∷ 0 ∷ []) (2 ∷ []) ∷ add (0 ∷ 1 ∷ 1 ∷ []) (3 ∷ []) ∷ add (2 ∷ 3 ∷ 2 ∷ []) (4 ∷ []) ∷ add (3 ∷ []) (5 ∷ [])
+      got = after_calls 6 28 (set 0 ∷ set 1 ∷ add (0 ∷ 0 ∷ 0 ∷ []) (2 ∷ []) ∷ add (0 ∷ 1 ∷ 1 ∷ []) (3 ∷ []) ∷ add (2 ∷ 3 ∷ 2 ∷ []) (4 ∷ []) ∷ add (3 ∷ []) (5 ∷ [])
           ∷ add (5 ∷ 4 ∷ []) (6 ∷ []) ∷ add (5 ∷ []) (7 ∷ []) ∷ add (7 ∷ 6 ∷ []) (8 ∷ []) ∷ add (6 ∷ []) (9 ∷ []) ∷ add (8 ∷ 8 ∷ []) (10 ∷ []) ∷ add (9 ∷ []) (11 ∷ [])
           ∷ add (11 ∷ 10 ∷ 10 ∷ []) (12 ∷ []) ∷ add (11 ∷ 10 ∷ 11 ∷ []) (13 ∷ []) ∷ add (12 ∷ []) (14 ∷ []) ∷ add (12 ∷ 13 ∷ 12 ∷ []) (15 ∷ []) ∷ add (15 ∷ []) (16 ∷ [])
           ∷ add (15 ∷ 15 ∷ []) (17 ∷ []) ∷ add (16 ∷ 16 ∷ 16 ∷ []) (18 ∷ []) ∷ add (17 ∷ 17 ∷ 16 ∷ []) (19 ∷ []) ∷ add (18 ∷ 19 ∷ []) (20 ∷ []) ∷ add (18 ∷ []) (21 ∷ [])
@@ -446,7 +446,7 @@ runs =
     }
     -- layers
     ∷ record {
-      got = after-calls 8 30 (set 0 ∷ set 1 ∷ add (1 ∷ []) (2 ∷ []) ∷ add (1 ∷ 0 ∷ []) (3 ∷ []) ∷ add (3 ∷ []) (4 ∷ []) ∷ add (2 ∷ []) (5 ∷ []) ∷ add (5 ∷ 4 ∷ []) (6 ∷ [])
+      got = after_calls 8 30 (set 0 ∷ set 1 ∷ add (1 ∷ []) (2 ∷ []) ∷ add (1 ∷ 0 ∷ []) (3 ∷ []) ∷ add (3 ∷ []) (4 ∷ []) ∷ add (2 ∷ []) (5 ∷ []) ∷ add (5 ∷ 4 ∷ []) (6 ∷ [])
           ∷ add (5 ∷ []) (7 ∷ []) ∷ add (6 ∷ 7 ∷ []) (8 ∷ []) ∷ add (6 ∷ 7 ∷ 6 ∷ []) (9 ∷ []) ∷ add (8 ∷ 9 ∷ 9 ∷ []) (10 ∷ []) ∷ add (9 ∷ 8 ∷ 8 ∷ []) (11 ∷ [])
           ∷ add (10 ∷ []) (12 ∷ []) ∷ add (11 ∷ 11 ∷ []) (13 ∷ []) ∷ add (12 ∷ 13 ∷ []) (14 ∷ []) ∷ add (13 ∷ 12 ∷ []) (15 ∷ []) ∷ add (14 ∷ []) (16 ∷ [])
           ∷ add (14 ∷ 15 ∷ 15 ∷ []) (17 ∷ []) ∷ add (17 ∷ 17 ∷ 17 ∷ []) (18 ∷ []) ∷ add (17 ∷ 16 ∷ []) (19 ∷ []) ∷ add (18 ∷ 19 ∷ []) (20 ∷ []) ∷ add (19 ∷ []) (21 ∷ [])
@@ -474,10 +474,10 @@ runs =
 
 -- each run's two sides are the same
 pub agree : map (λ r. r.got) runs ≡ map (λ r. r.want) runs
-unfolding runs parallelism parallelism-by last-parallelism annotate released fresh release flush-guide seek found begin choose put settle apply place tallied tally initial member
-    marked tracked run-from watermark greatest ready loc-of later top after spotted reg_of place-one due left queue keep push-stack off rest with-set with-add cascade settle-all
-    do-set do-add with-record note-add note-flush note-final with-flush do-flush do-final verdict any repeats written-by taken pooled check-closed check-places check-set check-add
-    check-flush check-final checks answer apply-call unless-refused step run alone holds stray worn check-push check-flush-alone requests reply location serve serve-step serve-all
-    sum average median-from median counts thousands figures mark-by unfilled fill row-after row_of summary at item keep-zero trimmed window entry held-item joined row rows-from
-    place-row places-from traced figured closing after-calls traced-calls where_to served after-requests traced-requests round size span climb units odd to_bits count_trailing_zeros
+unfolding runs parallelism parallelism_by last_parallelism annotate released fresh release flush_guide seek found begin choose put settle apply place tallied tally initial member
+    marked tracked run_from watermark greatest ready loc_of later top after spotted reg_of place_one due left queue keep push_stack off rest with_set with_add cascade settle_all
+    do_set do_add with_record note_add note_flush note_final with_flush do_flush do_final verdict any repeats written_by taken pooled check_closed check_places check_set check_add
+    check_flush check_final checks answer apply_call unless_refused step run alone holds stray worn check_push check_flush_alone requests reply location serve serve_step serve_all
+    sum average median_from median counts thousands figures mark_by unfilled fill row_after row_of summary at item keep_zero trimmed window entry held_item joined row rows_from
+    place_row places_from traced figured closing after_calls traced_calls where_to served after_requests traced_requests round size span climb units odd to_bits count_trailing_zeros
 agree = refl

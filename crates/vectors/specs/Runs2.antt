@@ -2,24 +2,24 @@
 use Rattle.std.specs.Prelude.{◌≡◌, refl, List, [], ◌∷◌, map}
 use Rattle.std.specs.Int.Count.{count_trailing_zeros}
 use Rattle.std.specs.Float.Ieee.{round, size, span, climb, units, odd, to_bits}
-use Rattle.rules.specs.Guide.{parallelism, parallelism-by, last-parallelism, annotate, released, fresh, release, flush as flush-guide, seek, found, begin, choose, put, settle}
+use Rattle.rules.specs.Guide.{parallelism, parallelism_by, last_parallelism, annotate, released, fresh, release, flush as flush_guide, seek, found, begin, choose, put, settle}
 use Rattle.rules.specs.Guide.{apply, place, tallied, tally}
-use Rattle.rules.specs.Model.{initial, member, marked, tracked, run-from, watermark, greatest, ready, loc-of, later, top, after, spotted, reg_of, place-one, due, left, queue}
-use Rattle.rules.specs.Model.{keep, push as push-stack, off, rest, with-set, with-add, cascade, settle-all, do-set, do-add, with-record, note-add, note-flush, note-final}
-use Rattle.rules.specs.Model.{with-flush, do-flush, do-final}
-use Rattle.rules.specs.Checks.{verdict, any, repeats, written-by, taken, pooled, check-closed, check-places, check-set, check-add, check-flush, check-final}
-use Rattle.rules.specs.Calls.{checks, answer, apply-call, unless-refused, step, run, set, flush, final}
-use Rattle.rules.specs.Alone.{alone, holds, stray, worn, check-push, check-flush-alone, requests, reply, location, serve, serve-step, serve-all}
-use Rattle.rules.specs.Summary.{sum, average, median-from, median, counts, thousands, figures}
-use Rattle.rules.specs.Record.{mark-by, unfilled, fill, row-after, row_of, summary}
-use Rattle.vectors.specs.Shown.{Compared, add, at, item, keep-zero, trimmed, window, entry, held-item, joined, row, rows-from, place-row, places-from, traced, figured}
-use Rattle.vectors.specs.Shown.{closing, after-calls, traced-calls, where_to, served, after-requests, traced-requests}
+use Rattle.rules.specs.Model.{initial, member, marked, tracked, run_from, watermark, greatest, ready, loc_of, later, top, after, spotted, reg_of, place_one, due, left, queue}
+use Rattle.rules.specs.Model.{keep, push as push_stack, off, rest, with_set, with_add, cascade, settle_all, do_set, do_add, with_record, note_add, note_flush, note_final}
+use Rattle.rules.specs.Model.{with_flush, do_flush, do_final}
+use Rattle.rules.specs.Checks.{verdict, any, repeats, written_by, taken, pooled, check_closed, check_places, check_set, check_add, check_flush, check_final}
+use Rattle.rules.specs.Calls.{checks, answer, apply_call, unless_refused, step, run, set, flush, final}
+use Rattle.rules.specs.Alone.{alone, holds, stray, worn, check_push, check_flush_alone, requests, reply, location, serve, serve_step, serve_all}
+use Rattle.rules.specs.Summary.{sum, average, median_from, median, counts, thousands, figures}
+use Rattle.rules.specs.Record.{mark_by, unfilled, fill, row_after, row_of, summary}
+use Rattle.vectors.specs.Shown.{Compared, add, at, item, keep_zero, trimmed, window, entry, held_item, joined, row, rows_from, place_row, places_from, traced, figured}
+use Rattle.vectors.specs.Shown.{closing, after_calls, traced_calls, where_to, served, after_requests, traced_requests}
 
 pub runs : List Compared
 runs =
     -- ascending places
     record {
-      got = traced-calls 1 36 (set 0 ∷ add (0 ∷ 0 ∷ 0 ∷ []) (1 ∷ 2 ∷ []) ∷ set 3 ∷ add (1 ∷ 3 ∷ 0 ∷ []) [] ∷ add (2 ∷ 1 ∷ []) (4 ∷ 5 ∷ 6 ∷ []) ∷ add [] (7 ∷ [])
+      got = traced_calls 1 36 (set 0 ∷ add (0 ∷ 0 ∷ 0 ∷ []) (1 ∷ 2 ∷ []) ∷ set 3 ∷ add (1 ∷ 3 ∷ 0 ∷ []) [] ∷ add (2 ∷ 1 ∷ []) (4 ∷ 5 ∷ 6 ∷ []) ∷ add [] (7 ∷ [])
           ∷ add (1 ∷ 3 ∷ 6 ∷ []) (8 ∷ 9 ∷ []) ∷ add (8 ∷ 7 ∷ 7 ∷ []) (10 ∷ 11 ∷ []) ∷ add [] (12 ∷ 13 ∷ []) ∷ add (5 ∷ 10 ∷ []) (14 ∷ []) ∷ final ∷ []);
       want = ((0 ∷ 0 ∷ 1 ∷ 0 ∷ []) ∷ (0 ∷ 0 ∷ 3 ∷ 1 ∷ 1 ∷ []) ∷ (0 ∷ 0 ∷ 4 ∷ 1 ∷ 1 ∷ []) ∷ (0 ∷ 1 ∷ 4 ∷ 2 ∷ 1 ∷ []) ∷ (0 ∷ 2 ∷ 7 ∷ 3 ∷ 1 ∷ []) ∷ (0 ∷ 3 ∷ 8 ∷ 4 ∷ 1 ∷ [])
           ∷ (0 ∷ 4 ∷ 10 ∷ 5 ∷ 1 ∷ []) ∷ (0 ∷ 5 ∷ 12 ∷ 6 ∷ 1 ∷ []) ∷ (0 ∷ 6 ∷ 14 ∷ 7 ∷ 1 ∷ []) ∷ (0 ∷ 7 ∷ 15 ∷ 8 ∷ 1 ∷ []) ∷ (0 ∷ 8 ∷ 15 ∷ 40 ∷ []) ∷ [])
@@ -33,7 +33,7 @@ runs =
     }
     -- ascending places
     ∷ record {
-      got = traced-calls 1 28 (set 0 ∷ add [] (1 ∷ 2 ∷ []) ∷ flush ∷ add [] [] ∷ add (2 ∷ 2 ∷ 2 ∷ []) (3 ∷ 4 ∷ []) ∷ flush ∷ add [] [] ∷ flush ∷ add (1 ∷ []) (5 ∷ 6 ∷ 7 ∷ [])
+      got = traced_calls 1 28 (set 0 ∷ add [] (1 ∷ 2 ∷ []) ∷ flush ∷ add [] [] ∷ add (2 ∷ 2 ∷ 2 ∷ []) (3 ∷ 4 ∷ []) ∷ flush ∷ add [] [] ∷ flush ∷ add (1 ∷ []) (5 ∷ 6 ∷ 7 ∷ [])
           ∷ add (6 ∷ 6 ∷ []) [] ∷ final ∷ []);
       want = ((0 ∷ 0 ∷ 1 ∷ 0 ∷ []) ∷ (0 ∷ 0 ∷ 3 ∷ 1 ∷ 1 ∷ []) ∷ (0 ∷ 1 ∷ 3 ∷ 33 ∷ []) ∷ (0 ∷ 1 ∷ 3 ∷ 34 ∷ 1 ∷ []) ∷ (0 ∷ 2 ∷ 5 ∷ 35 ∷ 1 ∷ []) ∷ (0 ∷ 3 ∷ 5 ∷ 67 ∷ [])
           ∷ (0 ∷ 3 ∷ 5 ∷ 68 ∷ 1 ∷ []) ∷ (0 ∷ 4 ∷ 5 ∷ 100 ∷ []) ∷ (0 ∷ 4 ∷ 8 ∷ 101 ∷ 1 ∷ []) ∷ (0 ∷ 5 ∷ 8 ∷ 102 ∷ 1 ∷ []) ∷ (0 ∷ 6 ∷ 8 ∷ 134 ∷ []) ∷ [])
@@ -45,7 +45,7 @@ runs =
     }
     -- ascending places
     ∷ record {
-      got = traced-calls 3 44 (set 0 ∷ add [] (1 ∷ 2 ∷ 3 ∷ []) ∷ add (2 ∷ []) (4 ∷ []) ∷ add [] [] ∷ add [] (5 ∷ []) ∷ add (3 ∷ 3 ∷ 2 ∷ []) (6 ∷ 7 ∷ [])
+      got = traced_calls 3 44 (set 0 ∷ add [] (1 ∷ 2 ∷ 3 ∷ []) ∷ add (2 ∷ []) (4 ∷ []) ∷ add [] [] ∷ add [] (5 ∷ []) ∷ add (3 ∷ 3 ∷ 2 ∷ []) (6 ∷ 7 ∷ [])
           ∷ add (2 ∷ 2 ∷ 7 ∷ []) (8 ∷ 9 ∷ []) ∷ add (8 ∷ []) [] ∷ add (9 ∷ 8 ∷ 9 ∷ []) [] ∷ add [] (10 ∷ []) ∷ add (4 ∷ []) [] ∷ final ∷ []);
       want = ((0 ∷ 0 ∷ 1 ∷ 0 ∷ []) ∷ (0 ∷ 0 ∷ 4 ∷ 0 ∷ 0 ∷ 1 ∷ []) ∷ (0 ∷ 0 ∷ 5 ∷ 0 ∷ 0 ∷ 1 ∷ 1 ∷ []) ∷ (0 ∷ 0 ∷ 5 ∷ 0 ∷ 0 ∷ 2 ∷ 1 ∷ []) ∷ (0 ∷ 0 ∷ 6 ∷ 1 ∷ 3 ∷ 1 ∷ [])
           ∷ (0 ∷ 0 ∷ 8 ∷ 1 ∷ 3 ∷ 2 ∷ []) ∷ (0 ∷ 0 ∷ 10 ∷ 1 ∷ 3 ∷ 2 ∷ 0 ∷ 1 ∷ []) ∷ (0 ∷ 0 ∷ 10 ∷ 1 ∷ 3 ∷ 2 ∷ 0 ∷ 1 ∷ 1 ∷ []) ∷ (0 ∷ 0 ∷ 10 ∷ 1 ∷ 3 ∷ 2 ∷ 0 ∷ 1 ∷ 2 ∷ [])
@@ -59,7 +59,7 @@ runs =
     }
     -- ascending places
     ∷ record {
-      got = traced-calls 5 36 (set 0 ∷ add (0 ∷ 0 ∷ 0 ∷ []) (1 ∷ 2 ∷ []) ∷ flush ∷ add (2 ∷ 2 ∷ 0 ∷ []) (3 ∷ []) ∷ flush ∷ add [] [] ∷ add [] (4 ∷ []) ∷ add (2 ∷ []) (5 ∷ 6 ∷ [])
+      got = traced_calls 5 36 (set 0 ∷ add (0 ∷ 0 ∷ 0 ∷ []) (1 ∷ 2 ∷ []) ∷ flush ∷ add (2 ∷ 2 ∷ 0 ∷ []) (3 ∷ []) ∷ flush ∷ add [] [] ∷ add [] (4 ∷ []) ∷ add (2 ∷ []) (5 ∷ 6 ∷ [])
           ∷ add (6 ∷ 3 ∷ 2 ∷ []) (7 ∷ []) ∷ add (6 ∷ 4 ∷ []) [] ∷ add (4 ∷ []) (8 ∷ 9 ∷ 10 ∷ []) ∷ final ∷ []);
       want = ((0 ∷ 0 ∷ 1 ∷ 0 ∷ []) ∷ (0 ∷ 0 ∷ 3 ∷ 0 ∷ 0 ∷ 1 ∷ []) ∷ (0 ∷ 1 ∷ 3 ∷ 32 ∷ []) ∷ (0 ∷ 1 ∷ 4 ∷ 32 ∷ 0 ∷ 1 ∷ []) ∷ (0 ∷ 2 ∷ 4 ∷ 64 ∷ []) ∷ (0 ∷ 2 ∷ 4 ∷ 64 ∷ 0 ∷ 1 ∷ [])
           ∷ (0 ∷ 2 ∷ 5 ∷ 64 ∷ 0 ∷ 2 ∷ []) ∷ (0 ∷ 2 ∷ 7 ∷ 64 ∷ 0 ∷ 3 ∷ []) ∷ (0 ∷ 2 ∷ 8 ∷ 64 ∷ 0 ∷ 3 ∷ 0 ∷ 1 ∷ []) ∷ (0 ∷ 2 ∷ 8 ∷ 64 ∷ 0 ∷ 3 ∷ 0 ∷ 2 ∷ [])
@@ -73,7 +73,7 @@ runs =
     }
     -- ascending places
     ∷ record {
-      got = after-calls 6 36 (set 0 ∷ add [] (1 ∷ []) ∷ add (0 ∷ 0 ∷ []) [] ∷ add (0 ∷ []) [] ∷ set 2 ∷ add (0 ∷ 2 ∷ []) [] ∷ add (2 ∷ []) (3 ∷ 4 ∷ 5 ∷ [])
+      got = after_calls 6 36 (set 0 ∷ add [] (1 ∷ []) ∷ add (0 ∷ 0 ∷ []) [] ∷ add (0 ∷ []) [] ∷ set 2 ∷ add (0 ∷ 2 ∷ []) [] ∷ add (2 ∷ []) (3 ∷ 4 ∷ 5 ∷ [])
           ∷ add (3 ∷ []) (6 ∷ 7 ∷ 8 ∷ []) ∷ add (7 ∷ []) (9 ∷ 10 ∷ []) ∷ add (8 ∷ 7 ∷ 9 ∷ []) (11 ∷ 12 ∷ []) ∷ final ∷ []);
       want = ((0 ∷ 0 ∷ 0 ∷ 5 ∷ []) ∷ (1 ∷ 1 ∷ 1 ∷ 4 ∷ []) ∷ (2 ∷ 2 ∷ 2 ∷ 3 ∷ []) ∷ (3 ∷ 3 ∷ 3 ∷ 2 ∷ []) ∷ (4 ∷ 4 ∷ 4 ∷ 1 ∷ []) ∷ (5 ∷ 5 ∷ 5 ∷ 1 ∷ []) ∷ (6 ∷ 6 ∷ 6 ∷ 1 ∷ [])
           ∷ (7 ∷ 7 ∷ 7 ∷ 1 ∷ []) ∷ []) ∷ ((0 ∷ 0 ∷ 0 ∷ 0 ∷ 5 ∷ []) ∷ (1 ∷ 1 ∷ 0 ∷ 1 ∷ 4 ∷ []) ∷ (2 ∷ 2 ∷ 0 ∷ 2 ∷ 3 ∷ []) ∷ (3 ∷ 3 ∷ 0 ∷ 3 ∷ 2 ∷ []) ∷ (4 ∷ 4 ∷ 0 ∷ 4 ∷ 1 ∷ [])
@@ -85,7 +85,7 @@ runs =
     }
     -- ascending places
     ∷ record {
-      got = after-calls 8 28 (set 0 ∷ add (0 ∷ 0 ∷ []) (1 ∷ 2 ∷ []) ∷ flush ∷ add (2 ∷ 2 ∷ []) [] ∷ add (1 ∷ 2 ∷ []) [] ∷ set 3 ∷ flush ∷ add (3 ∷ []) (4 ∷ 5 ∷ []) ∷ flush
+      got = after_calls 8 28 (set 0 ∷ add (0 ∷ 0 ∷ []) (1 ∷ 2 ∷ []) ∷ flush ∷ add (2 ∷ 2 ∷ []) [] ∷ add (1 ∷ 2 ∷ []) [] ∷ set 3 ∷ flush ∷ add (3 ∷ []) (4 ∷ 5 ∷ []) ∷ flush
           ∷ add (3 ∷ 4 ∷ []) [] ∷ add (4 ∷ []) (6 ∷ 7 ∷ []) ∷ final ∷ []);
       want = ((0 ∷ 0 ∷ 0 ∷ 1 ∷ []) ∷ (1 ∷ 1 ∷ 1 ∷ 2 ∷ []) ∷ (2 ∷ 2 ∷ 2 ∷ 1 ∷ []) ∷ (3 ∷ 3 ∷ 3 ∷ 1 ∷ []) ∷ (4 ∷ 4 ∷ 4 ∷ 2 ∷ []) ∷ (5 ∷ 5 ∷ 5 ∷ 1 ∷ []) ∷ [])
           ∷ ((0 ∷ 0 ∷ 1 ∷ 0 ∷ 1 ∷ []) ∷ (1 ∷ 1 ∷ 1 ∷ 1 ∷ 2 ∷ []) ∷ (2 ∷ 2 ∷ 3 ∷ 2 ∷ 1 ∷ []) ∷ (3 ∷ 3 ∷ 4 ∷ 3 ∷ 1 ∷ []) ∷ (4 ∷ 4 ∷ 4 ∷ 4 ∷ 2 ∷ []) ∷ (5 ∷ 5 ∷ 6 ∷ 5 ∷ 1 ∷ []) ∷ [])
@@ -95,7 +95,7 @@ runs =
     }
     -- ascending places
     ∷ record {
-      got = after-calls 2 40 (set 0 ∷ add (0 ∷ 0 ∷ 0 ∷ []) (1 ∷ 2 ∷ []) ∷ flush ∷ add (2 ∷ 1 ∷ []) (3 ∷ 4 ∷ 5 ∷ []) ∷ add (5 ∷ 3 ∷ []) (6 ∷ 7 ∷ []) ∷ set 8
+      got = after_calls 2 40 (set 0 ∷ add (0 ∷ 0 ∷ 0 ∷ []) (1 ∷ 2 ∷ []) ∷ flush ∷ add (2 ∷ 1 ∷ []) (3 ∷ 4 ∷ 5 ∷ []) ∷ add (5 ∷ 3 ∷ []) (6 ∷ 7 ∷ []) ∷ set 8
           ∷ add (7 ∷ 2 ∷ []) (9 ∷ []) ∷ flush ∷ add (8 ∷ 8 ∷ []) (10 ∷ 11 ∷ []) ∷ add [] (12 ∷ 13 ∷ []) ∷ add (11 ∷ 11 ∷ []) (14 ∷ []) ∷ set 15 ∷ add (13 ∷ []) (16 ∷ []) ∷ flush
           ∷ add (13 ∷ 16 ∷ []) (17 ∷ []) ∷ final ∷ []);
       want = ((0 ∷ 0 ∷ 0 ∷ 1 ∷ []) ∷ (1 ∷ 1 ∷ 1 ∷ 1 ∷ []) ∷ (2 ∷ 2 ∷ 2 ∷ 1 ∷ []) ∷ (3 ∷ 3 ∷ 3 ∷ 1 ∷ []) ∷ (4 ∷ 4 ∷ 4 ∷ 2 ∷ []) ∷ (5 ∷ 5 ∷ 5 ∷ 2 ∷ []) ∷ (6 ∷ 6 ∷ 6 ∷ 2 ∷ [])
@@ -108,7 +108,7 @@ runs =
     }
     -- ascending places
     ∷ record {
-      got = after-calls 6 68 (set 0 ∷ add (0 ∷ 0 ∷ []) (1 ∷ []) ∷ add [] (2 ∷ []) ∷ add [] [] ∷ add (2 ∷ []) (3 ∷ 4 ∷ []) ∷ add [] (5 ∷ []) ∷ add (5 ∷ 2 ∷ []) []
+      got = after_calls 6 68 (set 0 ∷ add (0 ∷ 0 ∷ []) (1 ∷ []) ∷ add [] (2 ∷ []) ∷ add [] [] ∷ add (2 ∷ []) (3 ∷ 4 ∷ []) ∷ add [] (5 ∷ []) ∷ add (5 ∷ 2 ∷ []) []
           ∷ add (2 ∷ []) (6 ∷ []) ∷ add (4 ∷ 4 ∷ 5 ∷ []) [] ∷ flush ∷ add (6 ∷ 6 ∷ []) (7 ∷ 8 ∷ 9 ∷ []) ∷ add (8 ∷ []) (10 ∷ []) ∷ add (10 ∷ 9 ∷ []) (11 ∷ 12 ∷ 13 ∷ []) ∷ flush
           ∷ add (1 ∷ []) [] ∷ set 14 ∷ add (2 ∷ 12 ∷ []) (15 ∷ 16 ∷ 17 ∷ []) ∷ add (17 ∷ 15 ∷ []) [] ∷ add (14 ∷ 11 ∷ []) [] ∷ add (16 ∷ []) [] ∷ final ∷ []);
       want = ((0 ∷ 0 ∷ 0 ∷ 4 ∷ []) ∷ (1 ∷ 1 ∷ 1 ∷ 3 ∷ []) ∷ (2 ∷ 2 ∷ 2 ∷ 2 ∷ []) ∷ (4 ∷ 4 ∷ 4 ∷ 1 ∷ []) ∷ (3 ∷ 3 ∷ 3 ∷ 3 ∷ []) ∷ (5 ∷ 5 ∷ 5 ∷ 3 ∷ []) ∷ (6 ∷ 6 ∷ 6 ∷ 2 ∷ [])
@@ -125,7 +125,7 @@ runs =
     }
     -- scattered places
     ∷ record {
-      got = traced-calls 5 12 (add [] (0 ∷ 3 ∷ []) ∷ add (2 ∷ 0 ∷ []) (5 ∷ []) ∷ add (0 ∷ 0 ∷ []) (2 ∷ 1 ∷ []) ∷ set 4 ∷ final ∷ []);
+      got = traced_calls 5 12 (add [] (0 ∷ 3 ∷ []) ∷ add (2 ∷ 0 ∷ []) (5 ∷ []) ∷ add (0 ∷ 0 ∷ []) (2 ∷ 1 ∷ []) ∷ set 4 ∷ final ∷ []);
       want = ((0 ∷ 0 ∷ 1 ∷ 0 ∷ 0 ∷ 1 ∷ []) ∷ (0 ∷ 0 ∷ 1 ∷ 0 ∷ 0 ∷ 1 ∷ []) ∷ (0 ∷ 0 ∷ 4 ∷ 0 ∷ 0 ∷ 1 ∷ 1 ∷ 1 ∷ []) ∷ (0 ∷ 0 ∷ 6 ∷ 0 ∷ 0 ∷ 1 ∷ 1 ∷ 1 ∷ []) ∷ (0 ∷ 3 ∷ 6 ∷ 32 ∷ [])
           ∷ []) ∷ ((0 ∷ 0 ∷ 0 ∷ 1 ∷ []) ∷ (2 ∷ 2 ∷ 2 ∷ 1 ∷ []) ∷ (1 ∷ 1 ∷ 2 ∷ 1 ∷ []) ∷ []) ∷ ((0 ∷ 0 ∷ 0 ∷ 0 ∷ 1 ∷ []) ∷ (1 ∷ 2 ∷ 0 ∷ 2 ∷ 1 ∷ []) ∷ (2 ∷ 2 ∷ 3 ∷ 1 ∷ 1 ∷ []) ∷ [])
           ∷ ((0 ∷ 32768 ∷ 1 ∷ 0 ∷ []) ∷ (1 ∷ 32768 ∷ 2 ∷ 0 ∷ []) ∷ (2 ∷ 32768 ∷ 2 ∷ 0 ∷ []) ∷ (3 ∷ 32768 ∷ 1 ∷ 0 ∷ []) ∷ (4 ∷ 49152 ∷ 0 ∷ 0 ∷ []) ∷ (5 ∷ 32768 ∷ 3 ∷ 0 ∷ []) ∷ [])
@@ -133,7 +133,7 @@ runs =
     }
     -- scattered places
     ∷ record {
-      got = traced-calls 7 20 (set 4 ∷ add (7 ∷ 8 ∷ []) [] ∷ add (0 ∷ 0 ∷ []) (1 ∷ 9 ∷ []) ∷ set 0 ∷ add (1 ∷ 0 ∷ []) (3 ∷ 2 ∷ []) ∷ add [] [] ∷ add (0 ∷ 4 ∷ []) (7 ∷ 6 ∷ [])
+      got = traced_calls 7 20 (set 4 ∷ add (7 ∷ 8 ∷ []) [] ∷ add (0 ∷ 0 ∷ []) (1 ∷ 9 ∷ []) ∷ set 0 ∷ add (1 ∷ 0 ∷ []) (3 ∷ 2 ∷ []) ∷ add [] [] ∷ add (0 ∷ 4 ∷ []) (7 ∷ 6 ∷ [])
           ∷ add (4 ∷ 8 ∷ 7 ∷ []) [] ∷ set 8 ∷ set 5 ∷ final ∷ []);
       want = ((0 ∷ 0 ∷ 0 ∷ 0 ∷ []) ∷ (0 ∷ 0 ∷ 0 ∷ 0 ∷ []) ∷ (0 ∷ 0 ∷ 0 ∷ 0 ∷ []) ∷ (0 ∷ 0 ∷ 2 ∷ 0 ∷ 0 ∷ 1 ∷ []) ∷ (0 ∷ 0 ∷ 5 ∷ 0 ∷ 0 ∷ 1 ∷ 1 ∷ [])
           ∷ (0 ∷ 0 ∷ 5 ∷ 0 ∷ 0 ∷ 2 ∷ 1 ∷ []) ∷ (0 ∷ 0 ∷ 5 ∷ 0 ∷ 0 ∷ 3 ∷ 1 ∷ []) ∷ (0 ∷ 0 ∷ 5 ∷ 0 ∷ 0 ∷ 3 ∷ 1 ∷ []) ∷ (0 ∷ 0 ∷ 5 ∷ 0 ∷ 0 ∷ 3 ∷ 1 ∷ [])
@@ -145,7 +145,7 @@ runs =
     }
     -- scattered places
     ∷ record {
-      got = traced-calls 5 26 (add (3 ∷ 1 ∷ []) (8 ∷ []) ∷ add (0 ∷ 0 ∷ 0 ∷ []) (1 ∷ []) ∷ add [] (5 ∷ 0 ∷ []) ∷ add [] (6 ∷ []) ∷ add (7 ∷ 4 ∷ []) (10 ∷ 9 ∷ []) ∷ add (2 ∷ []) []
+      got = traced_calls 5 26 (add (3 ∷ 1 ∷ []) (8 ∷ []) ∷ add (0 ∷ 0 ∷ 0 ∷ []) (1 ∷ []) ∷ add [] (5 ∷ 0 ∷ []) ∷ add [] (6 ∷ []) ∷ add (7 ∷ 4 ∷ []) (10 ∷ 9 ∷ []) ∷ add (2 ∷ []) []
           ∷ set 11 ∷ set 4 ∷ set 12 ∷ set 2 ∷ add [] (3 ∷ 7 ∷ []) ∷ final ∷ []);
       want = ((0 ∷ 0 ∷ 0 ∷ 0 ∷ []) ∷ (0 ∷ 0 ∷ 0 ∷ 0 ∷ []) ∷ (0 ∷ 0 ∷ 2 ∷ 0 ∷ 0 ∷ 1 ∷ 1 ∷ []) ∷ (0 ∷ 0 ∷ 2 ∷ 0 ∷ 0 ∷ 2 ∷ 1 ∷ []) ∷ (0 ∷ 0 ∷ 2 ∷ 0 ∷ 0 ∷ 2 ∷ 1 ∷ [])
           ∷ (0 ∷ 0 ∷ 2 ∷ 0 ∷ 0 ∷ 2 ∷ 1 ∷ []) ∷ (0 ∷ 0 ∷ 2 ∷ 0 ∷ 0 ∷ 2 ∷ 1 ∷ []) ∷ (0 ∷ 0 ∷ 2 ∷ 0 ∷ 0 ∷ 2 ∷ 1 ∷ []) ∷ (0 ∷ 0 ∷ 2 ∷ 0 ∷ 0 ∷ 2 ∷ 1 ∷ [])
@@ -159,7 +159,7 @@ runs =
     }
     -- scattered places
     ∷ record {
-      got = traced-calls 3 30 (add (10 ∷ []) [] ∷ set 5 ∷ add (0 ∷ 6 ∷ 7 ∷ []) (14 ∷ 11 ∷ []) ∷ set 10 ∷ flush ∷ set 12 ∷ add [] [] ∷ set 9 ∷ add (1 ∷ 2 ∷ []) []
+      got = traced_calls 3 30 (add (10 ∷ []) [] ∷ set 5 ∷ add (0 ∷ 6 ∷ 7 ∷ []) (14 ∷ 11 ∷ []) ∷ set 10 ∷ flush ∷ set 12 ∷ add [] [] ∷ set 9 ∷ add (1 ∷ 2 ∷ []) []
           ∷ add (3 ∷ []) (13 ∷ 7 ∷ []) ∷ add [] (2 ∷ 3 ∷ []) ∷ set 8 ∷ add (0 ∷ 0 ∷ 0 ∷ []) (4 ∷ 1 ∷ []) ∷ flush ∷ add [] (6 ∷ 0 ∷ []) ∷ final ∷ []);
       want = ((0 ∷ 0 ∷ 0 ∷ 0 ∷ []) ∷ (0 ∷ 0 ∷ 0 ∷ 0 ∷ []) ∷ (0 ∷ 0 ∷ 0 ∷ 0 ∷ []) ∷ (0 ∷ 0 ∷ 0 ∷ 0 ∷ []) ∷ (0 ∷ 0 ∷ 0 ∷ 32 ∷ []) ∷ (0 ∷ 0 ∷ 0 ∷ 32 ∷ [])
           ∷ (0 ∷ 0 ∷ 0 ∷ 32 ∷ 0 ∷ 1 ∷ []) ∷ (0 ∷ 0 ∷ 0 ∷ 32 ∷ 0 ∷ 1 ∷ []) ∷ (0 ∷ 0 ∷ 0 ∷ 32 ∷ 0 ∷ 1 ∷ []) ∷ (0 ∷ 0 ∷ 0 ∷ 32 ∷ 0 ∷ 1 ∷ []) ∷ (0 ∷ 0 ∷ 0 ∷ 32 ∷ 0 ∷ 2 ∷ [])
@@ -174,7 +174,7 @@ runs =
     }
     -- scattered places
     ∷ record {
-      got = after-calls 6 22 (add (3 ∷ []) (9 ∷ []) ∷ set 10 ∷ add (0 ∷ []) (2 ∷ 3 ∷ []) ∷ set 4 ∷ add [] (0 ∷ 5 ∷ []) ∷ set 6 ∷ add [] [] ∷ add (2 ∷ 0 ∷ []) (7 ∷ []) ∷ set 1
+      got = after_calls 6 22 (add (3 ∷ []) (9 ∷ []) ∷ set 10 ∷ add (0 ∷ []) (2 ∷ 3 ∷ []) ∷ set 4 ∷ add [] (0 ∷ 5 ∷ []) ∷ set 6 ∷ add [] [] ∷ add (2 ∷ 0 ∷ []) (7 ∷ []) ∷ set 1
           ∷ add (0 ∷ 0 ∷ []) (8 ∷ []) ∷ final ∷ []);
       want = ((2 ∷ 2 ∷ 2 ∷ 2 ∷ []) ∷ (3 ∷ 3 ∷ 3 ∷ 2 ∷ []) ∷ (1 ∷ 1 ∷ 2 ∷ 2 ∷ []) ∷ (5 ∷ 5 ∷ 5 ∷ 2 ∷ []) ∷ (4 ∷ 4 ∷ 5 ∷ 2 ∷ []) ∷ (0 ∷ 0 ∷ 5 ∷ 1 ∷ []) ∷ [])
           ∷ ((0 ∷ 5 ∷ 0 ∷ 5 ∷ 1 ∷ []) ∷ (1 ∷ 2 ∷ 0 ∷ 2 ∷ 2 ∷ []) ∷ (2 ∷ 2 ∷ 0 ∷ 0 ∷ 2 ∷ []) ∷ (3 ∷ 3 ∷ 0 ∷ 1 ∷ 2 ∷ []) ∷ (4 ∷ 5 ∷ 0 ∷ 4 ∷ 2 ∷ []) ∷ (5 ∷ 5 ∷ 6 ∷ 3 ∷ 2 ∷ []) ∷ [])
@@ -184,7 +184,7 @@ runs =
     }
     -- scattered places
     ∷ record {
-      got = after-calls 4 24 (add [] (9 ∷ 2 ∷ []) ∷ flush ∷ add (5 ∷ 2 ∷ 1 ∷ []) (7 ∷ 10 ∷ []) ∷ set 6 ∷ set 3 ∷ set 4 ∷ set 1 ∷ set 11 ∷ set 0 ∷ set 8 ∷ set 5 ∷ final ∷ []);
+      got = after_calls 4 24 (add [] (9 ∷ 2 ∷ []) ∷ flush ∷ add (5 ∷ 2 ∷ 1 ∷ []) (7 ∷ 10 ∷ []) ∷ set 6 ∷ set 3 ∷ set 4 ∷ set 1 ∷ set 11 ∷ set 0 ∷ set 8 ∷ set 5 ∷ final ∷ []);
       want = ((0 ∷ 0 ∷ 0 ∷ 1 ∷ []) ∷ (1 ∷ 1 ∷ 2 ∷ 1 ∷ []) ∷ []) ∷ ((0 ∷ 0 ∷ 1 ∷ 0 ∷ 1 ∷ []) ∷ (1 ∷ 2 ∷ 2 ∷ 1 ∷ 1 ∷ []) ∷ [])
           ∷ ((0 ∷ 49152 ∷ 0 ∷ 0 ∷ []) ∷ (1 ∷ 49152 ∷ 0 ∷ 0 ∷ []) ∷ (2 ∷ 32768 ∷ 1 ∷ 0 ∷ []) ∷ (3 ∷ 49152 ∷ 0 ∷ 0 ∷ []) ∷ (4 ∷ 49152 ∷ 0 ∷ 0 ∷ []) ∷ (5 ∷ 49152 ∷ 0 ∷ 0 ∷ [])
           ∷ (6 ∷ 49152 ∷ 0 ∷ 0 ∷ []) ∷ (7 ∷ 32768 ∷ 33 ∷ 0 ∷ []) ∷ (8 ∷ 49152 ∷ 0 ∷ 0 ∷ []) ∷ (9 ∷ 32768 ∷ 1 ∷ 0 ∷ []) ∷ (10 ∷ 32768 ∷ 33 ∷ 0 ∷ []) ∷ (11 ∷ 49152 ∷ 0 ∷ 0 ∷ [])
@@ -192,7 +192,7 @@ runs =
     }
     -- scattered places
     ∷ record {
-      got = after-calls 8 20 (set 7 ∷ add (5 ∷ 5 ∷ 5 ∷ []) [] ∷ add (1 ∷ 2 ∷ []) [] ∷ add (3 ∷ []) [] ∷ add [] (9 ∷ []) ∷ add (6 ∷ 0 ∷ []) [] ∷ set 2 ∷ set 1 ∷ add (5 ∷ []) []
+      got = after_calls 8 20 (set 7 ∷ add (5 ∷ 5 ∷ 5 ∷ []) [] ∷ add (1 ∷ 2 ∷ []) [] ∷ add (3 ∷ []) [] ∷ add [] (9 ∷ []) ∷ add (6 ∷ 0 ∷ []) [] ∷ set 2 ∷ set 1 ∷ add (5 ∷ []) []
           ∷ set 0 ∷ add [] [] ∷ set 8 ∷ add (2 ∷ []) (5 ∷ 4 ∷ []) ∷ set 3 ∷ flush ∷ set 6 ∷ final ∷ []);
       want = ((3 ∷ 3 ∷ 3 ∷ 5 ∷ []) ∷ (1 ∷ 1 ∷ 6 ∷ 4 ∷ []) ∷ (6 ∷ 6 ∷ 6 ∷ 3 ∷ []) ∷ (7 ∷ 7 ∷ 7 ∷ 2 ∷ []) ∷ (2 ∷ 2 ∷ 8 ∷ 1 ∷ []) ∷ (0 ∷ 0 ∷ 8 ∷ 2 ∷ []) ∷ (5 ∷ 5 ∷ 8 ∷ 1 ∷ [])
           ∷ (4 ∷ 4 ∷ 8 ∷ 1 ∷ []) ∷ []) ∷ ((0 ∷ 8 ∷ 0 ∷ 5 ∷ 2 ∷ []) ∷ (1 ∷ 6 ∷ 0 ∷ 1 ∷ 4 ∷ []) ∷ (2 ∷ 8 ∷ 0 ∷ 4 ∷ 1 ∷ []) ∷ (3 ∷ 3 ∷ 0 ∷ 0 ∷ 5 ∷ []) ∷ (4 ∷ 8 ∷ 0 ∷ 7 ∷ 1 ∷ [])
@@ -203,7 +203,7 @@ runs =
     }
     -- scattered places
     ∷ record {
-      got = after-calls 4 46 (add (11 ∷ 5 ∷ []) (22 ∷ []) ∷ set 16 ∷ add [] (6 ∷ 21 ∷ []) ∷ add (0 ∷ 0 ∷ 0 ∷ []) (2 ∷ 1 ∷ []) ∷ add (1 ∷ 0 ∷ []) (18 ∷ 3 ∷ [])
+      got = after_calls 4 46 (add (11 ∷ 5 ∷ []) (22 ∷ []) ∷ set 16 ∷ add [] (6 ∷ 21 ∷ []) ∷ add (0 ∷ 0 ∷ 0 ∷ []) (2 ∷ 1 ∷ []) ∷ add (1 ∷ 0 ∷ []) (18 ∷ 3 ∷ [])
           ∷ add [] (5 ∷ 13 ∷ []) ∷ add (17 ∷ 9 ∷ 5 ∷ []) [] ∷ add (11 ∷ 14 ∷ 6 ∷ []) (19 ∷ []) ∷ add (3 ∷ []) (11 ∷ 15 ∷ []) ∷ add (5 ∷ 2 ∷ []) (7 ∷ 14 ∷ [])
           ∷ add (20 ∷ 12 ∷ []) [] ∷ add (6 ∷ 9 ∷ []) (17 ∷ []) ∷ add (22 ∷ 4 ∷ []) [] ∷ set 4 ∷ add (7 ∷ []) (12 ∷ 9 ∷ []) ∷ add (5 ∷ 6 ∷ 3 ∷ []) (8 ∷ []) ∷ add [] (0 ∷ [])
           ∷ add (17 ∷ []) (20 ∷ []) ∷ add [] (10 ∷ []) ∷ final ∷ []);
@@ -222,7 +222,7 @@ runs =
     }
     -- a deep cascade
     ∷ record {
-      got = traced-calls 1 13 (add (2 ∷ 3 ∷ []) [] ∷ add (3 ∷ []) (4 ∷ []) ∷ add (2 ∷ []) (3 ∷ []) ∷ flush ∷ add (1 ∷ []) (2 ∷ []) ∷ add (0 ∷ 0 ∷ []) [] ∷ add (0 ∷ 0 ∷ []) []
+      got = traced_calls 1 13 (add (2 ∷ 3 ∷ []) [] ∷ add (3 ∷ []) (4 ∷ []) ∷ add (2 ∷ []) (3 ∷ []) ∷ flush ∷ add (1 ∷ []) (2 ∷ []) ∷ add (0 ∷ 0 ∷ []) [] ∷ add (0 ∷ 0 ∷ []) []
           ∷ add (0 ∷ []) (1 ∷ []) ∷ add [] (0 ∷ []) ∷ final ∷ []);
       want = ((0 ∷ 0 ∷ 0 ∷ 0 ∷ []) ∷ (0 ∷ 0 ∷ 0 ∷ 0 ∷ []) ∷ (0 ∷ 0 ∷ 0 ∷ 0 ∷ []) ∷ (0 ∷ 0 ∷ 0 ∷ 32 ∷ []) ∷ (0 ∷ 0 ∷ 0 ∷ 32 ∷ []) ∷ (0 ∷ 0 ∷ 0 ∷ 32 ∷ []) ∷ (0 ∷ 0 ∷ 0 ∷ 32 ∷ [])
           ∷ (0 ∷ 0 ∷ 0 ∷ 32 ∷ []) ∷ (0 ∷ 7 ∷ 5 ∷ 40 ∷ 1 ∷ []) ∷ (0 ∷ 8 ∷ 5 ∷ 72 ∷ []) ∷ [])
@@ -234,7 +234,7 @@ runs =
     }
     -- a deep cascade
     ∷ record {
-      got = traced-calls 3 19 (add (5 ∷ []) (6 ∷ []) ∷ add (2 ∷ 4 ∷ []) [] ∷ add (4 ∷ []) (5 ∷ []) ∷ add (3 ∷ 3 ∷ []) [] ∷ add (2 ∷ 3 ∷ []) [] ∷ add (3 ∷ []) (4 ∷ [])
+      got = traced_calls 3 19 (add (5 ∷ []) (6 ∷ []) ∷ add (2 ∷ 4 ∷ []) [] ∷ add (4 ∷ []) (5 ∷ []) ∷ add (3 ∷ 3 ∷ []) [] ∷ add (2 ∷ 3 ∷ []) [] ∷ add (3 ∷ []) (4 ∷ [])
           ∷ add (2 ∷ 2 ∷ []) [] ∷ add (1 ∷ 2 ∷ []) [] ∷ add (2 ∷ []) (3 ∷ []) ∷ add (1 ∷ []) (2 ∷ []) ∷ flush ∷ add (0 ∷ 0 ∷ []) [] ∷ add (0 ∷ 0 ∷ []) [] ∷ add (0 ∷ []) (1 ∷ [])
           ∷ set 0 ∷ final ∷ []);
       want = ((0 ∷ 0 ∷ 0 ∷ 0 ∷ []) ∷ (0 ∷ 0 ∷ 0 ∷ 0 ∷ []) ∷ (0 ∷ 0 ∷ 0 ∷ 0 ∷ []) ∷ (0 ∷ 0 ∷ 0 ∷ 0 ∷ []) ∷ (0 ∷ 0 ∷ 0 ∷ 0 ∷ []) ∷ (0 ∷ 0 ∷ 0 ∷ 0 ∷ []) ∷ (0 ∷ 0 ∷ 0 ∷ 0 ∷ [])
@@ -250,7 +250,7 @@ runs =
     }
     -- a deep cascade
     ∷ record {
-      got = traced-calls 1 31 (add (4 ∷ 9 ∷ []) [] ∷ add (4 ∷ 9 ∷ []) [] ∷ add (9 ∷ []) (10 ∷ []) ∷ flush ∷ add (5 ∷ 8 ∷ []) [] ∷ add (8 ∷ 8 ∷ []) [] ∷ add (8 ∷ []) (9 ∷ [])
+      got = traced_calls 1 31 (add (4 ∷ 9 ∷ []) [] ∷ add (4 ∷ 9 ∷ []) [] ∷ add (9 ∷ []) (10 ∷ []) ∷ flush ∷ add (5 ∷ 8 ∷ []) [] ∷ add (8 ∷ 8 ∷ []) [] ∷ add (8 ∷ []) (9 ∷ [])
           ∷ add (7 ∷ []) (8 ∷ []) ∷ add (5 ∷ 6 ∷ []) [] ∷ add (4 ∷ 6 ∷ []) [] ∷ add (6 ∷ []) (7 ∷ []) ∷ add (5 ∷ []) (6 ∷ []) ∷ add (4 ∷ []) (5 ∷ []) ∷ add (3 ∷ 3 ∷ []) []
           ∷ add (3 ∷ []) (4 ∷ []) ∷ add (2 ∷ 2 ∷ []) [] ∷ add (2 ∷ []) (3 ∷ []) ∷ add (0 ∷ 1 ∷ []) [] ∷ add (1 ∷ []) (2 ∷ []) ∷ add (0 ∷ []) (1 ∷ []) ∷ set 0 ∷ final ∷ []);
       want = ((0 ∷ 0 ∷ 0 ∷ 0 ∷ []) ∷ (0 ∷ 0 ∷ 0 ∷ 0 ∷ []) ∷ (0 ∷ 0 ∷ 0 ∷ 0 ∷ []) ∷ (0 ∷ 0 ∷ 0 ∷ 32 ∷ []) ∷ (0 ∷ 0 ∷ 0 ∷ 32 ∷ []) ∷ (0 ∷ 0 ∷ 0 ∷ 32 ∷ []) ∷ (0 ∷ 0 ∷ 0 ∷ 32 ∷ [])
@@ -269,7 +269,7 @@ runs =
     }
     -- a deep cascade
     ∷ record {
-      got = traced-calls 5 31 (add (4 ∷ 9 ∷ []) [] ∷ add (9 ∷ []) (10 ∷ []) ∷ add (4 ∷ 8 ∷ []) [] ∷ add (8 ∷ []) (9 ∷ []) ∷ add (1 ∷ 7 ∷ []) [] ∷ add (7 ∷ []) (8 ∷ [])
+      got = traced_calls 5 31 (add (4 ∷ 9 ∷ []) [] ∷ add (9 ∷ []) (10 ∷ []) ∷ add (4 ∷ 8 ∷ []) [] ∷ add (8 ∷ []) (9 ∷ []) ∷ add (1 ∷ 7 ∷ []) [] ∷ add (7 ∷ []) (8 ∷ [])
           ∷ add (6 ∷ []) (7 ∷ []) ∷ add (5 ∷ []) (6 ∷ []) ∷ add (3 ∷ 4 ∷ []) [] ∷ add (4 ∷ []) (5 ∷ []) ∷ add (2 ∷ 3 ∷ []) [] ∷ add (3 ∷ 3 ∷ []) [] ∷ add (3 ∷ []) (4 ∷ [])
           ∷ add (1 ∷ 2 ∷ []) [] ∷ add (2 ∷ []) (3 ∷ []) ∷ add (0 ∷ 1 ∷ []) [] ∷ add (0 ∷ 1 ∷ []) [] ∷ add (1 ∷ []) (2 ∷ []) ∷ add (0 ∷ 0 ∷ []) [] ∷ add (0 ∷ 0 ∷ []) []
           ∷ add (0 ∷ []) (1 ∷ []) ∷ set 0 ∷ final ∷ []);
@@ -293,10 +293,10 @@ runs =
 
 -- each run's two sides are the same
 pub agree : map (λ r. r.got) runs ≡ map (λ r. r.want) runs
-unfolding runs parallelism parallelism-by last-parallelism annotate released fresh release flush-guide seek found begin choose put settle apply place tallied tally initial member
-    marked tracked run-from watermark greatest ready loc-of later top after spotted reg_of place-one due left queue keep push-stack off rest with-set with-add cascade settle-all
-    do-set do-add with-record note-add note-flush note-final with-flush do-flush do-final verdict any repeats written-by taken pooled check-closed check-places check-set check-add
-    check-flush check-final checks answer apply-call unless-refused step run alone holds stray worn check-push check-flush-alone requests reply location serve serve-step serve-all
-    sum average median-from median counts thousands figures mark-by unfilled fill row-after row_of summary at item keep-zero trimmed window entry held-item joined row rows-from
-    place-row places-from traced figured closing after-calls traced-calls where_to served after-requests traced-requests round size span climb units odd to_bits count_trailing_zeros
+unfolding runs parallelism parallelism_by last_parallelism annotate released fresh release flush_guide seek found begin choose put settle apply place tallied tally initial member
+    marked tracked run_from watermark greatest ready loc_of later top after spotted reg_of place_one due left queue keep push_stack off rest with_set with_add cascade settle_all
+    do_set do_add with_record note_add note_flush note_final with_flush do_flush do_final verdict any repeats written_by taken pooled check_closed check_places check_set check_add
+    check_flush check_final checks answer apply_call unless_refused step run alone holds stray worn check_push check_flush_alone requests reply location serve serve_step serve_all
+    sum average median_from median counts thousands figures mark_by unfilled fill row_after row_of summary at item keep_zero trimmed window entry held_item joined row rows_from
+    place_row places_from traced figured closing after_calls traced_calls where_to served after_requests traced_requests round size span climb units odd to_bits count_trailing_zeros
 agree = refl

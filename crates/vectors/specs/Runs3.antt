@@ -2,24 +2,24 @@
 use Rattle.std.specs.Prelude.{◌≡◌, refl, List, [], ◌∷◌, map}
 use Rattle.std.specs.Int.Count.{count_trailing_zeros}
 use Rattle.std.specs.Float.Ieee.{round, size, span, climb, units, odd, to_bits}
-use Rattle.rules.specs.Guide.{parallelism, parallelism-by, last-parallelism, annotate, released, fresh, release, flush as flush-guide, seek, found, begin, choose, put, settle}
+use Rattle.rules.specs.Guide.{parallelism, parallelism_by, last_parallelism, annotate, released, fresh, release, flush as flush_guide, seek, found, begin, choose, put, settle}
 use Rattle.rules.specs.Guide.{apply, place, tallied, tally}
-use Rattle.rules.specs.Model.{initial, member, marked, tracked, run-from, watermark, greatest, ready, loc-of, later, top, after, spotted, reg_of, place-one, due, left, queue}
-use Rattle.rules.specs.Model.{keep, push as push-stack, off, rest, with-set, with-add, cascade, settle-all, do-set, do-add, with-record, note-add, note-flush, note-final}
-use Rattle.rules.specs.Model.{with-flush, do-flush, do-final}
-use Rattle.rules.specs.Checks.{verdict, any, repeats, written-by, taken, pooled, check-closed, check-places, check-set, check-add, check-flush, check-final}
-use Rattle.rules.specs.Calls.{checks, answer, apply-call, unless-refused, step, run, set, flush, final}
-use Rattle.rules.specs.Alone.{alone, holds, stray, worn, check-push, check-flush-alone, requests, reply, location, serve, serve-step, serve-all}
-use Rattle.rules.specs.Summary.{sum, average, median-from, median, counts, thousands, figures}
-use Rattle.rules.specs.Record.{mark-by, unfilled, fill, row-after, row_of, summary}
-use Rattle.vectors.specs.Shown.{Compared, add, at, item, keep-zero, trimmed, window, entry, held-item, joined, row, rows-from, place-row, places-from, traced, figured}
-use Rattle.vectors.specs.Shown.{closing, after-calls, traced-calls, where_to, served, after-requests, traced-requests}
+use Rattle.rules.specs.Model.{initial, member, marked, tracked, run_from, watermark, greatest, ready, loc_of, later, top, after, spotted, reg_of, place_one, due, left, queue}
+use Rattle.rules.specs.Model.{keep, push as push_stack, off, rest, with_set, with_add, cascade, settle_all, do_set, do_add, with_record, note_add, note_flush, note_final}
+use Rattle.rules.specs.Model.{with_flush, do_flush, do_final}
+use Rattle.rules.specs.Checks.{verdict, any, repeats, written_by, taken, pooled, check_closed, check_places, check_set, check_add, check_flush, check_final}
+use Rattle.rules.specs.Calls.{checks, answer, apply_call, unless_refused, step, run, set, flush, final}
+use Rattle.rules.specs.Alone.{alone, holds, stray, worn, check_push, check_flush_alone, requests, reply, location, serve, serve_step, serve_all}
+use Rattle.rules.specs.Summary.{sum, average, median_from, median, counts, thousands, figures}
+use Rattle.rules.specs.Record.{mark_by, unfilled, fill, row_after, row_of, summary}
+use Rattle.vectors.specs.Shown.{Compared, add, at, item, keep_zero, trimmed, window, entry, held_item, joined, row, rows_from, place_row, places_from, traced, figured}
+use Rattle.vectors.specs.Shown.{closing, after_calls, traced_calls, where_to, served, after_requests, traced_requests}
 
 pub runs : List Compared
 runs =
     -- a deep cascade
     record {
-      got = after-calls 4 13 (add (2 ∷ 3 ∷ []) [] ∷ add (2 ∷ 3 ∷ []) [] ∷ add (3 ∷ []) (4 ∷ []) ∷ add (0 ∷ 2 ∷ []) [] ∷ add (2 ∷ 2 ∷ []) [] ∷ add (2 ∷ []) (3 ∷ [])
+      got = after_calls 4 13 (add (2 ∷ 3 ∷ []) [] ∷ add (2 ∷ 3 ∷ []) [] ∷ add (3 ∷ []) (4 ∷ []) ∷ add (0 ∷ 2 ∷ []) [] ∷ add (2 ∷ 2 ∷ []) [] ∷ add (2 ∷ []) (3 ∷ [])
           ∷ add (0 ∷ 1 ∷ []) [] ∷ add (0 ∷ 1 ∷ []) [] ∷ add (1 ∷ []) (2 ∷ []) ∷ add (0 ∷ []) (1 ∷ []) ∷ set 0 ∷ final ∷ []);
       want = ((9 ∷ 9 ∷ 10 ∷ 1 ∷ []) ∷ (8 ∷ 8 ∷ 10 ∷ 3 ∷ []) ∷ (7 ∷ 7 ∷ 10 ∷ 3 ∷ []) ∷ (6 ∷ 6 ∷ 10 ∷ 3 ∷ []) ∷ (5 ∷ 5 ∷ 10 ∷ 3 ∷ []) ∷ (4 ∷ 4 ∷ 10 ∷ 3 ∷ []) ∷ (3 ∷ 3 ∷ 10 ∷ 3 ∷ [])
           ∷ (2 ∷ 2 ∷ 10 ∷ 3 ∷ []) ∷ (1 ∷ 1 ∷ 10 ∷ 2 ∷ []) ∷ (0 ∷ 0 ∷ 10 ∷ 1 ∷ []) ∷ []) ∷ ((0 ∷ 10 ∷ 0 ∷ 9 ∷ 1 ∷ []) ∷ (1 ∷ 10 ∷ 0 ∷ 8 ∷ 2 ∷ []) ∷ (2 ∷ 10 ∷ 0 ∷ 7 ∷ 3 ∷ [])
@@ -30,7 +30,7 @@ runs =
     }
     -- a deep cascade
     ∷ record {
-      got = after-calls 6 37 (add (11 ∷ []) (12 ∷ []) ∷ flush ∷ add (6 ∷ 10 ∷ []) [] ∷ add (1 ∷ 10 ∷ []) [] ∷ add (10 ∷ []) (11 ∷ []) ∷ add (9 ∷ []) (10 ∷ [])
+      got = after_calls 6 37 (add (11 ∷ []) (12 ∷ []) ∷ flush ∷ add (6 ∷ 10 ∷ []) [] ∷ add (1 ∷ 10 ∷ []) [] ∷ add (10 ∷ []) (11 ∷ []) ∷ add (9 ∷ []) (10 ∷ [])
           ∷ add (8 ∷ 8 ∷ []) [] ∷ add (8 ∷ []) (9 ∷ []) ∷ add (7 ∷ []) (8 ∷ []) ∷ add (6 ∷ []) (7 ∷ []) ∷ add (5 ∷ []) (6 ∷ []) ∷ add (3 ∷ 4 ∷ []) [] ∷ add (4 ∷ []) (5 ∷ [])
           ∷ add (0 ∷ 3 ∷ []) [] ∷ add (3 ∷ []) (4 ∷ []) ∷ add (2 ∷ []) (3 ∷ []) ∷ add (1 ∷ []) (2 ∷ []) ∷ add (0 ∷ 0 ∷ []) [] ∷ add (0 ∷ 0 ∷ []) [] ∷ add (0 ∷ []) (1 ∷ [])
           ∷ add [] (0 ∷ []) ∷ final ∷ []);
@@ -48,7 +48,7 @@ runs =
     }
     -- a deep cascade
     ∷ record {
-      got = after-calls 2 34 (add (10 ∷ []) (11 ∷ []) ∷ add (2 ∷ 9 ∷ []) [] ∷ add (9 ∷ []) (10 ∷ []) ∷ flush ∷ add (8 ∷ []) (9 ∷ []) ∷ add (7 ∷ []) (8 ∷ []) ∷ add (2 ∷ 6 ∷ []) []
+      got = after_calls 2 34 (add (10 ∷ []) (11 ∷ []) ∷ add (2 ∷ 9 ∷ []) [] ∷ add (9 ∷ []) (10 ∷ []) ∷ flush ∷ add (8 ∷ []) (9 ∷ []) ∷ add (7 ∷ []) (8 ∷ []) ∷ add (2 ∷ 6 ∷ []) []
           ∷ add (6 ∷ []) (7 ∷ []) ∷ add (3 ∷ 5 ∷ []) [] ∷ add (5 ∷ []) (6 ∷ []) ∷ add (4 ∷ []) (5 ∷ []) ∷ add (2 ∷ 3 ∷ []) [] ∷ add (2 ∷ 3 ∷ []) [] ∷ add (3 ∷ []) (4 ∷ [])
           ∷ add (2 ∷ 2 ∷ []) [] ∷ add (2 ∷ 2 ∷ []) [] ∷ add (2 ∷ []) (3 ∷ []) ∷ add (1 ∷ 1 ∷ []) [] ∷ add (0 ∷ 1 ∷ []) [] ∷ add (1 ∷ []) (2 ∷ []) ∷ add (0 ∷ []) (1 ∷ []) ∷ set 0
           ∷ final ∷ []);
@@ -66,7 +66,7 @@ runs =
     }
     -- a deep cascade
     ∷ record {
-      got = after-calls 4 55 (add (17 ∷ []) (18 ∷ []) ∷ add (4 ∷ 16 ∷ []) [] ∷ add (16 ∷ []) (17 ∷ []) ∷ add (15 ∷ []) (16 ∷ []) ∷ add (2 ∷ 14 ∷ []) [] ∷ add (14 ∷ []) (15 ∷ [])
+      got = after_calls 4 55 (add (17 ∷ []) (18 ∷ []) ∷ add (4 ∷ 16 ∷ []) [] ∷ add (16 ∷ []) (17 ∷ []) ∷ add (15 ∷ []) (16 ∷ []) ∷ add (2 ∷ 14 ∷ []) [] ∷ add (14 ∷ []) (15 ∷ [])
           ∷ add (7 ∷ 13 ∷ []) [] ∷ add (4 ∷ 13 ∷ []) [] ∷ add (13 ∷ []) (14 ∷ []) ∷ add (3 ∷ 12 ∷ []) [] ∷ add (1 ∷ 12 ∷ []) [] ∷ add (12 ∷ []) (13 ∷ []) ∷ add (11 ∷ []) (12 ∷ [])
           ∷ add (10 ∷ []) (11 ∷ []) ∷ add (9 ∷ []) (10 ∷ []) ∷ add (3 ∷ 8 ∷ []) [] ∷ add (7 ∷ 8 ∷ []) [] ∷ add (8 ∷ []) (9 ∷ []) ∷ add (2 ∷ 7 ∷ []) [] ∷ add (7 ∷ []) (8 ∷ [])
           ∷ add (6 ∷ []) (7 ∷ []) ∷ add (5 ∷ []) (6 ∷ []) ∷ add (4 ∷ []) (5 ∷ []) ∷ add (0 ∷ 3 ∷ []) [] ∷ add (2 ∷ 3 ∷ []) [] ∷ add (3 ∷ []) (4 ∷ []) ∷ flush ∷ add (2 ∷ 2 ∷ []) []
@@ -90,7 +90,7 @@ runs =
     }
     -- gaps filled late
     ∷ record {
-      got = traced-calls 1 12 (set 5 ∷ set 1 ∷ add (1 ∷ []) [] ∷ set 3 ∷ add (3 ∷ []) [] ∷ add (3 ∷ []) (4 ∷ []) ∷ set 2 ∷ set 0 ∷ add (0 ∷ []) [] ∷ final ∷ []);
+      got = traced_calls 1 12 (set 5 ∷ set 1 ∷ add (1 ∷ []) [] ∷ set 3 ∷ add (3 ∷ []) [] ∷ add (3 ∷ []) (4 ∷ []) ∷ set 2 ∷ set 0 ∷ add (0 ∷ []) [] ∷ final ∷ []);
       want = ((0 ∷ 0 ∷ 0 ∷ 0 ∷ []) ∷ (0 ∷ 0 ∷ 0 ∷ 0 ∷ []) ∷ (0 ∷ 0 ∷ 0 ∷ 0 ∷ []) ∷ (0 ∷ 0 ∷ 0 ∷ 0 ∷ []) ∷ (0 ∷ 0 ∷ 0 ∷ 0 ∷ []) ∷ (0 ∷ 0 ∷ 0 ∷ 0 ∷ []) ∷ (0 ∷ 0 ∷ 0 ∷ 0 ∷ [])
           ∷ (0 ∷ 2 ∷ 6 ∷ 3 ∷ 1 ∷ []) ∷ (0 ∷ 3 ∷ 6 ∷ 4 ∷ 1 ∷ []) ∷ (0 ∷ 4 ∷ 6 ∷ 36 ∷ []) ∷ [])
           ∷ ((0 ∷ 0 ∷ 3 ∷ 1 ∷ []) ∷ (1 ∷ 1 ∷ 3 ∷ 1 ∷ []) ∷ (2 ∷ 2 ∷ 3 ∷ 1 ∷ []) ∷ (3 ∷ 3 ∷ 3 ∷ 1 ∷ []) ∷ [])
@@ -100,7 +100,7 @@ runs =
     }
     -- gaps filled late
     ∷ record {
-      got = traced-calls 5 14 (set 1 ∷ add (1 ∷ []) [] ∷ set 5 ∷ set 3 ∷ add (5 ∷ []) (6 ∷ []) ∷ add (1 ∷ []) [] ∷ add [] (0 ∷ []) ∷ add (0 ∷ []) (4 ∷ []) ∷ set 2 ∷ final ∷ []);
+      got = traced_calls 5 14 (set 1 ∷ add (1 ∷ []) [] ∷ set 5 ∷ set 3 ∷ add (5 ∷ []) (6 ∷ []) ∷ add (1 ∷ []) [] ∷ add [] (0 ∷ []) ∷ add (0 ∷ []) (4 ∷ []) ∷ set 2 ∷ final ∷ []);
       want = ((0 ∷ 0 ∷ 0 ∷ 0 ∷ []) ∷ (0 ∷ 0 ∷ 0 ∷ 0 ∷ []) ∷ (0 ∷ 0 ∷ 0 ∷ 0 ∷ []) ∷ (0 ∷ 0 ∷ 0 ∷ 0 ∷ []) ∷ (0 ∷ 0 ∷ 0 ∷ 0 ∷ []) ∷ (0 ∷ 0 ∷ 0 ∷ 0 ∷ [])
           ∷ (0 ∷ 0 ∷ 2 ∷ 0 ∷ 0 ∷ 3 ∷ []) ∷ (0 ∷ 0 ∷ 2 ∷ 0 ∷ 0 ∷ 3 ∷ 1 ∷ []) ∷ (0 ∷ 0 ∷ 7 ∷ 0 ∷ 0 ∷ 4 ∷ 1 ∷ []) ∷ (0 ∷ 5 ∷ 7 ∷ 32 ∷ []) ∷ [])
           ∷ ((3 ∷ 3 ∷ 3 ∷ 4 ∷ []) ∷ (2 ∷ 2 ∷ 3 ∷ 4 ∷ []) ∷ (0 ∷ 0 ∷ 3 ∷ 3 ∷ []) ∷ (1 ∷ 1 ∷ 5 ∷ 2 ∷ []) ∷ (4 ∷ 4 ∷ 4 ∷ 1 ∷ []) ∷ [])
@@ -111,7 +111,7 @@ runs =
     }
     -- gaps filled late
     ∷ record {
-      got = traced-calls 3 22 (set 5 ∷ set 1 ∷ set 7 ∷ add (7 ∷ []) [] ∷ set 9 ∷ add (9 ∷ []) [] ∷ set 3 ∷ add (3 ∷ []) [] ∷ add (1 ∷ []) (8 ∷ []) ∷ set 6 ∷ set 4
+      got = traced_calls 3 22 (set 5 ∷ set 1 ∷ set 7 ∷ add (7 ∷ []) [] ∷ set 9 ∷ add (9 ∷ []) [] ∷ set 3 ∷ add (3 ∷ []) [] ∷ add (1 ∷ []) (8 ∷ []) ∷ set 6 ∷ set 4
           ∷ add (1 ∷ []) (10 ∷ []) ∷ set 0 ∷ set 2 ∷ final ∷ []);
       want = ((0 ∷ 0 ∷ 0 ∷ 0 ∷ []) ∷ (0 ∷ 0 ∷ 0 ∷ 0 ∷ []) ∷ (0 ∷ 0 ∷ 0 ∷ 0 ∷ []) ∷ (0 ∷ 0 ∷ 0 ∷ 0 ∷ []) ∷ (0 ∷ 0 ∷ 0 ∷ 0 ∷ []) ∷ (0 ∷ 0 ∷ 0 ∷ 0 ∷ []) ∷ (0 ∷ 0 ∷ 0 ∷ 0 ∷ [])
           ∷ (0 ∷ 0 ∷ 0 ∷ 0 ∷ []) ∷ (0 ∷ 0 ∷ 0 ∷ 0 ∷ []) ∷ (0 ∷ 0 ∷ 0 ∷ 0 ∷ []) ∷ (0 ∷ 0 ∷ 0 ∷ 0 ∷ []) ∷ (0 ∷ 0 ∷ 0 ∷ 0 ∷ []) ∷ (0 ∷ 0 ∷ 2 ∷ 0 ∷ 0 ∷ 2 ∷ [])
@@ -123,7 +123,7 @@ runs =
     }
     -- gaps filled late
     ∷ record {
-      got = traced-calls 7 26 (set 5 ∷ set 3 ∷ add (3 ∷ []) [] ∷ set 7 ∷ add (7 ∷ []) [] ∷ set 9 ∷ add (9 ∷ []) [] ∷ set 11 ∷ add (11 ∷ []) [] ∷ set 1 ∷ add (1 ∷ []) []
+      got = traced_calls 7 26 (set 5 ∷ set 3 ∷ add (3 ∷ []) [] ∷ set 7 ∷ add (7 ∷ []) [] ∷ set 9 ∷ add (9 ∷ []) [] ∷ set 11 ∷ add (11 ∷ []) [] ∷ set 1 ∷ add (1 ∷ []) []
           ∷ add (2 ∷ []) (8 ∷ []) ∷ add (2 ∷ []) (6 ∷ []) ∷ add (6 ∷ []) [] ∷ add (5 ∷ []) (10 ∷ []) ∷ add (10 ∷ []) (12 ∷ []) ∷ add (1 ∷ []) [] ∷ set 4 ∷ add (4 ∷ []) []
           ∷ add [] (0 ∷ []) ∷ add (1 ∷ []) (2 ∷ []) ∷ final ∷ []);
       want = ((0 ∷ 0 ∷ 0 ∷ 0 ∷ []) ∷ (0 ∷ 0 ∷ 0 ∷ 0 ∷ []) ∷ (0 ∷ 0 ∷ 0 ∷ 0 ∷ []) ∷ (0 ∷ 0 ∷ 0 ∷ 0 ∷ []) ∷ (0 ∷ 0 ∷ 0 ∷ 0 ∷ []) ∷ (0 ∷ 0 ∷ 0 ∷ 0 ∷ []) ∷ (0 ∷ 0 ∷ 0 ∷ 0 ∷ [])
@@ -142,7 +142,7 @@ runs =
     }
     -- gaps filled late
     ∷ record {
-      got = after-calls 2 14 (set 5 ∷ add (5 ∷ []) [] ∷ set 1 ∷ add (1 ∷ []) [] ∷ set 3 ∷ add (3 ∷ []) [] ∷ set 4 ∷ add (0 ∷ []) (2 ∷ []) ∷ set 6 ∷ set 0 ∷ final ∷ []);
+      got = after_calls 2 14 (set 5 ∷ add (5 ∷ []) [] ∷ set 1 ∷ add (1 ∷ []) [] ∷ set 3 ∷ add (3 ∷ []) [] ∷ set 4 ∷ add (0 ∷ []) (2 ∷ []) ∷ set 6 ∷ set 0 ∷ final ∷ []);
       want = ((3 ∷ 3 ∷ 4 ∷ 2 ∷ []) ∷ (0 ∷ 0 ∷ 4 ∷ 2 ∷ []) ∷ (2 ∷ 2 ∷ 4 ∷ 2 ∷ []) ∷ (1 ∷ 1 ∷ 4 ∷ 1 ∷ []) ∷ [])
           ∷ ((0 ∷ 4 ∷ 0 ∷ 1 ∷ 2 ∷ []) ∷ (1 ∷ 4 ∷ 0 ∷ 3 ∷ 1 ∷ []) ∷ (2 ∷ 4 ∷ 0 ∷ 2 ∷ 2 ∷ []) ∷ (3 ∷ 4 ∷ 4 ∷ 0 ∷ 2 ∷ []) ∷ [])
           ∷ ((0 ∷ 49152 ∷ 0 ∷ 0 ∷ []) ∷ (1 ∷ 49152 ∷ 0 ∷ 0 ∷ []) ∷ (2 ∷ 32768 ∷ 1 ∷ 0 ∷ []) ∷ (3 ∷ 49152 ∷ 0 ∷ 0 ∷ []) ∷ (4 ∷ 49152 ∷ 0 ∷ 0 ∷ []) ∷ (5 ∷ 49152 ∷ 0 ∷ 0 ∷ [])
@@ -150,7 +150,7 @@ runs =
     }
     -- gaps filled late
     ∷ record {
-      got = after-calls 4 32 (set 13 ∷ add (13 ∷ []) [] ∷ set 1 ∷ add (1 ∷ []) [] ∷ set 11 ∷ add (11 ∷ []) [] ∷ set 3 ∷ add (3 ∷ []) [] ∷ set 5 ∷ set 9 ∷ add (9 ∷ []) [] ∷ set 15
+      got = after_calls 4 32 (set 13 ∷ add (13 ∷ []) [] ∷ set 1 ∷ add (1 ∷ []) [] ∷ set 11 ∷ add (11 ∷ []) [] ∷ set 3 ∷ add (3 ∷ []) [] ∷ set 5 ∷ set 9 ∷ add (9 ∷ []) [] ∷ set 15
           ∷ set 7 ∷ set 6 ∷ add (7 ∷ []) (12 ∷ []) ∷ set 2 ∷ add (15 ∷ []) [] ∷ add (1 ∷ []) (4 ∷ []) ∷ add (10 ∷ []) (14 ∷ []) ∷ set 0 ∷ add (1 ∷ []) (8 ∷ [])
           ∷ add (0 ∷ []) (10 ∷ []) ∷ final ∷ []);
       want = ((1 ∷ 1 ∷ 9 ∷ 4 ∷ []) ∷ (7 ∷ 7 ∷ 9 ∷ 4 ∷ []) ∷ (5 ∷ 5 ∷ 9 ∷ 4 ∷ []) ∷ (3 ∷ 3 ∷ 9 ∷ 4 ∷ []) ∷ (9 ∷ 9 ∷ 9 ∷ 4 ∷ []) ∷ (4 ∷ 4 ∷ 9 ∷ 4 ∷ []) ∷ (10 ∷ 10 ∷ 10 ∷ 4 ∷ [])
@@ -164,7 +164,7 @@ runs =
     }
     -- gaps filled late
     ∷ record {
-      got = after-calls 6 34 (set 5 ∷ add (5 ∷ []) [] ∷ set 9 ∷ add (9 ∷ []) [] ∷ set 11 ∷ add (11 ∷ []) [] ∷ set 1 ∷ set 7 ∷ set 3 ∷ set 15 ∷ add (15 ∷ []) [] ∷ set 13
+      got = after_calls 6 34 (set 5 ∷ add (5 ∷ []) [] ∷ set 9 ∷ add (9 ∷ []) [] ∷ set 11 ∷ add (11 ∷ []) [] ∷ set 1 ∷ set 7 ∷ set 3 ∷ set 15 ∷ add (15 ∷ []) [] ∷ set 13
           ∷ add (13 ∷ []) [] ∷ add (3 ∷ []) (6 ∷ []) ∷ add (0 ∷ []) (10 ∷ []) ∷ add (2 ∷ []) [] ∷ add (9 ∷ []) (12 ∷ []) ∷ add (4 ∷ []) [] ∷ set 4 ∷ set 16 ∷ set 8
           ∷ add (1 ∷ []) [] ∷ add (6 ∷ []) (14 ∷ []) ∷ add (0 ∷ []) (2 ∷ []) ∷ add [] (0 ∷ []) ∷ add (16 ∷ []) [] ∷ final ∷ []);
       want = ((13 ∷ 13 ∷ 13 ∷ 6 ∷ []) ∷ (10 ∷ 10 ∷ 13 ∷ 6 ∷ []) ∷ (0 ∷ 0 ∷ 13 ∷ 6 ∷ []) ∷ (9 ∷ 9 ∷ 13 ∷ 6 ∷ []) ∷ (5 ∷ 5 ∷ 13 ∷ 6 ∷ []) ∷ (8 ∷ 8 ∷ 13 ∷ 6 ∷ [])
@@ -180,7 +180,7 @@ runs =
     }
     -- gaps filled late
     ∷ record {
-      got = after-calls 8 42 (set 11 ∷ set 15 ∷ add (15 ∷ []) [] ∷ set 5 ∷ add (5 ∷ []) [] ∷ set 3 ∷ add (3 ∷ []) [] ∷ set 17 ∷ add (17 ∷ []) [] ∷ set 9 ∷ set 1 ∷ add (1 ∷ []) []
+      got = after_calls 8 42 (set 11 ∷ set 15 ∷ add (15 ∷ []) [] ∷ set 5 ∷ add (5 ∷ []) [] ∷ set 3 ∷ add (3 ∷ []) [] ∷ set 17 ∷ add (17 ∷ []) [] ∷ set 9 ∷ set 1 ∷ add (1 ∷ []) []
           ∷ set 7 ∷ add (7 ∷ []) [] ∷ set 19 ∷ set 13 ∷ add (13 ∷ []) [] ∷ add (10 ∷ []) (16 ∷ []) ∷ set 12 ∷ add (8 ∷ []) (14 ∷ []) ∷ add (14 ∷ []) [] ∷ set 4
           ∷ add (8 ∷ []) (20 ∷ []) ∷ add (5 ∷ []) (8 ∷ []) ∷ set 2 ∷ set 0 ∷ add (1 ∷ []) [] ∷ set 10 ∷ set 18 ∷ add (0 ∷ []) (6 ∷ []) ∷ final ∷ []);
       want = ((4 ∷ 4 ∷ 12 ∷ 8 ∷ []) ∷ (2 ∷ 2 ∷ 12 ∷ 8 ∷ []) ∷ (1 ∷ 1 ∷ 12 ∷ 8 ∷ []) ∷ (11 ∷ 11 ∷ 12 ∷ 8 ∷ []) ∷ (12 ∷ 12 ∷ 12 ∷ 7 ∷ []) ∷ (13 ∷ 13 ∷ 13 ∷ 6 ∷ [])
@@ -196,7 +196,7 @@ runs =
     }
     -- waits for ever
     ∷ record {
-      got = traced-calls 5 10 (set 0 ∷ add (4 ∷ []) (1 ∷ []) ∷ set 2 ∷ add [] (3 ∷ []) ∷ set 4 ∷ set 5 ∷ add [] (6 ∷ []) ∷ set 7 ∷ add [] (8 ∷ []) ∷ []);
+      got = traced_calls 5 10 (set 0 ∷ add (4 ∷ []) (1 ∷ []) ∷ set 2 ∷ add [] (3 ∷ []) ∷ set 4 ∷ set 5 ∷ add [] (6 ∷ []) ∷ set 7 ∷ add [] (8 ∷ []) ∷ []);
       want = ((0 ∷ 0 ∷ 1 ∷ 0 ∷ []) ∷ (0 ∷ 0 ∷ 1 ∷ 0 ∷ []) ∷ (0 ∷ 0 ∷ 1 ∷ 0 ∷ []) ∷ (0 ∷ 0 ∷ 1 ∷ 0 ∷ 0 ∷ 1 ∷ []) ∷ (0 ∷ 0 ∷ 1 ∷ 0 ∷ 0 ∷ 1 ∷ []) ∷ (0 ∷ 0 ∷ 1 ∷ 0 ∷ 0 ∷ 1 ∷ [])
           ∷ (0 ∷ 0 ∷ 1 ∷ 0 ∷ 0 ∷ 2 ∷ []) ∷ (0 ∷ 0 ∷ 1 ∷ 0 ∷ 0 ∷ 2 ∷ []) ∷ (0 ∷ 0 ∷ 1 ∷ 0 ∷ 0 ∷ 3 ∷ []) ∷ []) ∷ []
           ∷ ((0 ∷ 0 ∷ 0 ∷ 0 ∷ 0 ∷ []) ∷ (0 ∷ 0 ∷ 0 ∷ 0 ∷ 0 ∷ []) ∷ (0 ∷ 0 ∷ 0 ∷ 0 ∷ 0 ∷ []) ∷ (0 ∷ 0 ∷ 0 ∷ 0 ∷ 0 ∷ []) ∷ [])
@@ -206,7 +206,7 @@ runs =
     }
     -- waits for ever
     ∷ record {
-      got = traced-calls 1 12 (set 0 ∷ set 1 ∷ add (8 ∷ []) (2 ∷ []) ∷ add (8 ∷ 2 ∷ []) (3 ∷ []) ∷ add (4 ∷ []) (4 ∷ []) ∷ set 5 ∷ add [] (6 ∷ []) ∷ set 7 ∷ set 8 ∷ set 9
+      got = traced_calls 1 12 (set 0 ∷ set 1 ∷ add (8 ∷ []) (2 ∷ []) ∷ add (8 ∷ 2 ∷ []) (3 ∷ []) ∷ add (4 ∷ []) (4 ∷ []) ∷ set 5 ∷ add [] (6 ∷ []) ∷ set 7 ∷ set 8 ∷ set 9
           ∷ add (0 ∷ 9 ∷ []) (10 ∷ []) ∷ set 11 ∷ []);
       want = ((0 ∷ 0 ∷ 1 ∷ 0 ∷ []) ∷ (0 ∷ 0 ∷ 2 ∷ 0 ∷ []) ∷ (0 ∷ 0 ∷ 2 ∷ 0 ∷ []) ∷ (0 ∷ 0 ∷ 2 ∷ 0 ∷ []) ∷ (0 ∷ 0 ∷ 2 ∷ 0 ∷ []) ∷ (0 ∷ 0 ∷ 2 ∷ 0 ∷ []) ∷ (0 ∷ 0 ∷ 2 ∷ 1 ∷ 1 ∷ [])
           ∷ (0 ∷ 0 ∷ 2 ∷ 1 ∷ 1 ∷ []) ∷ (0 ∷ 0 ∷ 2 ∷ 1 ∷ 1 ∷ []) ∷ (0 ∷ 0 ∷ 2 ∷ 1 ∷ 1 ∷ []) ∷ (0 ∷ 0 ∷ 2 ∷ 1 ∷ 1 ∷ []) ∷ (0 ∷ 0 ∷ 2 ∷ 1 ∷ 1 ∷ []) ∷ []) ∷ []
@@ -217,7 +217,7 @@ runs =
     }
     -- waits for ever
     ∷ record {
-      got = traced-calls 3 15 (add (9 ∷ 12 ∷ []) (0 ∷ []) ∷ set 1 ∷ set 2 ∷ set 3 ∷ set 4 ∷ add (11 ∷ []) (5 ∷ []) ∷ set 6 ∷ add (12 ∷ []) (7 ∷ []) ∷ set 8 ∷ set 9 ∷ flush
+      got = traced_calls 3 15 (add (9 ∷ 12 ∷ []) (0 ∷ []) ∷ set 1 ∷ set 2 ∷ set 3 ∷ set 4 ∷ add (11 ∷ []) (5 ∷ []) ∷ set 6 ∷ add (12 ∷ []) (7 ∷ []) ∷ set 8 ∷ set 9 ∷ flush
           ∷ add [] (10 ∷ []) ∷ set 11 ∷ set 12 ∷ add (12 ∷ []) (13 ∷ []) ∷ []);
       want = ((0 ∷ 0 ∷ 0 ∷ 0 ∷ []) ∷ (0 ∷ 0 ∷ 0 ∷ 0 ∷ []) ∷ (0 ∷ 0 ∷ 0 ∷ 0 ∷ []) ∷ (0 ∷ 0 ∷ 0 ∷ 0 ∷ []) ∷ (0 ∷ 0 ∷ 0 ∷ 0 ∷ []) ∷ (0 ∷ 0 ∷ 0 ∷ 0 ∷ []) ∷ (0 ∷ 0 ∷ 0 ∷ 0 ∷ [])
           ∷ (0 ∷ 0 ∷ 0 ∷ 0 ∷ []) ∷ (0 ∷ 0 ∷ 0 ∷ 0 ∷ []) ∷ (0 ∷ 0 ∷ 0 ∷ 0 ∷ []) ∷ (0 ∷ 0 ∷ 0 ∷ 32 ∷ []) ∷ (0 ∷ 0 ∷ 0 ∷ 32 ∷ 0 ∷ 1 ∷ []) ∷ (0 ∷ 0 ∷ 0 ∷ 32 ∷ 0 ∷ 1 ∷ [])
@@ -228,7 +228,7 @@ runs =
     }
     -- waits for ever
     ∷ record {
-      got = traced-calls 3 19 (set 0 ∷ set 1 ∷ set 2 ∷ add (7 ∷ 8 ∷ []) (3 ∷ []) ∷ set 4 ∷ add (15 ∷ []) (5 ∷ []) ∷ add (17 ∷ []) (7 ∷ []) ∷ flush ∷ set 8 ∷ set 9 ∷ flush
+      got = traced_calls 3 19 (set 0 ∷ set 1 ∷ set 2 ∷ add (7 ∷ 8 ∷ []) (3 ∷ []) ∷ set 4 ∷ add (15 ∷ []) (5 ∷ []) ∷ add (17 ∷ []) (7 ∷ []) ∷ flush ∷ set 8 ∷ set 9 ∷ flush
           ∷ add (18 ∷ 17 ∷ []) (10 ∷ []) ∷ flush ∷ set 11 ∷ add (5 ∷ []) (12 ∷ []) ∷ set 13 ∷ add (9 ∷ 8 ∷ []) (14 ∷ []) ∷ add (10 ∷ 18 ∷ []) (15 ∷ []) ∷ set 16 ∷ add [] (17 ∷ [])
           ∷ set 18 ∷ []);
       want = ((0 ∷ 0 ∷ 1 ∷ 0 ∷ []) ∷ (0 ∷ 0 ∷ 2 ∷ 0 ∷ []) ∷ (0 ∷ 0 ∷ 3 ∷ 0 ∷ []) ∷ (0 ∷ 0 ∷ 3 ∷ 0 ∷ []) ∷ (0 ∷ 0 ∷ 3 ∷ 0 ∷ []) ∷ (0 ∷ 0 ∷ 3 ∷ 0 ∷ []) ∷ (0 ∷ 0 ∷ 3 ∷ 0 ∷ [])
@@ -243,7 +243,7 @@ runs =
     }
     -- waits for ever
     ∷ record {
-      got = after-calls 6 9 (add (5 ∷ 0 ∷ []) (0 ∷ []) ∷ add (0 ∷ 8 ∷ []) (1 ∷ []) ∷ add (2 ∷ []) (2 ∷ []) ∷ add (3 ∷ []) (3 ∷ []) ∷ set 4 ∷ add (2 ∷ []) (5 ∷ [])
+      got = after_calls 6 9 (add (5 ∷ 0 ∷ []) (0 ∷ []) ∷ add (0 ∷ 8 ∷ []) (1 ∷ []) ∷ add (2 ∷ []) (2 ∷ []) ∷ add (3 ∷ []) (3 ∷ []) ∷ set 4 ∷ add (2 ∷ []) (5 ∷ [])
           ∷ add (6 ∷ 1 ∷ []) (6 ∷ []) ∷ add (0 ∷ []) (7 ∷ []) ∷ set 8 ∷ []);
       want = [] ∷ ((0 ∷ 0 ∷ 0 ∷ 0 ∷ 0 ∷ []) ∷ (0 ∷ 0 ∷ 0 ∷ 0 ∷ 0 ∷ []) ∷ (0 ∷ 0 ∷ 0 ∷ 0 ∷ 0 ∷ []) ∷ (0 ∷ 0 ∷ 0 ∷ 0 ∷ 0 ∷ []) ∷ (0 ∷ 0 ∷ 0 ∷ 0 ∷ 0 ∷ []) ∷ (0 ∷ 0 ∷ 0 ∷ 0 ∷ 0 ∷ [])
           ∷ (0 ∷ 0 ∷ 0 ∷ 0 ∷ 0 ∷ []) ∷ []) ∷ ((4 ∷ 49152 ∷ 0 ∷ 0 ∷ []) ∷ (8 ∷ 49152 ∷ 0 ∷ 0 ∷ []) ∷ [])
@@ -251,14 +251,14 @@ runs =
     }
     -- waits for ever
     ∷ record {
-      got = after-calls 2 8 (set 0 ∷ set 2 ∷ add [] (3 ∷ []) ∷ flush ∷ set 4 ∷ add [] (5 ∷ []) ∷ set 6 ∷ set 7 ∷ final ∷ []);
+      got = after_calls 2 8 (set 0 ∷ set 2 ∷ add [] (3 ∷ []) ∷ flush ∷ set 4 ∷ add [] (5 ∷ []) ∷ set 6 ∷ set 7 ∷ final ∷ []);
       want = ((0 ∷ 0 ∷ 0 ∷ 1 ∷ []) ∷ (1 ∷ 1 ∷ 1 ∷ 1 ∷ []) ∷ []) ∷ ((0 ∷ 0 ∷ 1 ∷ 0 ∷ 1 ∷ []) ∷ (1 ∷ 1 ∷ 2 ∷ 1 ∷ 1 ∷ []) ∷ [])
           ∷ ((0 ∷ 49152 ∷ 0 ∷ 0 ∷ []) ∷ (2 ∷ 49152 ∷ 0 ∷ 0 ∷ []) ∷ (3 ∷ 32768 ∷ 1 ∷ 0 ∷ []) ∷ (4 ∷ 49152 ∷ 0 ∷ 0 ∷ []) ∷ (5 ∷ 32768 ∷ 33 ∷ 0 ∷ []) ∷ (6 ∷ 49152 ∷ 0 ∷ 0 ∷ [])
           ∷ (7 ∷ 49152 ∷ 0 ∷ 0 ∷ []) ∷ []) ∷ [] ∷ ((0 ∷ 2 ∷ 0 ∷ []) ∷ []) ∷ [] ∷ ((2 ∷ 1 ∷ []) ∷ (939593270 ∷ []) ∷ (1 ∷ []) ∷ (128 ∷ 0 ∷ 2 ∷ []) ∷ (65 ∷ 2 ∷ []) ∷ []) ∷ [];
     }
     -- waits for ever
     ∷ record {
-      got = after-calls 2 13 (add (9 ∷ []) (0 ∷ []) ∷ set 1 ∷ set 2 ∷ set 3 ∷ set 4 ∷ set 5 ∷ set 6 ∷ add (11 ∷ 6 ∷ []) (7 ∷ []) ∷ add (2 ∷ []) (8 ∷ []) ∷ add (1 ∷ []) (9 ∷ [])
+      got = after_calls 2 13 (add (9 ∷ []) (0 ∷ []) ∷ set 1 ∷ set 2 ∷ set 3 ∷ set 4 ∷ set 5 ∷ set 6 ∷ add (11 ∷ 6 ∷ []) (7 ∷ []) ∷ add (2 ∷ []) (8 ∷ []) ∷ add (1 ∷ []) (9 ∷ [])
           ∷ add (10 ∷ []) (10 ∷ []) ∷ add (7 ∷ []) (11 ∷ []) ∷ set 12 ∷ []);
       want = [] ∷ ((0 ∷ 0 ∷ 0 ∷ 0 ∷ 0 ∷ []) ∷ (0 ∷ 0 ∷ 0 ∷ 0 ∷ 0 ∷ []) ∷ (0 ∷ 0 ∷ 0 ∷ 0 ∷ 0 ∷ []) ∷ (0 ∷ 0 ∷ 0 ∷ 0 ∷ 0 ∷ []) ∷ (0 ∷ 0 ∷ 0 ∷ 0 ∷ 0 ∷ []) ∷ (0 ∷ 0 ∷ 0 ∷ 0 ∷ 0 ∷ [])
           ∷ []) ∷ ((1 ∷ 49152 ∷ 0 ∷ 0 ∷ []) ∷ (2 ∷ 49152 ∷ 0 ∷ 0 ∷ []) ∷ (3 ∷ 49152 ∷ 0 ∷ 0 ∷ []) ∷ (4 ∷ 49152 ∷ 0 ∷ 0 ∷ []) ∷ (5 ∷ 49152 ∷ 0 ∷ 0 ∷ []) ∷ (6 ∷ 49152 ∷ 0 ∷ 0 ∷ [])
@@ -267,7 +267,7 @@ runs =
     }
     -- waits for ever
     ∷ record {
-      got = after-calls 4 15 (add [] (0 ∷ []) ∷ add (11 ∷ []) (1 ∷ []) ∷ set 2 ∷ set 3 ∷ add [] (4 ∷ []) ∷ set 6 ∷ set 7 ∷ add [] (8 ∷ []) ∷ set 9 ∷ add [] (10 ∷ [])
+      got = after_calls 4 15 (add [] (0 ∷ []) ∷ add (11 ∷ []) (1 ∷ []) ∷ set 2 ∷ set 3 ∷ add [] (4 ∷ []) ∷ set 6 ∷ set 7 ∷ add [] (8 ∷ []) ∷ set 9 ∷ add [] (10 ∷ [])
           ∷ add [] (11 ∷ []) ∷ flush ∷ add (2 ∷ []) (12 ∷ []) ∷ add (0 ∷ []) (13 ∷ []) ∷ set 14 ∷ []);
       want = ((0 ∷ 0 ∷ 0 ∷ 4 ∷ []) ∷ (2 ∷ 2 ∷ 2 ∷ 4 ∷ []) ∷ (3 ∷ 3 ∷ 3 ∷ 3 ∷ []) ∷ (4 ∷ 4 ∷ 4 ∷ 2 ∷ []) ∷ (5 ∷ 5 ∷ 5 ∷ 1 ∷ []) ∷ [])
           ∷ ((0 ∷ 0 ∷ 0 ∷ 0 ∷ 4 ∷ []) ∷ (0 ∷ 0 ∷ 0 ∷ 0 ∷ 0 ∷ []) ∷ (2 ∷ 2 ∷ 0 ∷ 1 ∷ 4 ∷ []) ∷ (3 ∷ 3 ∷ 0 ∷ 2 ∷ 3 ∷ []) ∷ (4 ∷ 4 ∷ 0 ∷ 3 ∷ 2 ∷ []) ∷ (5 ∷ 5 ∷ 5 ∷ 4 ∷ 1 ∷ [])
@@ -280,10 +280,10 @@ runs =
 
 -- each run's two sides are the same
 pub agree : map (λ r. r.got) runs ≡ map (λ r. r.want) runs
-unfolding runs parallelism parallelism-by last-parallelism annotate released fresh release flush-guide seek found begin choose put settle apply place tallied tally initial member
-    marked tracked run-from watermark greatest ready loc-of later top after spotted reg_of place-one due left queue keep push-stack off rest with-set with-add cascade settle-all
-    do-set do-add with-record note-add note-flush note-final with-flush do-flush do-final verdict any repeats written-by taken pooled check-closed check-places check-set check-add
-    check-flush check-final checks answer apply-call unless-refused step run alone holds stray worn check-push check-flush-alone requests reply location serve serve-step serve-all
-    sum average median-from median counts thousands figures mark-by unfilled fill row-after row_of summary at item keep-zero trimmed window entry held-item joined row rows-from
-    place-row places-from traced figured closing after-calls traced-calls where_to served after-requests traced-requests round size span climb units odd to_bits count_trailing_zeros
+unfolding runs parallelism parallelism_by last_parallelism annotate released fresh release flush_guide seek found begin choose put settle apply place tallied tally initial member
+    marked tracked run_from watermark greatest ready loc_of later top after spotted reg_of place_one due left queue keep push_stack off rest with_set with_add cascade settle_all
+    do_set do_add with_record note_add note_flush note_final with_flush do_flush do_final verdict any repeats written_by taken pooled check_closed check_places check_set check_add
+    check_flush check_final checks answer apply_call unless_refused step run alone holds stray worn check_push check_flush_alone requests reply location serve serve_step serve_all
+    sum average median_from median counts thousands figures mark_by unfilled fill row_after row_of summary at item keep_zero trimmed window entry held_item joined row rows_from
+    place_row places_from traced figured closing after_calls traced_calls where_to served after_requests traced_requests round size span climb units odd to_bits count_trailing_zeros
 agree = refl

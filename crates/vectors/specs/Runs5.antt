@@ -3,24 +3,24 @@ use Rattle.std.specs.Prelude.{◌≡◌, refl, List, [], ◌∷◌, map}
 use Rattle.std.proofs.Math.Option.{none}
 use Rattle.std.specs.Int.Count.{count_trailing_zeros}
 use Rattle.std.specs.Float.Ieee.{round, size, span, climb, units, odd, to_bits}
-use Rattle.rules.specs.Guide.{parallelism, parallelism-by, last-parallelism, annotate, released, fresh, release, flush as flush-guide, seek, found, begin, choose, put, settle}
+use Rattle.rules.specs.Guide.{parallelism, parallelism_by, last_parallelism, annotate, released, fresh, release, flush as flush_guide, seek, found, begin, choose, put, settle}
 use Rattle.rules.specs.Guide.{apply, place, tallied, tally}
-use Rattle.rules.specs.Model.{initial, member, marked, tracked, run-from, watermark, greatest, ready, loc-of, later, top, after, spotted, reg_of, place-one, due, left, queue}
-use Rattle.rules.specs.Model.{keep, push as push-stack, off, rest, with-set, with-add, cascade, settle-all, do-set, do-add, with-record, note-add, note-flush, note-final}
-use Rattle.rules.specs.Model.{with-flush, do-flush, do-final}
-use Rattle.rules.specs.Checks.{verdict, any, repeats, written-by, taken, pooled, check-closed, check-places, check-set, check-add, check-flush, check-final}
-use Rattle.rules.specs.Calls.{checks, answer, apply-call, unless-refused, step, run}
-use Rattle.rules.specs.Alone.{alone, holds, stray, worn, check-push, check-flush-alone, requests, reply, location, serve, serve-step, serve-all, push, flush}
-use Rattle.rules.specs.Summary.{sum, average, median-from, median, counts, thousands, figures}
-use Rattle.rules.specs.Record.{mark-by, unfilled, fill, row-after, row_of, summary}
-use Rattle.vectors.specs.Shown.{Compared, at, item, keep-zero, trimmed, window, entry, held-item, joined, row, rows-from, place-row, places-from, traced, figured, closing}
-use Rattle.vectors.specs.Shown.{after-calls, traced-calls, where_to, served, after-requests, traced-requests}
+use Rattle.rules.specs.Model.{initial, member, marked, tracked, run_from, watermark, greatest, ready, loc_of, later, top, after, spotted, reg_of, place_one, due, left, queue}
+use Rattle.rules.specs.Model.{keep, push as push_stack, off, rest, with_set, with_add, cascade, settle_all, do_set, do_add, with_record, note_add, note_flush, note_final}
+use Rattle.rules.specs.Model.{with_flush, do_flush, do_final}
+use Rattle.rules.specs.Checks.{verdict, any, repeats, written_by, taken, pooled, check_closed, check_places, check_set, check_add, check_flush, check_final}
+use Rattle.rules.specs.Calls.{checks, answer, apply_call, unless_refused, step, run}
+use Rattle.rules.specs.Alone.{alone, holds, stray, worn, check_push, check_flush_alone, requests, reply, location, serve, serve_step, serve_all, push, flush}
+use Rattle.rules.specs.Summary.{sum, average, median_from, median, counts, thousands, figures}
+use Rattle.rules.specs.Record.{mark_by, unfilled, fill, row_after, row_of, summary}
+use Rattle.vectors.specs.Shown.{Compared, at, item, keep_zero, trimmed, window, entry, held_item, joined, row, rows_from, place_row, places_from, traced, figured, closing}
+use Rattle.vectors.specs.Shown.{after_calls, traced_calls, where_to, served, after_requests, traced_requests}
 
 pub runs : List Compared
 runs =
     -- the guide alone: pushes
     record {
-      got = traced-requests 7 512 (push none (item 53 17 64) ∷ push (at 1 0) (item 60 47 75) ∷ push (at 0 0) (item 67 27 1) ∷ push none (item 4 53 46)
+      got = traced_requests 7 512 (push none (item 53 17 64) ∷ push (at 1 0) (item 60 47 75) ∷ push (at 0 0) (item 67 27 1) ∷ push none (item 4 53 46)
           ∷ push (at 1 1) (item 45 95 73) ∷ push (at 1 0) (item 53 64 32) ∷ push (at 1 1) (item 73 89 69) ∷ push (at 2 1) (item 4 82 58) ∷ push (at 2 1) (item 81 16 73)
           ∷ push none (item 18 78 99) ∷ push (at 1 2) (item 43 90 61) ∷ push (at 2 2) (item 37 4 12) ∷ push (at 2 4) (item 31 3 83) ∷ push (at 4 1) (item 74 55 27)
           ∷ push (at 2 4) (item 77 87 10) ∷ push (at 4 0) (item 58 57 45) ∷ push none (item 72 88 34) ∷ push (at 2 4) (item 82 59 63) ∷ push (at 4 3) (item 3 20 0)
@@ -38,7 +38,7 @@ runs =
     }
     -- the guide alone: pushes
     ∷ record {
-      got = traced-requests 5 512 (push none (item 9 44 51) ∷ push (at 1 0) (item 9 19 68) ∷ push none (item 49 35 10) ∷ push none (item 67 93 70) ∷ push none (item 20 78 31)
+      got = traced_requests 5 512 (push none (item 9 44 51) ∷ push (at 1 0) (item 9 19 68) ∷ push none (item 49 35 10) ∷ push none (item 67 93 70) ∷ push none (item 20 78 31)
           ∷ push (at 0 0) (item 64 33 6) ∷ push (at 1 1) (item 99 10 24) ∷ push (at 2 1) (item 47 15 94) ∷ push none (item 40 81 4) ∷ push none (item 97 87 96)
           ∷ push none (item 97 34 32) ∷ push none (item 84 8 59) ∷ push none (item 81 42 35) ∷ push (at 3 0) (item 81 95 95) ∷ push none (item 22 77 86)
           ∷ push none (item 77 85 99) ∷ push (at 2 1) (item 13 13 39) ∷ push (at 3 1) (item 25 14 87) ∷ push none (item 65 38 18) ∷ push none (item 3 25 23)
@@ -56,7 +56,7 @@ runs =
     }
     -- the guide alone: pushes
     ∷ record {
-      got = traced-requests 3 512 (push none (item 59 72 97) ∷ push (at 1 0) (item 53 37 59) ∷ push none (item 12 2 71) ∷ push none (item 23 82 78) ∷ push none (item 67 71 31)
+      got = traced_requests 3 512 (push none (item 59 72 97) ∷ push (at 1 0) (item 53 37 59) ∷ push none (item 12 2 71) ∷ push none (item 23 82 78) ∷ push none (item 67 71 31)
           ∷ push (at 1 1) (item 36 68 56) ∷ push none (item 64 6 90) ∷ push (at 0 3206840229) (item 77 22 94) ∷ push (at 3 1) (item 47 81 1) ∷ push none (item 49 37 46)
           ∷ push (at 2 1) (item 50 35 16) ∷ push (at 3 2) (item 32 13 92) ∷ push (at 5 1) (item 12 36 84) ∷ push (at 4 0) (item 41 85 61) ∷ push (at 0 0) (item 79 59 58)
           ∷ push (at 5 2) (item 89 69 41) ∷ push (at 7 0) (item 43 68 7) ∷ push none (item 57 71 17) ∷ push (at 5 3) (item 13 6 16) ∷ push (at 7 1) (item 1 68 93)
@@ -74,7 +74,7 @@ runs =
     }
     -- the guide alone: pushes
     ∷ record {
-      got = traced-requests 7 512 (push none (item 85 67 44) ∷ push (at 1 0) (item 50 28 51) ∷ push none (item 48 6 65) ∷ push (at 1 0) (item 63 71 33)
+      got = traced_requests 7 512 (push none (item 85 67 44) ∷ push (at 1 0) (item 50 28 51) ∷ push none (item 48 6 65) ∷ push (at 1 0) (item 63 71 33)
           ∷ push (at 0 0) (item 22 27 89) ∷ push (at 1 1) (item 20 39 8) ∷ push (at 2 0) (item 2 14 20) ∷ push (at 1 2) (item 26 73 42) ∷ push none (item 78 86 38)
           ∷ push (at 3 0) (item 52 86 24) ∷ push (at 4 0) (item 8 96 76) ∷ push (at 5 0) (item 86 93 1) ∷ push none (item 11 17 30) ∷ push none (item 84 66 78)
           ∷ push none (item 2 74 30) ∷ push (at 1 4) (item 18 98 68) ∷ push none (item 52 58 63) ∷ push (at 4 0) (item 82 30 85) ∷ push none (item 95 69 99)
@@ -93,7 +93,7 @@ runs =
     }
     -- the guide alone: pushes
     ∷ record {
-      got = traced-requests 1 512 (push none (item 3584397947 2698946010 1486967378) ∷ push none (item 3992525836 590382209 3611153161)
+      got = traced_requests 1 512 (push none (item 3584397947 2698946010 1486967378) ∷ push none (item 3992525836 590382209 3611153161)
           ∷ push none (item 2055465228 1682777438 2784134299) ∷ push (at 2 0) (item 3845108813 2666757820 3744131932) ∷ push (at 3 0) (item 3968017434 4214071250 2075200805)
           ∷ push none (item 3098411358 413382065 563702233) ∷ push (at 6 0) (item 78138960 126571051 3813693999) ∷ push none (item 2115791247 2015111970 382648591)
           ∷ push none (item 2349087226 3372590349 3551129822) ∷ push none (item 361917885 1706766226 1341829441) ∷ push (at 9 0) (item 738794883 1206946543 519737992)
@@ -118,7 +118,7 @@ runs =
     }
     -- the guide alone: pushes
     ∷ record {
-      got = traced-requests 7 512 (push none (item 75 18 39) ∷ push (at 1 0) (item 7 61 40) ∷ push (at 2 0) (item 47 82 1) ∷ push (at 3 0) (item 62 49 85)
+      got = traced_requests 7 512 (push none (item 75 18 39) ∷ push (at 1 0) (item 7 61 40) ∷ push (at 2 0) (item 47 82 1) ∷ push (at 3 0) (item 62 49 85)
           ∷ push (at 4 0) (item 84 91 22) ∷ push (at 5 0) (item 4 35 96) ∷ push (at 6 0) (item 8 38 94) ∷ push (at 7 0) (item 67 35 38) ∷ push (at 8 0) (item 22 31 80)
           ∷ push (at 9 0) (item 16 59 37) ∷ push (at 10 0) (item 70 5 58) ∷ push (at 11 0) (item 96 79 8) ∷ push (at 12 0) (item 20 31 98) ∷ push (at 13 0) (item 61 83 35)
           ∷ push (at 14 0) (item 77 43 22) ∷ push (at 15 0) (item 1 53 0) ∷ push (at 16 0) (item 31 32 57) ∷ push (at 17 0) (item 67 30 82) ∷ push (at 18 0) (item 5 78 93)
@@ -152,7 +152,7 @@ runs =
     }
     -- the guide alone: pushes
     ∷ record {
-      got = traced-requests 1 512 (push none (item 2334435405 1775212137 3133800398) ∷ push (at 1 0) (item 226679060 1961834070 2344930185)
+      got = traced_requests 1 512 (push none (item 2334435405 1775212137 3133800398) ∷ push (at 1 0) (item 226679060 1961834070 2344930185)
           ∷ push (at 1 0) (item 1523474042 905875255 1697355794) ∷ push none (item 2095110703 1907205561 401315615) ∷ push (at 0 0) (item 22000354 347859311 4182573399)
           ∷ push (at 5 0) (item 192945355 2833569006 494504494) ∷ push none (item 4225012762 841628267 2145509420) ∷ push none (item 3861915912 2442111325 302855071)
           ∷ push (at 8 0) (item 763490924 2450311708 4121864015) ∷ push (at 8 0) (item 943055777 4118973134 1506574790) ∷ push (at 10 0) (item 4109799827 4211057640 509476206)
@@ -183,7 +183,7 @@ runs =
     }
     -- the guide alone: pushes
     ∷ record {
-      got = traced-requests 3 512 (push none (item 26 13 7) ∷ push none (item 6 70 61) ∷ push (at 1 0) (item 74 73 91) ∷ push (at 2 0) (item 18 47 65)
+      got = traced_requests 3 512 (push none (item 26 13 7) ∷ push none (item 6 70 61) ∷ push (at 1 0) (item 74 73 91) ∷ push (at 2 0) (item 18 47 65)
           ∷ push (at 1 1) (item 75 21 3) ∷ push none (item 4 35 2) ∷ push none (item 47 59 36) ∷ push (at 2 2) (item 1 71 91) ∷ push (at 2 1) (item 6 91 42)
           ∷ push none (item 4 56 99) ∷ push (at 3 2) (item 58 26 20) ∷ push (at 4 0) (item 66 69 25) ∷ push none (item 8 52 5) ∷ push none (item 56 20 56)
           ∷ push (at 5 0) (item 13 28 61) ∷ push (at 4 2) (item 52 27 3) ∷ push (at 6 0) (item 65 23 54) ∷ push none (item 18 67 62) ∷ push none (item 24 17 5)
@@ -207,7 +207,7 @@ runs =
     }
     -- the guide alone: pushes
     ∷ record {
-      got = after-requests 8 512 (push none (item 86 27 39) ∷ push (at 1 0) (item 90 26 19) ∷ push none (item 51 16 81) ∷ push none (item 32 2 6) ∷ push (at 1 0) (item 47 57 20)
+      got = after_requests 8 512 (push none (item 86 27 39) ∷ push (at 1 0) (item 90 26 19) ∷ push none (item 51 16 81) ∷ push none (item 32 2 6) ∷ push (at 1 0) (item 47 57 20)
           ∷ push none (item 70 28 94) ∷ push (at 2 1) (item 57 78 11) ∷ push none (item 94 12 5) ∷ push (at 1 3) (item 18 18 45) ∷ push (at 1 3) (item 17 24 48)
           ∷ push none (item 27 38 49) ∷ push (at 0 0) (item 77 30 81) ∷ push (at 3 1) (item 97 12 98) ∷ push none (item 68 56 11) ∷ push none (item 7 93 95)
           ∷ push (at 4 0) (item 75 30 75) ∷ flush ∷ push none (item 16 9 90) ∷ push none (item 9 83 27) ∷ push (at 34 1) (item 86 84 57) ∷ push none (item 83 78 48) ∷ flush ∷ []);
@@ -218,7 +218,7 @@ runs =
     }
     -- the guide alone: pushes
     ∷ record {
-      got = after-requests 4 512 (push none (item 6 84 50) ∷ push (at 1 0) (item 23 68 71) ∷ push (at 1 0) (item 65 48 65) ∷ push (at 1 0) (item 23 85 16)
+      got = after_requests 4 512 (push none (item 6 84 50) ∷ push (at 1 0) (item 23 68 71) ∷ push (at 1 0) (item 65 48 65) ∷ push (at 1 0) (item 23 85 16)
           ∷ push (at 1 0) (item 56 82 79) ∷ push (at 2 1) (item 40 47 66) ∷ push (at 2 2) (item 23 8 28) ∷ push (at 4 0) (item 93 87 91) ∷ push (at 2 3) (item 34 31 27)
           ∷ push (at 2 3) (item 28 35 13) ∷ push none (item 55 0 70) ∷ push (at 4 3) (item 40 15 33) ∷ push (at 3 0) (item 45 75 79) ∷ push (at 4 3) (item 84 15 12)
           ∷ push (at 6 1) (item 49 57 36) ∷ push (at 4 1) (item 1 56 89) ∷ push (at 5 1) (item 48 7 94) ∷ push (at 8 0) (item 66 32 43) ∷ push (at 9 0) (item 98 49 93)
@@ -230,7 +230,7 @@ runs =
     }
     -- the guide alone: pushes
     ∷ record {
-      got = after-requests 2 512 (push none (item 95 1 68) ∷ push (at 1 0) (item 81 26 9) ∷ push (at 1 0) (item 25 39 28) ∷ push (at 2 1) (item 46 4 12)
+      got = after_requests 2 512 (push none (item 95 1 68) ∷ push (at 1 0) (item 81 26 9) ∷ push (at 1 0) (item 25 39 28) ∷ push (at 2 1) (item 46 4 12)
           ∷ push (at 4 0) (item 42 46 38) ∷ push (at 5 0) (item 17 35 6) ∷ push (at 6 0) (item 88 72 54) ∷ push (at 7 0) (item 32 42 37) ∷ push (at 0 0) (item 62 37 66)
           ∷ push (at 2 2) (item 22 83 8) ∷ push (at 4 1) (item 35 50 76) ∷ push (at 2 2) (item 21 43 69) ∷ push (at 5 1) (item 95 3 15) ∷ push (at 5 2) (item 17 68 92)
           ∷ push (at 6 1) (item 13 42 43) ∷ push (at 6 1) (item 44 1 2) ∷ push (at 9 0) (item 12 64 44) ∷ push (at 10 0) (item 22 68 22) ∷ push (at 9 0) (item 77 6 48)
@@ -242,7 +242,7 @@ runs =
     }
     -- the guide alone: pushes
     ∷ record {
-      got = after-requests 6 512 (push none (item 93 22 85) ∷ push (at 1 0) (item 73 74 65) ∷ push (at 1 0) (item 25 79 95) ∷ push (at 2 0) (item 70 65 55)
+      got = after_requests 6 512 (push none (item 93 22 85) ∷ push (at 1 0) (item 73 74 65) ∷ push (at 1 0) (item 25 79 95) ∷ push (at 2 0) (item 70 65 55)
           ∷ push (at 1 0) (item 91 8 30) ∷ push (at 2 2) (item 3 40 77) ∷ push (at 1 0) (item 58 85 88) ∷ push (at 4 0) (item 7 35 93) ∷ push (at 2 3) (item 21 72 25)
           ∷ push (at 2 1) (item 84 59 2) ∷ push (at 3 0) (item 4 11 69) ∷ push (at 4 0) (item 98 72 42) ∷ push (at 3 1) (item 23 36 76) ∷ push (at 4 1) (item 5 38 99)
           ∷ push (at 3 1) (item 79 2 93) ∷ push (at 3 1) (item 99 85 67) ∷ push (at 5 1) (item 33 18 86) ∷ push (at 4 4) (item 13 59 65) ∷ push (at 5 1) (item 49 58 17)
@@ -256,7 +256,7 @@ runs =
     }
     -- the guide alone: pushes
     ∷ record {
-      got = after-requests 8 512 (push none (item 25 69 39) ∷ push (at 1 0) (item 76 93 91) ∷ push (at 1 0) (item 73 69 39) ∷ push (at 1 0) (item 50 33 91)
+      got = after_requests 8 512 (push none (item 25 69 39) ∷ push (at 1 0) (item 76 93 91) ∷ push (at 1 0) (item 73 69 39) ∷ push (at 1 0) (item 50 33 91)
           ∷ push (at 1 0) (item 42 32 95) ∷ push (at 1 0) (item 29 47 53) ∷ push (at 2 0) (item 20 15 52) ∷ push (at 2 0) (item 92 11 95) ∷ push (at 1 0) (item 11 42 79)
           ∷ push (at 2 0) (item 49 25 27) ∷ push (at 2 1) (item 71 64 31) ∷ push (at 2 5) (item 56 95 68) ∷ push (at 2 3) (item 69 65 53) ∷ push (at 3 3) (item 55 75 55)
           ∷ push (at 3 1) (item 76 54 65) ∷ push (at 3 0) (item 81 5 42) ∷ push none (item 74 75 89) ∷ push none (item 50 36 13) ∷ push (at 4 0) (item 16 68 47)
@@ -269,7 +269,7 @@ runs =
     }
     -- the guide alone: pushes
     ∷ record {
-      got = after-requests 8 512 (push none (item 88 35 56) ∷ push none (item 26 70 37) ∷ push none (item 24 15 36) ∷ push (at 1 2) (item 47 88 9) ∷ push (at 1 2) (item 9 18 73)
+      got = after_requests 8 512 (push none (item 88 35 56) ∷ push none (item 26 70 37) ∷ push none (item 24 15 36) ∷ push (at 1 2) (item 47 88 9) ∷ push (at 1 2) (item 9 18 73)
           ∷ push (at 3 0) (item 36 20 93) ∷ push (at 3 1) (item 53 46 10) ∷ push (at 1 1) (item 64 86 89) ∷ push (at 4 0) (item 16 69 19) ∷ push none (item 3 42 12)
           ∷ push (at 4 0) (item 73 47 89) ∷ push none (item 1 53 47) ∷ push none (item 54 67 77) ∷ push none (item 41 1 30) ∷ push none (item 57 36 92)
           ∷ push (at 1 6) (item 41 63 75) ∷ push (at 5 0) (item 47 13 62) ∷ push (at 1 3) (item 87 18 40) ∷ push (at 0 282815501) (item 1 75 66) ∷ push (at 0 0) (item 17 57 85)
@@ -281,7 +281,7 @@ runs =
     }
     -- the guide alone: pushes
     ∷ record {
-      got = after-requests 6 512 (push none (item 7 77 14) ∷ push (at 1 0) (item 35 24 69) ∷ push none (item 28 88 52) ∷ push (at 2 0) (item 57 40 70)
+      got = after_requests 6 512 (push none (item 7 77 14) ∷ push (at 1 0) (item 35 24 69) ∷ push none (item 28 88 52) ∷ push (at 2 0) (item 57 40 70)
           ∷ push (at 2 0) (item 57 53 72) ∷ push (at 2 0) (item 58 4 54) ∷ push (at 2 0) (item 36 75 76) ∷ push (at 1 0) (item 94 1 75) ∷ push (at 1 1) (item 55 56 58)
           ∷ push (at 3 3) (item 12 74 3) ∷ push none (item 20 82 40) ∷ push none (item 52 42 24) ∷ push (at 2 0) (item 57 31 30) ∷ push none (item 54 73 68)
           ∷ push none (item 34 49 49) ∷ push (at 1 2) (item 56 5 29) ∷ push none (item 32 9 47) ∷ push (at 1 4) (item 82 84 14) ∷ push (at 2 5) (item 23 18 47)
@@ -295,7 +295,7 @@ runs =
     }
     -- the guide alone: pushes
     ∷ record {
-      got = after-requests 2 512 (push none (item 40 84 88) ∷ push (at 0 0) (item 47 60 41) ∷ push none (item 11 6 33) ∷ push (at 1 1) (item 85 92 86)
+      got = after_requests 2 512 (push none (item 40 84 88) ∷ push (at 0 0) (item 47 60 41) ∷ push none (item 11 6 33) ∷ push (at 1 1) (item 85 92 86)
           ∷ push (at 2 1) (item 54 83 42) ∷ push none (item 17 39 86) ∷ push (at 3 0) (item 70 16 64) ∷ push none (item 1 50 57) ∷ push (at 4 1) (item 43 98 96)
           ∷ push (at 4 1) (item 62 72 31) ∷ push none (item 82 33 84) ∷ push none (item 85 44 69) ∷ push (at 6 1) (item 67 76 39) ∷ push none (item 2 29 57)
           ∷ push none (item 77 86 45) ∷ push none (item 75 6 97) ∷ push none (item 8 73 76) ∷ push (at 9 0) (item 97 29 53) ∷ push (at 9 1) (item 87 17 33)
@@ -312,10 +312,10 @@ runs =
 
 -- each run's two sides are the same
 pub agree : map (λ r. r.got) runs ≡ map (λ r. r.want) runs
-unfolding runs parallelism parallelism-by last-parallelism annotate released fresh release flush-guide seek found begin choose put settle apply place tallied tally initial member
-    marked tracked run-from watermark greatest ready loc-of later top after spotted reg_of place-one due left queue keep push-stack off rest with-set with-add cascade settle-all
-    do-set do-add with-record note-add note-flush note-final with-flush do-flush do-final verdict any repeats written-by taken pooled check-closed check-places check-set check-add
-    check-flush check-final checks answer apply-call unless-refused step run alone holds stray worn check-push check-flush-alone requests reply location serve serve-step serve-all
-    sum average median-from median counts thousands figures mark-by unfilled fill row-after row_of summary at item keep-zero trimmed window entry held-item joined row rows-from
-    place-row places-from traced figured closing after-calls traced-calls where_to served after-requests traced-requests round size span climb units odd to_bits count_trailing_zeros
+unfolding runs parallelism parallelism_by last_parallelism annotate released fresh release flush_guide seek found begin choose put settle apply place tallied tally initial member
+    marked tracked run_from watermark greatest ready loc_of later top after spotted reg_of place_one due left queue keep push_stack off rest with_set with_add cascade settle_all
+    do_set do_add with_record note_add note_flush note_final with_flush do_flush do_final verdict any repeats written_by taken pooled check_closed check_places check_set check_add
+    check_flush check_final checks answer apply_call unless_refused step run alone holds stray worn check_push check_flush_alone requests reply location serve serve_step serve_all
+    sum average median_from median counts thousands figures mark_by unfilled fill row_after row_of summary at item keep_zero trimmed window entry held_item joined row rows_from
+    place_row places_from traced figured closing after_calls traced_calls where_to served after_requests traced_requests round size span climb units odd to_bits count_trailing_zeros
 agree = refl

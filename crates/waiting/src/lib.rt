@@ -1,7 +1,7 @@
 // The waiting storage as a whole. A head for each place and a link for each registration are registrar's, a cell for each registration
 // pool's, a flag for each place taken's; each of those crates alone knows where its part lies, and specs/Apart says that they do not meet.
 ghost use Rattle.std.specs.Prelude.{◌≤◌, length};
-ghost use Rattle.rules.specs.Checks.{waiting-needed};
+ghost use Rattle.rules.specs.Checks.{waiting_needed};
 ghost use Rattle.waiting.specs.Cleared.{Emptied};
 
 // The numbers that a place needs.
@@ -9,7 +9,7 @@ pub const SIZE: usize = 4;
 
 // Nothing waits and no place is taken.
 pub fn clear(waiting: &mut [u64], v: usize)
-    requires { waiting-needed v ≤ length waiting.old }
+    requires { waiting_needed v ≤ length waiting.old }
     ensures { Emptied v waiting.old waiting.new }
 {
     registrar::clear(waiting, v);

@@ -26,16 +26,16 @@ wrote_then {a} {b} {c} {at} {m} {r} {t} {u} x y =
     later = split b ∙ ap (drop (length u)) x.rest ∙ sym (split a)
 
 -- a byte
-pub wrote-byte : (out : List ℕ) (at b : ℕ) → at < length out → Wrote out (set out at b) at (at + 1) (b ∷ [])
-wrote-byte out at b h = record { next = refl; holds = rw add-one (take-suc-set out at b h); rest = drop-set-lt (at + 1) out at b (omega arith) }
+pub wrote_byte : (out : List ℕ) (at b : ℕ) → at < length out → Wrote out (set out at b) at (at + 1) (b ∷ [])
+wrote_byte out at b h = record { next = refl; holds = rw add-one (take-suc-set out at b h); rest = drop-set-lt (at + 1) out at b (omega arith) }
 
 -- nothing
 pub wrote_none : (out : List ℕ) (at : ℕ) → Wrote out out at at []
 wrote_none out at = record { next = omega arith; holds = sym (append-nil (take at out)); rest = refl }
 
 -- a word that was copied
-pub wrote-word : (out word : List ℕ) (at : ℕ) → at + length word ≤ length out → Wrote out (paste out at word (length word)) at (at + length word) word
-wrote-word out word at h =
+pub wrote_word : (out word : List ℕ) (at : ℕ) → at + length word ≤ length out → Wrote out (paste out at word (length word)) at (at + length word) word
+wrote_word out word at h =
     record {
       next = refl;
       holds = take-paste out at word (length word) (omega arith) (le_refl (length word)) ∙ ap (λ (l : List ℕ). take at out ++ l) (take-length word);
@@ -43,13 +43,13 @@ wrote-word out word at h =
     }
 
 -- what was copied, by the copy's own promise
-pub wrote-copy : (out word exit : List ℕ) (at : ℕ) → at + length word ≤ length out → exit ≡ paste out at word (length word) → Wrote out exit at (at + length word) word
-wrote-copy out word exit at h e = subst (λ (l : List ℕ). Wrote out l at (at + length word) word) (sym e) (wrote-word out word at h)
+pub wrote_copy : (out word exit : List ℕ) (at : ℕ) → at + length word ≤ length out → exit ≡ paste out at word (length word) → Wrote out exit at (at + length word) word
+wrote_copy out word exit at h e = subst (λ (l : List ℕ). Wrote out l at (at + length word) word) (sym e) (wrote_word out word at h)
 
 -- what was written from the start on lies within the bytes
-pub wrote-in : {a b : List ℕ} {n : ℕ} {t : List ℕ} → Wrote a b 0 n t → n ≤ length b
-wrote-in {a} {b} {n} {t} w = omega (arith, w.next, sym (length-take n b) ∙ ap length w.holds)
+pub wrote_in : {a b : List ℕ} {n : ℕ} {t : List ℕ} → Wrote a b 0 n t → n ≤ length b
+wrote_in {a} {b} {n} {t} w = omega (arith, w.next, sym (length-take n b) ∙ ap length w.holds)
 
 -- and so they are the text, and past it what stood there before
-pub wrote-whole : {a b : List ℕ} {n : ℕ} {t : List ℕ} → Wrote a b 0 n t → b ≡ t ++ drop n a
-wrote-whole {a} {b} {n} {t} w = sym (take-append-drop n b) ∙ ap (λ (y : List ℕ). y ++ drop n b) w.holds ∙ ap (λ (y : List ℕ). t ++ y) w.rest
+pub wrote_whole : {a b : List ℕ} {n : ℕ} {t : List ℕ} → Wrote a b 0 n t → b ≡ t ++ drop n a
+wrote_whole {a} {b} {n} {t} w = sym (take-append-drop n b) ∙ ap (λ (y : List ℕ). y ++ drop n b) w.holds ∙ ap (λ (y : List ℕ). t ++ y) w.rest

@@ -21,12 +21,12 @@ pub record Clearing (a b i : ℕ) (l m : List ℕ) : Type 0 where
   pub zero : (j : ℕ) → a ≤ j → j < i → get_or m j 0 ≡ 0
   pub beyond : drop b m ≡ drop b l
 
-pub clear-start : (a b : ℕ) (l : List ℕ) → a ≤ b → b ≤ length l → Clearing a b a l l
-clear-start a b l h k =
+pub clear_start : (a b : ℕ) (l : List ℕ) → a ≤ b → b ≤ length l → Clearing a b a l l
+clear_start a b l h k =
     record { from = omega arith; upto = h; inside = k; long = refl; before = refl; zero = λ j x y. absurd (omega arith); beyond = refl }
 
-pub clear-turn : (a b i : ℕ) (l m : List ℕ) → i < b → Clearing a b i l m → Clearing a b (i + 1) l (set m i 0)
-clear-turn a b i l m h c =
+pub clear_turn : (a b i : ℕ) (l m : List ℕ) → i < b → Clearing a b i l m → Clearing a b (i + 1) l (set m i 0)
+clear_turn a b i l m h c =
     record {
       from = omega (arith, c.from);
       upto = omega arith;
@@ -40,15 +40,15 @@ clear-turn a b i l m h c =
     go : (j : ℕ) → a ≤ j → j < i + 1 → get_or (set m i 0) j 0 ≡ 0
     go j x y = elim (ℕ_discrete j i) [ yes e ↦ rw e (get_or-set_same m i 0 0 (omega (arith, c.inside, c.long))) | no n ↦ get_or-set_other m i j 0 0 n ∙ c.zero j x (omega (arith, n)) ]
 
-pub clear-end : (a b i : ℕ) (l m : List ℕ) → b ≤ i → Clearing a b i l m → Cleared a b l m
-clear-end a b i l m h c = record { long = c.long; before = c.before; zero = λ j x y. c.zero j x (omega arith); beyond = c.beyond }
+pub clear_end : (a b i : ℕ) (l m : List ℕ) → b ≤ i → Clearing a b i l m → Cleared a b l m
+clear_end a b i l m h c = record { long = c.long; before = c.before; zero = λ j x y. c.zero j x (omega arith); beyond = c.beyond }
 
 -- what lies before a or from b on, number by number
 module _ {a b : ℕ} {l m : List ℕ} (c : Cleared a b l m) where
-  pub cleared-below : (i : ℕ) → i < a → get_or m i 0 ≡ get_or l i 0
-  cleared-below i h = sym (get_or-take a m i 0 h) ∙ ap (λ (x : List ℕ). get_or x i 0) c.before ∙ get_or-take a l i 0 h
+  pub cleared_below : (i : ℕ) → i < a → get_or m i 0 ≡ get_or l i 0
+  cleared_below i h = sym (get_or-take a m i 0 h) ∙ ap (λ (x : List ℕ). get_or x i 0) c.before ∙ get_or-take a l i 0 h
 
-  pub cleared-beyond : (i : ℕ) → b ≤ i → get_or m i 0 ≡ get_or l i 0
-  cleared-beyond i h =
+  pub cleared_beyond : (i : ℕ) → b ≤ i → get_or m i 0 ≡ get_or l i 0
+  cleared_beyond i h =
       let j : b + (i - b) ≡ i = omega arith in
       subst (λ (x : ℕ). get_or m x 0 ≡ get_or l x 0) j (sym (get_or-drop b m (i - b) 0) ∙ ap (λ (x : List ℕ). get_or x (i - b) 0) c.beyond ∙ get_or-drop b l (i - b) 0)

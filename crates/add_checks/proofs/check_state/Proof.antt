@@ -1,5 +1,5 @@
 -- A law for each way out; the storage is what `repeats` left, which is what it was. Assumes nothing.
-use Rattle.add_checks.specs.StateChecks.{may-repeat, may-look, again, occupied, all-added, pool-full, state-good}
+use Rattle.add_checks.specs.StateChecks.{may_repeat, may_look, again, occupied, all_added, pool_full, state_good}
 use mathlib.Core.Path.{◌≡◌, sym, ◌∙◌}
 use mathlib.Core.Bool.{false}
 use Rattle.rules.specs.Checks.{any, repeats}
@@ -28,7 +28,7 @@ none : (c : tie.Else2) → any (taken_at (once (free c)).repeats.new.1.0 (start 
 none c = sym c.before.any-taken.ensures ∙ c.if2.false
 
 repeats-requires : tie.Need-repeats-requires
-repeats-requires c κs = may-repeat c.before.before.before.requires
+repeats-requires c κs = may_repeat c.before.before.before.requires
 
 same_length : tie.Need-same-length
 same_length c = search rules
@@ -37,7 +37,7 @@ returns : tie.Need-returns
 returns c = let r = c.before.before.before in again _ (start r).requires (same r) (sym r.repeats.ensures.answer ∙ c.if1.true)
 
 any-taken-requires : tie.Need-any-taken-requires
-any-taken-requires c κs = let r = once c.before in may-look (start r).pre (same r)
+any-taken-requires c κs = let r = once c.before in may_look (start r).pre (same r)
 
 same-length-2 : tie.Need-same-length-2
 same-length-2 c = search rules
@@ -55,7 +55,7 @@ returns-3 : tie.Need-returns-3
 returns-3 c =
     let e = free c.before in
     let r = once e in
-    all-added _ (start r).pre (same r) (single e) (none c.before) c.if3.true
+    all_added _ (start r).pre (same r) (single e) (none c.before) c.if3.true
 
 sub-if4 : tie.Need-overflow-sub-if4
 sub-if4 c = search rules
@@ -70,7 +70,7 @@ returns-4 : tie.Need-returns-4
 returns-4 c =
     let f = c.before.before in
     let r = once (free f) in
-    pool-full _ (start r).pre (same r) (single (free f)) (none f) c.before.if3.false c.if4.true
+    pool_full _ (start r).pre (same r) (single (free f)) (none f) c.before.if3.false c.if4.true
 
 same-length-5 : tie.Need-same-length-5
 same-length-5 c = search rules
@@ -79,7 +79,7 @@ returns-5 : tie.Need-returns-5
 returns-5 c =
     let f = c.before.before in
     let r = once (free f) in
-    state-good _ (start r).pre (same r) (single (free f)) (none f) c.before.if3.false c.if4.false
+    state_good _ (start r).pre (same r) (single (free f)) (none f) c.before.if3.false c.if4.false
 
 pub check-state-spec : {M : Type 1} → statement M
 check-state-spec =

@@ -2,10 +2,10 @@
 -- are stored and the new registration is on the stack or waits.
 use mathlib.Core.Path.{refl, ◌∙◌}
 use native.Mathlib.Omega.{arith}
-use Rattle.admitting.specs.Promise.{same-waiting}
-use Rattle.admitting.specs.Numbers.{may-check, add-number, may_add}
-use Rattle.admitting.specs.Begun.{admits-not}
-use Rattle.admitting.specs.AddWork.{add-counts, add-stores, add-links, add-admits}
+use Rattle.admitting.specs.Promise.{same_waiting}
+use Rattle.admitting.specs.Numbers.{may_check, add_number, may_add}
+use Rattle.admitting.specs.Begun.{admits_not}
+use Rattle.admitting.specs.AddWork.{add_counts, add_stores, add_links, add_admits}
 use borrow.Author.Rules.{rules}
 use Rattle.admitting.proofs.admit_add.Statement.{statement}
 use Rattle.admitting.proofs.admit_add.Tie as tie
@@ -68,7 +68,7 @@ claim-add-requires : tie.Need-claim-add-requires
 claim-add-requires c κs =
     let at-start-1 = c.before.before.before.before.before in
     let at-start = at-start-1.before.before.before in
-    may-check _ _ _ _ _ c.before.before.before.wide.ensures c.before.greatest.ensures at-start.requires.asks
+    may_check _ _ _ _ _ c.before.before.before.wide.ensures c.before.greatest.ensures at-start.requires.asks
 
 same_length : tie.Need-same-length
 same_length c = search rules
@@ -78,8 +78,8 @@ returns c σ q =
     let at-claim-add = c.before.before.before in
     let at-wide2 = at-claim-add.before.before.before in
     let at_wide = at-wide2.before in
-    admits-not _ _ _ _ _ (add-number _ _ _ _ _ _ _ _ _ at_wide.wide.ensures at-wide2.wide2.ensures at-claim-add.claim-add.ensures) c.if1.true
-    (same-waiting _ _ (at-claim-add.claim-add.ensures.same c.if1.true))
+    admits_not _ _ _ _ _ (add_number _ _ _ _ _ _ _ _ _ at_wide.wide.ensures at-wide2.wide2.ensures at-claim-add.claim-add.ensures) c.if1.true
+    (same_waiting _ _ (at-claim-add.claim-add.ensures.same c.if1.true))
 
 store-lists-requires : tie.Need-store-lists-requires
 store-lists-requires c κs =
@@ -87,7 +87,7 @@ store-lists-requires c κs =
     let at-wide2 = at-claim-add.before.before.before in
     let at_wide = at-wide2.before in
     let at-start = at_wide.before.before.before.before.before in
-    add-stores _ _ _ _ _ _ _ at_wide.wide.ensures at-wide2.wide2.ensures _ (at-claim-add.claim-add.ensures.claims c.before.before.if1.false)
+    add_stores _ _ _ _ _ _ _ at_wide.wide.ensures at-wide2.wide2.ensures _ (at-claim-add.claim-add.ensures.claims c.before.before.if1.false)
     (may_add _ _ _ _ _ _ _ _ _ at_wide.wide.ensures at-wide2.wide2.ensures at-claim-add.claim-add.ensures c.before.before.if1.false
     at-start.requires.asks)
 
@@ -100,7 +100,7 @@ link-new-requires c κs =
     let at-wide2 = at-greatest.before in
     let at_wide = at-wide2.before in
     let at-start = at_wide.before.before.before.before.before in
-    add-links _ _ _ _ _ _ _ at_wide.wide.ensures at-wide2.wide2.ensures _ (at-claim-add.claim-add.ensures.claims at-else-1.if1.false) _ _
+    add_links _ _ _ _ _ _ _ at_wide.wide.ensures at-wide2.wide2.ensures _ (at-claim-add.claim-add.ensures.claims at-else-1.if1.false) _ _
     c.before.before.before.before.before.store-lists.ensures
     (may_add _ _ _ _ _ _ _ _ _ at_wide.wide.ensures at-wide2.wide2.ensures at-claim-add.claim-add.ensures at-else-1.if1.false at-start.requires.asks)
     _ at-greatest.greatest.ensures
@@ -109,7 +109,7 @@ add-t23 : tie.Need-overflow-add-t23
 add-t23 c =
     omega (
       arith,
-      (add-counts _ _ _ _ _ (may_add _ _ _ _ _ _ _ _ _ (at-wide' c).wide.ensures (at-wide2' c).wide2.ensures (at-claim-add' c).claim-add.ensures
+      (add_counts _ _ _ _ _ (may_add _ _ _ _ _ _ _ _ _ (at-wide' c).wide.ensures (at-wide2' c).wide2.ensures (at-claim-add' c).claim-add.ensures
           (at-else-1' c).if1.false (at-start' c).requires.asks)).0,
     )
 
@@ -117,7 +117,7 @@ add-t25 : tie.Need-overflow-add-t25
 add-t25 c =
     omega (
       arith,
-      (add-counts _ _ _ _ _ (may_add _ _ _ _ _ _ _ _ _ (at-wide' c).wide.ensures (at-wide2' c).wide2.ensures (at-claim-add' c).claim-add.ensures
+      (add_counts _ _ _ _ _ (may_add _ _ _ _ _ _ _ _ _ (at-wide' c).wide.ensures (at-wide2' c).wide2.ensures (at-claim-add' c).claim-add.ensures
           (at-else-1' c).if1.false (at-start' c).requires.asks)).3,
     )
 
@@ -132,16 +132,16 @@ add-t26 c =
     let at-start = at_wide.before.before.before.before.before in
     omega (
       arith,
-      (add-counts _ _ _ _ _ (may_add _ _ _ _ _ _ _ _ _ at_wide.wide.ensures at-wide2.wide2.ensures at-claim-add.claim-add.ensures
+      (add_counts _ _ _ _ _ (may_add _ _ _ _ _ _ _ _ _ at_wide.wide.ensures at-wide2.wide2.ensures at-claim-add.claim-add.ensures
           at-else-1.if1.false at-start.requires.asks)).2,
-      at-start.well-formed,
+      at-start.well_formed,
     )
 
 add-t27 : tie.Need-overflow-add-t27
 add-t27 c =
     omega (
       arith,
-      (add-counts _ _ _ _ _ (may_add _ _ _ _ _ _ _ _ _ (at_wide c).wide.ensures (at-wide2 c).wide2.ensures (at-claim-add c).claim-add.ensures
+      (add_counts _ _ _ _ _ (may_add _ _ _ _ _ _ _ _ _ (at_wide c).wide.ensures (at-wide2 c).wide2.ensures (at-claim-add c).claim-add.ensures
           (at-else-1 c).if1.false (at-start c).requires.asks)).1,
     )
 
@@ -153,9 +153,9 @@ same-length-3 c = search rules
 
 returns-2 : tie.Need-returns-2
 returns-2 c σ q =
-    add-admits _ _ _ _ _ _ _ (at_wide c).wide.ensures (at-wide2 c).wide2.ensures _ ((at-claim-add c).claim-add.ensures.claims (at-else-1 c).if1.false)
+    add_admits _ _ _ _ _ _ _ (at_wide c).wide.ensures (at-wide2 c).wide2.ensures _ ((at-claim-add c).claim-add.ensures.claims (at-else-1 c).if1.false)
     _ _ (at-store-lists c).store-lists.ensures _ _ (at-link-new c).link-new.auto.0 ((at-link-new c).link-new.ensures _ refl (at-greatest c).greatest.ensures)
-    _ (add-number _ _ _ _ _ _ _ _ _ (at_wide c).wide.ensures (at-wide2 c).wide2.ensures (at-claim-add c).claim-add.ensures) (at-else-1 c).if1.false q
+    _ (add_number _ _ _ _ _ _ _ _ _ (at_wide c).wide.ensures (at-wide2 c).wide2.ensures (at-claim-add c).claim-add.ensures) (at-else-1 c).if1.false q
 
 pub admit-add-spec : {M : Type 1} → statement M
 admit-add-spec =

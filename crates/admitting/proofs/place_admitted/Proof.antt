@@ -1,6 +1,6 @@
 -- `admitting::place_admitted` meets its contract: the cascade's promise, and the row of an added registration, which is there.
 use mathlib.Core.Path.{◌∙◌}
-use Rattle.admitting.specs.Begun.{places, row-there}
+use Rattle.admitting.specs.Begun.{places, row_there}
 use Rattle.admitting.proofs.place_admitted.Statement.{statement}
 use Rattle.admitting.proofs.place_admitted.Tie as tie
 
@@ -28,7 +28,7 @@ note-latest-requires c κs =
     let at-start-2 = at-start-1.before.before.before.before.before in
     let at-start-3 = at-start-2.before.before.before.before.before in
     let at-start = at-start-3.before in
-    row-there at-start.args.s at-start.args.a _ _ _ at-settle.settle.ensures at-start.requires
+    row_there at-start.args.s at-start.args.a _ _ _ at-settle.settle.ensures at-start.requires
 
 same_length : tie.Need-same-length
 same_length c = (at-settle c).settle.auto.1.0

@@ -3,12 +3,12 @@ use Prim.Native.Nat.{ℕ}
 use lib.ListN.{length}
 use mathlib.Core.Path.{◌≡◌, ◌∙◌}
 use Rattle.rules.specs.Checks.{verdict}
-use Rattle.rules.specs.Alone.{check-alone}
+use Rattle.rules.specs.Alone.{check_alone}
 use borrow.Author.Rules.{rules}
 use Rattle.alone.proofs.check_open.Statement.{statement}
 use Rattle.alone.proofs.check_open.Tie as tie
 
-same_number : (p v m n s o t : ℕ) → m ≡ s → n ≡ o → verdict (check-alone p v m n t) ≡ verdict (check-alone p v s o t)
+same_number : (p v m n s o t : ℕ) → m ≡ s → n ≡ o → verdict (check_alone p v m n t) ≡ verdict (check_alone p v s o t)
 same_number p v m n s o t e f = rw (e, f)
 
 capacity-requires : tie.Need-capacity-requires
@@ -23,7 +23,7 @@ check-open-requires c κs = search rules
 returns : tie.Need-returns
 returns c = let spans = c.before.before in
     let a = spans.before.before.before.before.args in
-    c.check-open.ensures ∙ same_number a.p a.v _ _ _ _ (length a.tally.now) spans.capacity.ensures c.before.capacity2.ensures
+    c.check_open.ensures ∙ same_number a.p a.v _ _ _ _ (length a.tally.now) spans.capacity.ensures c.before.capacity2.ensures
 
 pub check-open-spec : {M : Type 1} → statement M
 check-open-spec = tie.close (tie.spec capacity-requires capacity-requires-2 check-open-requires returns)

@@ -1,5 +1,5 @@
 -- `alone::flush` meets its contract: what an accepted flush has passed is what the guide's core asks. Assumes nothing.
-use Rattle.alone.specs.Flushing.{flush-low, flush-refused, flush-served}
+use Rattle.alone.specs.Flushing.{flush_low, flush_refused, flush_served}
 use Rattle.alone.specs.Pushing.{ready}
 use mathlib.Core.Path.{refl, sym, ◌∙◌}
 use borrow.Author.Rules.{rules}
@@ -27,7 +27,7 @@ returns c =
     let k = c.before in
     let s = start k.before.before in
     let a = s.args in
-    flush-refused a.x a.spans.now a.order.now a.tally.now s.pre k.check-flush.result k.check-flush.ensures c.if1.true
+    flush_refused a.x a.spans.now a.order.now a.tally.now s.pre k.check_flush.result k.check_flush.ensures c.if1.true
 
 flush-requires : tie.Need-flush-requires
 flush-requires c κs =
@@ -37,8 +37,8 @@ flush-requires c κs =
     let sp = a.spans.now in
     let o = a.order.now in
     let t = a.tally.now in
-    let z = sym k.check-flush.ensures ∙ (accepted c).if1.false in
-    (s.pre.stands, ready a.x sp o t s.pre (flush-low a.x sp o t s.pre z))
+    let z = sym k.check_flush.ensures ∙ (accepted c).if1.false in
+    (s.pre.stands, ready a.x sp o t s.pre (flush_low a.x sp o t s.pre z))
 
 same_length : tie.Need-same-length
 same_length c = search rules
@@ -57,8 +57,8 @@ returns-2 c =
     let k = e.before in
     let s = start k.before.before in
     let a = s.args in
-    let z = sym k.check-flush.ensures ∙ e.if1.left in
-    flush-served a.x a.spans.now a.order.now a.tally.now s.pre _ f.last.1.1.0 f.last.1.1.1.0 z refl f.ensures
+    let z = sym k.check_flush.ensures ∙ e.if1.left in
+    flush_served a.x a.spans.now a.order.now a.tally.now s.pre _ f.last.1.1.0 f.last.1.1.1.0 z refl f.ensures
 
 pub flush-spec : {M : Type 1} → statement M
 flush-spec =

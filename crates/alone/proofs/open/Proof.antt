@@ -1,6 +1,6 @@
 -- `alone::open` meets its contract: refused by the checks, or begun. Assumes nothing.
 use mathlib.Core.Path.{sym, ◌∙◌}
-use Rattle.alone.specs.Opening.{fits, open-refused, open-served}
+use Rattle.alone.specs.Opening.{fits, open_refused, open_served}
 use borrow.Author.Rules.{rules}
 use Rattle.alone.proofs.open.Statement.{statement}
 use Rattle.alone.proofs.open.Tie as tie
@@ -22,7 +22,7 @@ returns : tie.Need-returns
 returns c =
     let k = c.before.before in
     let a = (start k).args in
-    open-refused a.p a.v k.check-open.result c.fresh.result a.spans.now a.order.now a.tally.now k.check-open.ensures
+    open_refused a.p a.v k.check_open.result c.fresh.result a.spans.now a.order.now a.tally.now k.check_open.ensures
     c.before.if1.true c.fresh.ensures
 
 begin-requires : tie.Need-begin-requires
@@ -30,7 +30,7 @@ begin-requires c κs =
     let e = c.before in
     let k = e.before in
     let a = (start k).args in
-    fits a.p a.v a.spans.now a.order.now a.tally.now (sym k.check-open.ensures ∙ e.if1.false)
+    fits a.p a.v a.spans.now a.order.now a.tally.now (sym k.check_open.ensures ∙ e.if1.false)
 
 same-length-2 : tie.Need-same-length-2
 same-length-2 c = search rules
@@ -41,7 +41,7 @@ returns-2 c =
     let e = b.before.before in
     let k = e.before in
     let a = (start k).args in
-    open-served a.p a.v k.check-open.result b.begin.result a.spans.now a.order.now a.tally.now k.check-open.ensures
+    open_served a.p a.v k.check_open.result b.begin.result a.spans.now a.order.now a.tally.now k.check_open.ensures
     b.begin.new.0 e.if1.false b.begin.ensures
 
 pub open_spec : {M : Type 1} → statement M

@@ -1,6 +1,6 @@
 -- `alone::push` meets its contract: what an accepted push has passed is what the guide's core asks. Assumes nothing.
 use Rattle.entries.specs.Entries.{item_of}
-use Rattle.alone.specs.Pushing.{ready, low-last, few-pushes, near, push-refused, push-served}
+use Rattle.alone.specs.Pushing.{ready, low_last, few_pushes, near, push_refused, push_served}
 use native.Mathlib.Omega.{arith}
 use mathlib.Core.Path.{refl, sym, ◌∙◌}
 use borrow.Author.Rules.{rules}
@@ -34,8 +34,8 @@ returns c =
     let k = c.before in
     let s = start (begun k) in
     let a = s.args in
-    push-refused a.x a.spans.now a.order.now a.tally.now s.pre a.has a.span a.pos a.value a.added a.accepted
-    k.check-push.result k.check-push.ensures c.if1.true
+    push_refused a.x a.spans.now a.order.now a.tally.now s.pre a.has a.span a.pos a.value a.added a.accepted
+    k.check_push.result k.check_push.ensures c.if1.true
 
 push-requires : tie.Need-push-requires
 push-requires c κs =
@@ -45,9 +45,9 @@ push-requires c κs =
     let sp = a.spans.now in
     let o = a.order.now in
     let t = a.tally.now in
-    let z = sym k.check-push.ensures ∙ (accepted c).if1.false in (
+    let z = sym k.check_push.ensures ∙ (accepted c).if1.false in (
       s.pre.stands,
-      (ready a.x sp o t s.pre (low-last a.x sp o t s.pre a.has a.span a.pos z), near a.x sp o t s.pre a.has a.span a.pos z),
+      (ready a.x sp o t s.pre (low_last a.x sp o t s.pre a.has a.span a.pos z), near a.x sp o t s.pre a.has a.span a.pos z),
     )
 
 add-y : tie.Need-overflow-add-y
@@ -56,8 +56,8 @@ add-y c =
     let k = e.before in
     let s = start (begun k) in
     let a = s.args in
-    let z = sym k.check-push.ensures ∙ e.if1.left in
-    omega (arith, few-pushes a.x a.spans.now a.order.now a.tally.now s.pre a.has a.span a.pos z, s.pre.stands.small)
+    let z = sym k.check_push.ensures ∙ e.if1.left in
+    omega (arith, few_pushes a.x a.spans.now a.order.now a.tally.now s.pre a.has a.span a.pos z, s.pre.stands.small)
 
 same_length : tie.Need-same-length
 same_length c = search rules
@@ -77,8 +77,8 @@ returns-2 c =
     let k = e.before in
     let s = start (begun k) in
     let a = s.args in
-    let z = sym k.check-push.ensures ∙ e.if1.left in
-    push-served a.x a.spans.now a.order.now a.tally.now s.pre a.has a.span a.pos a.value a.added a.accepted _
+    let z = sym k.check_push.ensures ∙ e.if1.left in
+    push_served a.x a.spans.now a.order.now a.tally.now s.pre a.has a.span a.pos a.value a.added a.accepted _
     f.last.1.0 f.last.1.1.0 f.last.1.1.1.0 f.result.span f.result.pos z refl f.ensures
 
 pub push_spec : {M : Type 1} → statement M

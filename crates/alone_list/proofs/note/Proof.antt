@@ -1,5 +1,5 @@
 -- `alone_list::note` meets its contract: two puts, one after the other. Assumes nothing.
-use Rattle.alone_list.specs.Blocks.{block-is}
+use Rattle.alone_list.specs.Blocks.{block_is}
 use Rattle.alone_list.specs.Put.{put_then, put_as}
 use mathlib.Core.List.{◌∷◌, []}
 use lib.ListN.{get_or}
@@ -42,7 +42,7 @@ returns c =
     let l = after-put-lens.put-lens in
     let t = after-told.told in
     let x = a.a.alone in
-    put_as (block-is x a.a.reply t.result.number t.result.span t.result.pos t.ensures)
+    put_as (block_is x a.a.reply t.result.number t.result.span t.result.pos t.ensures)
     (put_then a.at
     (t.result.number ∷ (t.result.span ∷ (t.result.pos ∷ (x.guide.written ∷ (get_or x.guide.window.ids 0 0 ∷ [])))))
     x.guide.window.lens a.answers.now f.new.0 l.new.0 f.ensures l.ensures)

@@ -1,5 +1,5 @@
 -- `alone_list::put_lens` meets its contract. The invariant: the first i lengths are put. Assumes nothing.
-use Rattle.alone_list.specs.Put.{Put, put-none, put-more, put_whole}
+use Rattle.alone_list.specs.Put.{Put, put_none, put_more, put_whole}
 use lib.ListN.{length, take}
 use Prim.Native.Nat.{◌-◌, ◌≤◌, ◌<◌}
 use mathlib.Core.Path.{◌≡◌}
@@ -16,7 +16,7 @@ decreases-loop answers₀ at lens i₀ answers i = 32 - i
 
 loop-holds : tie.Need-loop-init invariant-loop decreases-loop
 loop-holds c = let a = c.args in
-    (omega arith, put-none a.at a.answers.now)
+    (omega arith, put_none a.at a.answers.now)
 
 mul-answers : tie.Need-overflow-mul-answers invariant-loop decreases-loop
 mul-answers c = search rules
@@ -48,7 +48,7 @@ loop-again : tie.Need-loop-preserved invariant-loop decreases-loop
 loop-again c = let a = c.before.before.args in
     let l = c.before.loop in
     let h : l.i < length a.t3 = omega arith in
-    (omega arith, put-more a.at l.i a.t3 a.answers.now l.answers h (omega (arith, c.before.before.requires)) l.invariant.1)
+    (omega arith, put_more a.at l.i a.t3 a.answers.now l.answers h (omega (arith, c.before.before.requires)) l.invariant.1)
 
 same_length : tie.Need-same-length invariant-loop decreases-loop
 same_length c = let a = c.before.before.args in

@@ -1,7 +1,7 @@
 -- `alone_list::replay` meets its contract: malformed, refused by opening, no room for the answers, or all requests run. Assumes nothing.
-use Rattle.alone.specs.Opening.{opening-number, fits}
-use Rattle.alone_list.specs.Requests.{well-formed}
-use Rattle.alone_list.specs.Running.{replay-malformed, replay-refused, replay-no-room, may-run, begun, replay-ran}
+use Rattle.alone.specs.Opening.{opening_number, fits}
+use Rattle.alone_list.specs.Requests.{well_formed}
+use Rattle.alone_list.specs.Running.{replay_malformed, replay_refused, replay_no_room, may_run, begun, replay_ran}
 use mathlib.Core.Bool.{true}
 use mathlib.Core.Path.{◌≡◌, refl, sym, ◌∙◌}
 use borrow.Author.Tests.{not-true, not-false}
@@ -32,14 +32,14 @@ to-run c =
     after-slice-known7.before.before.before.before
 
 -- the numbers are requests; opening is accepted
-formed : (c : tie.After-check-open) → true ≡ well-formed (to_start (to-formed c).before).args.requests.now
+formed : (c : tie.After-check-open) → true ≡ well_formed (to_start (to-formed c).before).args.requests.now
 formed c = let f = to-formed c in
-    sym (not-false _ f.if1.left) ∙ f.before.well-formed.ensures
+    sym (not-false _ f.if1.left) ∙ f.before.well_formed.ensures
 
 accepted : (c : tie.Else2)
     → let a = (to_start (to-formed c.before).before).args in
-    opening-number a.p a.v a.spans.now a.order.now a.tally.now ≡ 0
-accepted c = sym c.before.check-open.ensures ∙ c.if2.false
+    opening_number a.p a.v a.spans.now a.order.now a.tally.now ≡ 0
+accepted c = sym c.before.check_open.ensures ∙ c.if2.false
 
 well-formed-requires : tie.Need-well-formed-requires
 well-formed-requires c κs = search rules
@@ -50,7 +50,7 @@ cast-result c = search rules
 returns : tie.Need-returns
 returns c = let f = c.before in
     let a = (to_start f).args in
-    replay-malformed a.p a.v a.requests.now a.spans.now a.order.now a.tally.now a.answers.now (sym (not-true _ c.if1.true) ∙ f.well-formed-2.ensures)
+    replay_malformed a.p a.v a.requests.now a.spans.now a.order.now a.tally.now a.answers.now (sym (not-true _ c.if1.true) ∙ f.well-formed-2.ensures)
 
 check-open-requires : tie.Need-check-open-requires
 check-open-requires c κs = search rules
@@ -67,7 +67,7 @@ same-length-3 c = search rules
 returns-2 : tie.Need-returns-2
 returns-2 c = let k = c.before in
     let a = (to_start (to-formed k).before).args in
-    replay-refused a.p a.v a.requests.now a.spans.now a.order.now a.tally.now a.answers.now (formed k) k.check-open.result k.check-open.ensures c.if2.true
+    replay_refused a.p a.v a.requests.now a.spans.now a.order.now a.tally.now a.answers.now (formed k) k.check_open.result k.check_open.ensures c.if2.true
 
 cast-result-2 : tie.Need-overflow-cast-result-2
 cast-result-2 c = search rules
@@ -84,7 +84,7 @@ same-length-6 c = search rules
 returns-3 : tie.Need-returns-3
 returns-3 c = let k = c.before.before in
     let a = (to_start (to-formed k).before).args in
-    replay-no-room a.p a.v a.requests.now a.spans.now a.order.now a.tally.now a.answers.now (formed k) (accepted c.before) c.if3.true
+    replay_no_room a.p a.v a.requests.now a.spans.now a.order.now a.tally.now a.answers.now (formed k) (accepted c.before) c.if3.true
 
 begin-requires : tie.Need-begin-requires
 begin-requires c κs = let e = c.before.before in
@@ -98,7 +98,7 @@ run-requires c κs = let b = to-begin c in
     let a = (to_start (to-formed k).before).args in
     let z = accepted room.before in
     let o = begun a.p a.v a.requests.now a.spans.now a.order.now a.tally.now a.answers.now (formed k) z b.begin.ensures in
-    let r = may-run a.p a.v a.requests.now a.spans.now a.order.now a.tally.now a.answers.now (formed k) z room.if3.left in
+    let r = may_run a.p a.v a.requests.now a.spans.now a.order.now a.tally.now a.answers.now (formed k) z room.if3.left in
     (o.held refl, r)
 
 same-length-7 : tie.Need-same-length-7
@@ -119,7 +119,7 @@ returns-4 c = let ran = to-run c in
     let room = to-else3 b in
     let k = room.before.before in
     let a = (to_start (to-formed k).before).args in
-    replay-ran a.p a.v a.requests.now a.spans.now a.order.now a.tally.now a.answers.now (formed k) (accepted room.before)
+    replay_ran a.p a.v a.requests.now a.spans.now a.order.now a.tally.now a.answers.now (formed k) (accepted room.before)
     {x = b.begin.result} {t₁ = b.begin.last.0} room.if3.left b.begin.ensures ran.run.ensures
 
 pub replay-spec : {M : Type 1} → statement M

@@ -1,5 +1,5 @@
 -- `alone_list::run` meets its contract. The invariant says what is still to be run, and that the answers so far are right. Assumes nothing.
-use Rattle.alone_list.specs.Running.{Running, run-begins, run-turn, run_ends}
+use Rattle.alone_list.specs.Running.{Running, run_begins, run_turn, run_ends}
 use Rattle.alone.specs.Held.{model}
 use Prim.Native.Nat.{◌-◌, ◌≤◌}
 use lib.ListN.{length}
@@ -41,7 +41,7 @@ loop-holds : tie.Need-loop-init invariant-loop decreases-loop
 loop-holds c =
     let start = c.before.before.before.before.before in
     let a = start.args in
-    (omega arith, (refl, (refl, (refl, run-begins a.x a.requests.now a.answers.now a.spans.now a.order.now a.tally.now a.n start.requires.0))))
+    (omega arith, (refl, (refl, (refl, run_begins a.x a.requests.now a.answers.now a.spans.now a.order.now a.tally.now a.n start.requires.0))))
 
 serve-requires : tie.Need-serve-requires invariant-loop decreases-loop
 serve-requires c κs =
@@ -89,7 +89,7 @@ add-k c = let a = (to-start-2 c).args in
     let r = l.inv.1.1.1.1 in
     let h = (to-in-loop c).loop-test.true in
     let b = (to-start-2 c).requires.1.1 in
-    let m = (to-start-2 c).well-formed.1.1.1.1.0 in
+    let m = (to-start-2 c).well_formed.1.1.1.1.0 in
     omega arith
 
 loop-less : tie.Need-loop-smaller invariant-loop decreases-loop
@@ -116,7 +116,7 @@ loop-again c =
           s.kept.1.1.0 ∙ l.inv.1.1.0,
           (
             s.kept.1.1.1.0 ∙ l.inv.1.1.1.0,
-            run-turn a.x.guide.p a.x.guide.v a.x.guide.written (model a.x a.spans.now a.order.now)
+            run_turn a.x.guide.p a.x.guide.v a.x.guide.written (model a.x a.spans.now a.order.now)
                 a.spans.now a.order.now a.tally.now a.requests.now a.answers.now a.n l.k l.y
                 s.result.alone l.spans l.order l.tally s.last.1.0 s.last.1.1.0 s.last.1.1.1.0 l.answers
                 w.new.0 s.result.reply h r s.ensures w.ensures,

@@ -1,5 +1,5 @@
 -- `alone_list::serve` meets its contract: each return is one kind of request. Assumes nothing.
-use Rattle.alone_list.specs.Requests.{is-flush, is-push}
+use Rattle.alone_list.specs.Requests.{is_flush, is_push}
 use borrow.Author.Rules.{rules}
 use Rattle.alone_list.proofs.serve.Statement.{statement}
 use Rattle.alone_list.proofs.serve.Tie as tie
@@ -92,7 +92,7 @@ returns c =
     let then1 = after-flush.before.before.before.before in
     let start = to_start then1.before in
     let a = start.args in
-    rw (← is-flush a.requests.now a.k then1.if1.taken) after-flush.flush.ensures
+    rw (← is_flush a.requests.now a.k then1.if1.taken) after-flush.flush.ensures
 
 push-requires : tie.Need-push-requires
 push-requires c κs = search rules
@@ -112,7 +112,7 @@ returns-2 c =
     let else1 = after_push.before.before.before.before in
     let start = to_start else1.before in
     let a = start.args in
-    rw (← is-push a.requests.now a.k else1.if1.left) after_push.push.ensures
+    rw (← is_push a.requests.now a.k else1.if1.left) after_push.push.ensures
 
 pub serve-spec : {M : Type 1} → statement M
 serve-spec =

@@ -2,8 +2,8 @@
 use mathlib.Core.Path.{◌∙◌}
 use native.Mathlib.Omega.{arith}
 use borrow.Author.Rules.{rules}
-use Rattle.session.specs.Placed.{put-push, put_fill}
-use Rattle.ascending_adding.specs.Adding.{top_of, lane-few, ins-located, outs-stamped, may-place, row-there, adds}
+use Rattle.session.specs.Placed.{put_push, put_fill}
+use Rattle.ascending_adding.specs.Adding.{top_of, lane_few, ins_located, outs_stamped, may_place, row_there, adds}
 use Rattle.ascending_adding.proofs.place_new.Statement.{statement}
 use Rattle.ascending_adding.proofs.place_new.Tie as tie
 
@@ -70,10 +70,10 @@ pushed c =
     after-tally.before.before.before.before.before
 
 top-among-requires : tie.Need-top-among-requires
-top-among-requires c κs = ins-located _ _ _ (to_start c).requires
+top-among-requires c κs = ins_located _ _ _ (to_start c).requires
 
 cast-t22 : tie.Need-overflow-cast-t22
-cast-t22 c = omega (arith, lane-few _ _ _ (to_start c.before).requires)
+cast-t22 c = omega (arith, lane_few _ _ _ (to_start c.before).requires)
 
 span-of-requires : tie.Need-span-of-requires
 span-of-requires c κs = search rules
@@ -87,7 +87,7 @@ push-requires c κs =
     let after-span-of = after-position-of.before in
     let after-top-among = after-span-of.before in
     let start = to_start after-top-among.before in
-    put-push (may-place _ _ _ start.pre (top_of after-top-among.top-among.ensures after-span-of.Span-of.ensures after-position-of.position-of.ensures))
+    put_push (may_place _ _ _ start.pre (top_of after-top-among.top-among.ensures after-span-of.Span-of.ensures after-position-of.position-of.ensures))
 
 sub-fill-rows : tie.Need-overflow-sub-fill-rows
 sub-fill-rows c = (to-push c).push.ensures.done.frame.grows
@@ -99,19 +99,19 @@ fill-rows-requires c κs =
     let after-span-of = after-position-of.before in
     let after-top-among = after-span-of.before in
     let start = to_start after-top-among.before in
-    put_fill (may-place _ _ _ start.pre (top_of after-top-among.top-among.ensures after-span-of.Span-of.ensures after-position-of.position-of.ensures)) after_push.push.ensures
+    put_fill (may_place _ _ _ start.pre (top_of after-top-among.top-among.ensures after-span-of.Span-of.ensures after-position-of.position-of.ensures)) after_push.push.ensures
 
 packed-requires : tie.Need-packed-requires
 packed-requires c κs = search rules
 
 stamp-run-requires : tie.Need-stamp-run-requires
-stamp-run-requires c κs = outs-stamped _ _ _ (to-start-2 c.before.before.before.before.before).requires
+stamp-run-requires c κs = outs_stamped _ _ _ (to-start-2 c.before.before.before.before.before).requires
 
 note-written-requires : tie.Need-note-written-requires
 note-written-requires c κs =
     let after-fill-rows = to-fill-rows c in
     let start = to-start-2 after-fill-rows in
-    row-there _ _ _ start.pre after-fill-rows.fill-rows.last.1.0 after-fill-rows.fill-rows.kept.1.0
+    row_there _ _ _ start.pre after-fill-rows.fill-rows.last.1.0 after-fill-rows.fill-rows.kept.1.0
 
 same_length : tie.Need-same-length
 same_length c = (pushed c).push.auto.1.0

@@ -1,8 +1,8 @@
 -- `ascending_calls::close` meets its contract: the number is the model's, and 0 lets the work be done.
 use mathlib.Core.Path.{refl}
-use Rattle.ascending_calls.specs.Numbers.{final-number}
-use Rattle.ascending_session.specs.Promise.{called-refused, called-done, may-do}
-use Rattle.ascending_calls.specs.Flushing.{may-flush, flushes}
+use Rattle.ascending_calls.specs.Numbers.{final_number}
+use Rattle.ascending_session.specs.Promise.{called_refused, called_done, may_do}
+use Rattle.ascending_calls.specs.Flushing.{may_flush, flushes}
 use borrow.Author.Rules.{rules}
 use Rattle.ascending_calls.proofs.close.Statement.{statement}
 use Rattle.ascending_calls.proofs.close.Tie as tie
@@ -23,7 +23,7 @@ check-final-requires : tie.Need-check-final-requires
 check-final-requires c κs = search rules
 
 returns : tie.Need-returns
-returns c = called-refused (final-number c.before.check-final.ensures) c.if1.true
+returns c = called_refused (final_number c.before.check_final.ensures) c.if1.true
 
 do-final-requires : tie.Need-do-final-requires
 do-final-requires c κs =
@@ -31,22 +31,22 @@ do-final-requires c κs =
     let at-start-1 = c.before.before.before.before.before in
     let at-start-2 = at-start-1.before.before.before.before.before in
     let at-start = at-start-2.before.before in
-    may-flush (may-do (final-number at-start-1.check-final.ensures) else1.if1.false at-start.requires)
+    may_flush (may_do (final_number at-start-1.check_final.ensures) else1.if1.false at-start.requires)
 
 same_length : tie.Need-same-length
 same_length c = refl
 
 same-length-2 : tie.Need-same-length-2
-same-length-2 c = (at-do-final c).do-final.auto.1.1.0
+same-length-2 c = (at-do-final c).do_final.auto.1.1.0
 
 same-length-3 : tie.Need-same-length-3
-same-length-3 c = (at-do-final c).do-final.auto.1.1.1.0
+same-length-3 c = (at-do-final c).do_final.auto.1.1.1.0
 
 same-length-4 : tie.Need-same-length-4
-same-length-4 c = (at-do-final c).do-final.auto.1.1.1.1.0
+same-length-4 c = (at-do-final c).do_final.auto.1.1.1.1.0
 
 returns-2 : tie.Need-returns-2
-returns-2 c = called-done (final-number (at-check-final c).check-final.ensures) (at-else-1 c).if1.false (flushes (at-do-final c).do-final.ensures)
+returns-2 c = called_done (final_number (at-check-final c).check_final.ensures) (at-else-1 c).if1.false (flushes (at-do-final c).do_final.ensures)
 
 pub close_spec : {M : Type 1} → statement M
 close_spec =

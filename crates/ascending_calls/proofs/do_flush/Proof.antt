@@ -1,6 +1,6 @@
 -- `ascending_calls::do_flush` meets its contract: what releasing all spans leaves, with one plain flush more.
 use native.Mathlib.Omega.{arith}
-use Rattle.ascending_calls.specs.Flushing.{flush-releases, flush-counts, flush-does}
+use Rattle.ascending_calls.specs.Flushing.{flush_releases, flush_counts, flush_does}
 use Rattle.ascending_calls.proofs.do_flush.Statement.{statement}
 use Rattle.ascending_calls.proofs.do_flush.Tie as tie
 
@@ -19,10 +19,10 @@ release-all-requires : tie.Need-release-all-requires
 release-all-requires c κs =
     let at-start-1 = c.before.before.before.before.before in
     let at-start = at-start-1.before.before.before in
-    flush-releases at-start.requires.may
+    flush_releases at-start.requires.may
 
 add-t14 : tie.Need-overflow-add-t14
-add-t14 c = omega (arith, flush-counts (at-start c).requires.may)
+add-t14 c = omega (arith, flush_counts (at-start c).requires.may)
 
 same_length : tie.Need-same-length
 same_length c = (at-release-all c).release-all.auto.1.1.0
@@ -34,7 +34,7 @@ same-length-3 : tie.Need-same-length-3
 same-length-3 c = (at-release-all c).release-all.auto.1.1.1.1.0
 
 returns : tie.Need-returns
-returns c σ = flush-does (at-release-all c).release-all.ensures
+returns c σ = flush_does (at-release-all c).release-all.ensures
 
 pub do-flush-spec : {M : Type 1} → statement M
 do-flush-spec =

@@ -1,9 +1,9 @@
 -- `ascending_calls::finish` meets its contract: the number is the model's, 0 lets the work be done, and the summary is that of the tally after it.
 use mathlib.Core.Path.{refl}
-use Rattle.ascending_calls.specs.Closing.{not-concluded, final-tallied, concluded}
-use Rattle.ascending_calls.specs.Numbers.{final-number}
-use Rattle.ascending_session.specs.Promise.{called-refused, called-done, may-do}
-use Rattle.ascending_calls.specs.Flushing.{may-flush, flushes}
+use Rattle.ascending_calls.specs.Closing.{not_concluded, final_tallied, concluded}
+use Rattle.ascending_calls.specs.Numbers.{final_number}
+use Rattle.ascending_session.specs.Promise.{called_refused, called_done, may_do}
+use Rattle.ascending_calls.specs.Flushing.{may_flush, flushes}
 use borrow.Author.Rules.{rules}
 use Rattle.ascending_calls.proofs.finish.Statement.{statement}
 use Rattle.ascending_calls.proofs.finish.Tie as tie
@@ -29,7 +29,7 @@ no-summary-requires c κs = search rules
 returns : tie.Need-returns
 returns c =
     let z = c.before.if1.true in
-    not-concluded (called-refused (final-number c.before.before.check-final.ensures) z) z c.no-summary.ensures
+    not_concluded (called_refused (final_number c.before.before.check_final.ensures) z) z c.no-summary.ensures
 
 do-final-requires : tie.Need-do-final-requires
 do-final-requires c κs =
@@ -37,7 +37,7 @@ do-final-requires c κs =
     let at-start-1 = c.before.before.before.before.before in
     let at-start-2 = at-start-1.before.before.before.before.before in
     let at-start = at-start-2.before.before in
-    may-flush (may-do (final-number at-start-1.check-final.ensures) else1.if1.false at-start.requires)
+    may_flush (may_do (final_number at-start-1.check_final.ensures) else1.if1.false at-start.requires)
 
 finalize-requires : tie.Need-finalize-requires
 finalize-requires c κs =
@@ -47,24 +47,24 @@ finalize-requires c κs =
     let at-check-final = at-else-1.before in
     let at-start-1 = at-check-final.before.before.before.before.before in
     let at-start = at-start-1.before.before in
-    final-tallied (called-done (final-number at-check-final.check-final.ensures) at-else-1.if1.false (flushes at-do-final.do-final.ensures))
+    final_tallied (called_done (final_number at-check-final.check_final.ensures) at-else-1.if1.false (flushes at-do-final.do_final.ensures))
     at-start.requires
 
 same_length : tie.Need-same-length
 same_length c = refl
 
 same-length-2 : tie.Need-same-length-2
-same-length-2 c = (at-do-final c).do-final.auto.1.1.0
+same-length-2 c = (at-do-final c).do_final.auto.1.1.0
 
 same-length-3 : tie.Need-same-length-3
-same-length-3 c = (at-do-final c).do-final.auto.1.1.1.0
+same-length-3 c = (at-do-final c).do_final.auto.1.1.1.0
 
 same-length-4 : tie.Need-same-length-4
-same-length-4 c = (at-do-final c).do-final.auto.1.1.1.1.0
+same-length-4 c = (at-do-final c).do_final.auto.1.1.1.1.0
 
 returns-2 : tie.Need-returns-2
 returns-2 c =
-    concluded (called-done (final-number (at-check-final c).check-final.ensures) (at-else-1 c).if1.false (flushes (at-do-final c).do-final.ensures)) refl
+    concluded (called_done (final_number (at-check-final c).check_final.ensures) (at-else-1 c).if1.false (flushes (at-do-final c).do_final.ensures)) refl
     c.finalize.ensures
 
 pub finish_spec : {M : Type 1} → statement M

@@ -1,8 +1,8 @@
 -- `ascending_calls::flush` meets its contract: the number is the model's, and 0 lets the work be done.
 use mathlib.Core.Path.{refl}
-use Rattle.ascending_calls.specs.Numbers.{flush-number}
-use Rattle.ascending_session.specs.Promise.{called-refused, called-done, may-do}
-use Rattle.ascending_calls.specs.Flushing.{may-flush, flushes}
+use Rattle.ascending_calls.specs.Numbers.{flush_number}
+use Rattle.ascending_session.specs.Promise.{called_refused, called_done, may_do}
+use Rattle.ascending_calls.specs.Flushing.{may_flush, flushes}
 use borrow.Author.Rules.{rules}
 use Rattle.ascending_calls.proofs.flush.Statement.{statement}
 use Rattle.ascending_calls.proofs.flush.Tie as tie
@@ -23,7 +23,7 @@ check-flush-requires : tie.Need-check-flush-requires
 check-flush-requires c κs = search rules
 
 returns : tie.Need-returns
-returns c = called-refused (flush-number c.before.check-flush.ensures) c.if1.true
+returns c = called_refused (flush_number c.before.check_flush.ensures) c.if1.true
 
 do-flush-requires : tie.Need-do-flush-requires
 do-flush-requires c κs =
@@ -31,22 +31,22 @@ do-flush-requires c κs =
     let at-start-1 = c.before.before.before.before.before in
     let at-start-2 = at-start-1.before.before.before.before.before in
     let at-start = at-start-2.before.before in
-    may-flush (may-do (flush-number at-start-1.check-flush.ensures) else1.if1.false at-start.requires)
+    may_flush (may_do (flush_number at-start-1.check_flush.ensures) else1.if1.false at-start.requires)
 
 same_length : tie.Need-same-length
 same_length c = refl
 
 same-length-2 : tie.Need-same-length-2
-same-length-2 c = (at-do-flush c).do-flush.auto.1.1.0
+same-length-2 c = (at-do-flush c).do_flush.auto.1.1.0
 
 same-length-3 : tie.Need-same-length-3
-same-length-3 c = (at-do-flush c).do-flush.auto.1.1.1.0
+same-length-3 c = (at-do-flush c).do_flush.auto.1.1.1.0
 
 same-length-4 : tie.Need-same-length-4
-same-length-4 c = (at-do-flush c).do-flush.auto.1.1.1.1.0
+same-length-4 c = (at-do-flush c).do_flush.auto.1.1.1.1.0
 
 returns-2 : tie.Need-returns-2
-returns-2 c = called-done (flush-number (at-check-flush c).check-flush.ensures) (at-else-1 c).if1.false (flushes (at-do-flush c).do-flush.ensures)
+returns-2 c = called_done (flush_number (at-check-flush c).check_flush.ensures) (at-else-1 c).if1.false (flushes (at-do-flush c).do_flush.ensures)
 
 pub flush-spec : {M : Type 1} → statement M
 flush-spec =

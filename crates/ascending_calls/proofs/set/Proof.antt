@@ -1,8 +1,8 @@
 -- `ascending_calls::set` meets its contract: the number is the rules', and 0 lets the lowest place be marked, which is x.
 use native.Mathlib.Omega.{arith}
-use Rattle.ascending_calls.specs.Numbers.{set-number}
-use Rattle.ascending_calls.specs.Setting.{set-inside, set-low, sets-marks}
-use Rattle.ascending_session.specs.Promise.{called-refused, called-done, may-do}
+use Rattle.ascending_calls.specs.Numbers.{set_number}
+use Rattle.ascending_calls.specs.Setting.{set_inside, set_low, sets_marks}
+use Rattle.ascending_session.specs.Promise.{called_refused, called_done, may_do}
 use borrow.Author.Rules.{rules}
 use Rattle.ascending_calls.proofs.set.Statement.{statement}
 use Rattle.ascending_calls.proofs.set.Tie as tie
@@ -26,17 +26,17 @@ check-set-requires : tie.Need-check-set-requires
 check-set-requires c κs = search rules
 
 returns : tie.Need-returns
-returns c = called-refused (set-number c.before.before.wide.ensures c.before.check-set.ensures) c.if1.true
+returns c = called_refused (set_number c.before.before.wide.ensures c.before.check_set.ensures) c.if1.true
 
 set-mark-requires : tie.Need-set-mark-requires
 set-mark-requires c κs =
     let e = c.before in
-    set-inside (may-do (set-number e.before.before.wide.ensures e.before.check-set.ensures) e.if1.false (at-start e).requires)
+    set_inside (may_do (set_number e.before.before.wide.ensures e.before.check_set.ensures) e.if1.false (at-start e).requires)
 
 add-t12 : tie.Need-overflow-add-t12
 add-t12 c =
     let e = at-else-1 c in
-    omega (arith, set-low (may-do (set-number e.before.before.wide.ensures e.before.check-set.ensures) e.if1.left (at-start e).pre))
+    omega (arith, set_low (may_do (set_number e.before.before.wide.ensures e.before.check_set.ensures) e.if1.left (at-start e).pre))
 
 same_length : tie.Need-same-length
 same_length c = (at-set-mark c).set-mark.auto.0
@@ -44,8 +44,8 @@ same_length c = (at-set-mark c).set-mark.auto.0
 returns-2 : tie.Need-returns-2
 returns-2 c =
     let e = at-else-1 c in
-    let h = set-number e.before.before.wide.ensures e.before.check-set.ensures in
-    called-done h e.if1.left (sets-marks (at-set-mark c).set-mark.ensures (may-do h e.if1.left (at-start e).pre))
+    let h = set_number e.before.before.wide.ensures e.before.check_set.ensures in
+    called_done h e.if1.left (sets_marks (at-set-mark c).set-mark.ensures (may_do h e.if1.left (at-start e).pre))
 
 pub set_spec : {M : Type 1} → statement M
 set_spec =

@@ -5,7 +5,7 @@ use Prim.Native.Nat.{◌+◌, ◌-◌, ◌≤◌}
 use borrow.Author.Rules.{rules}
 use native.Mathlib.Omega.{arith}
 use Rattle.rules.specs.Ascending.{ascend}
-use Rattle.ascending_checks.specs.Ascend.{ascend-begins, ascend-more, ascend-stops, ascend-ends}
+use Rattle.ascending_checks.specs.Ascend.{ascend_begins, ascend_more, ascend_stops, ascend_ends}
 use Rattle.ascending_checks.proofs.ascends.Statement.{statement}
 use Rattle.ascending_checks.proofs.ascends.Tie as tie
 
@@ -23,7 +23,7 @@ abbrev turn : tie.After-shared-slice-known invariant-loop decreases-loop → tie
 turn c = c.before
 
 loop-holds : tie.Need-loop-init invariant-loop decreases-loop
-loop-holds c = (omega arith, ascend-begins c.args.lowest c.args.outs.now)
+loop-holds c = (omega arith, ascend_begins c.args.lowest c.args.outs.now)
 
 mul-if1 : tie.Need-overflow-mul-if1 invariant-loop decreases-loop
 mul-if1 c = search rules
@@ -39,7 +39,7 @@ returns c =
     let t = turn c.before in
     let a = (start t.before).args in
     let l = t.before.loop in
-    sym (l.inv.1 ∙ ascend-stops a.lowest a.outs.now l.i t.loop-test.taken c.if1.true)
+    sym (l.inv.1 ∙ ascend_stops a.lowest a.outs.now l.i t.loop-test.taken c.if1.true)
 
 add-i : tie.Need-overflow-add-i invariant-loop decreases-loop
 add-i c = search rules
@@ -52,13 +52,13 @@ loop-again c =
     let t = turn c.before in
     let a = (start t.before).args in
     let l = t.before.loop in
-    (omega arith, l.inv.1 ∙ ascend-more a.lowest a.outs.now l.i t.loop-test.taken c.if1.false)
+    (omega arith, l.inv.1 ∙ ascend_more a.lowest a.outs.now l.i t.loop-test.taken c.if1.false)
 
 returns-2 : tie.Need-returns-2 invariant-loop decreases-loop
 returns-2 c =
     let a = (start c.before).args in
     let l = c.before.loop in
-    sym (l.invariant.1 ∙ ascend-ends a.lowest a.outs.now l.i c.loop-test.false)
+    sym (l.invariant.1 ∙ ascend_ends a.lowest a.outs.now l.i c.loop-test.false)
 
 pub ascends-spec : {M : Type 1} → statement M
 ascends-spec =

@@ -1,13 +1,13 @@
 -- One that passes is accepted; the others have the number that `number` finds. Assumes nothing.
 use borrow.Author.Rules.{rules}
-use Rattle.ascending_checks.specs.Laws.{may-pass, passed}
+use Rattle.ascending_checks.specs.Laws.{may_pass, passed}
 use Rattle.ascending_checks.proofs.check_add.Statement.{statement}
 use Rattle.ascending_checks.proofs.check_add.Tie as tie
 
 passes-requires : tie.Need-passes-requires
 passes-requires c κs =
     let start = c.before.before.before in
-    may-pass start.requires
+    may_pass start.requires
 
 returns : tie.Need-returns
 returns c = passed c.before.passes.ensures c.if1.true

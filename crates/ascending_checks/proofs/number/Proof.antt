@@ -6,7 +6,7 @@ use borrow.Author.Rules.{rules}
 use borrow.Author.Tests.{not-true, not-false}
 use Rattle.rules.specs.Checks.{any, repeats}
 use Rattle.rules.specs.Ascending.{ascend}
-use Rattle.ascending_checks.specs.Laws.{may-repeat, lists-fail, again, outs-break, ins-break, all-added, pool-full, number-good}
+use Rattle.ascending_checks.specs.Laws.{may_repeat, lists_fail, again, outs_break, ins_break, all_added, pool_full, number_good}
 use Rattle.ascending_checks.proofs.number.Statement.{statement}
 use Rattle.ascending_checks.proofs.number.Tie as tie
 
@@ -42,12 +42,12 @@ check-lists-requires : tie.Need-check-lists-requires
 check-lists-requires c κs = search rules
 
 returns : tie.Need-returns
-returns c = lists-fail _ c.before.check-lists.ensures c.if1.true
+returns c = lists_fail _ c.before.check-lists.ensures c.if1.true
 
 repeats-requires : tie.Need-repeats-requires
 repeats-requires c κs =
     let l = c.before in
-    may-repeat _ _ _ _ l.before.check-lists.ensures l.if1.false (start l.before).requires
+    may_repeat _ _ _ _ l.before.check-lists.ensures l.if1.false (start l.before).requires
 
 same_length : tie.Need-same-length
 same_length c = search rules
@@ -69,7 +69,7 @@ returns-3 c =
     let o = c.before.before in
     let r = once o in
     let l = listed r in
-    outs-break _ l.before.check-lists.ensures l.if1.left (begun r).pre r.repeats.ensures.same (single o)
+    outs_break _ l.before.check-lists.ensures l.if1.left (begun r).pre r.repeats.ensures.same (single o)
     (sym c.before.ascends.ensures ∙ not-true _ c.if3.true)
 
 reaches-requires : tie.Need-reaches-requires
@@ -83,7 +83,7 @@ returns-4 c =
     let u = c.before.before in
     let r = once (upward u) in
     let l = listed r in
-    ins-break _ l.before.check-lists.ensures l.if1.left (begun r).pre r.repeats.ensures.same (single (upward u)) (ascending u)
+    ins_break _ l.before.check-lists.ensures l.if1.left (begun r).pre r.repeats.ensures.same (single (upward u)) (ascending u)
     (sym c.before.reaches.ensures ∙ c.if4.true)
 
 same-length-4 : tie.Need-same-length-4
@@ -95,7 +95,7 @@ returns-5 c =
     let u = low b in
     let r = once (upward u) in
     let l = listed r in
-    all-added _ l.before.check-lists.ensures l.if1.left (begun r).pre r.repeats.ensures.same (single (upward u)) (ascending u) (below b) c.if5.true
+    all_added _ l.before.check-lists.ensures l.if1.left (begun r).pre r.repeats.ensures.same (single (upward u)) (ascending u) (below b) c.if5.true
 
 sub-if6 : tie.Need-overflow-sub-if6
 sub-if6 c = search rules
@@ -112,7 +112,7 @@ returns-6 c =
     let u = low b in
     let r = once (upward u) in
     let l = listed r in
-    pool-full _ l.before.check-lists.ensures l.if1.left (begun r).pre r.repeats.ensures.same (single (upward u)) (ascending u) (below b)
+    pool_full _ l.before.check-lists.ensures l.if1.left (begun r).pre r.repeats.ensures.same (single (upward u)) (ascending u) (below b)
     c.before.if5.false c.if6.true
 
 same-length-6 : tie.Need-same-length-6
@@ -124,7 +124,7 @@ returns-7 c =
     let u = low b in
     let r = once (upward u) in
     let l = listed r in
-    number-good _ l.before.check-lists.ensures l.if1.left (begun r).pre r.repeats.ensures.same (single (upward u)) (ascending u) (below b)
+    number_good _ l.before.check-lists.ensures l.if1.left (begun r).pre r.repeats.ensures.same (single (upward u)) (ascending u) (below b)
     c.before.if5.false c.if6.false
 
 pub number-spec : {M : Type 1} → statement M

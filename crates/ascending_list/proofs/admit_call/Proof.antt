@@ -4,11 +4,11 @@ use native.Mathlib.Omega.{arith}
 use borrow.Author.Rules.{rules}
 use Prim.Native.Nat.{ℕ, ◌+◌, ◌≤◌}
 use lib.ListN.{length}
-use Rattle.call_runs.specs.Making.{set-inside, says-set, ins-there, outs-there, add-inside, says-add}
+use Rattle.call_runs.specs.Making.{set_inside, says_set, ins_there, outs_there, add_inside, says_add}
 use mathlib.Core.List.{List}
-use Rattle.ascending_calls.specs.Numbers.{add-number, may-check}
+use Rattle.ascending_calls.specs.Numbers.{add_number, may_check}
 use Rattle.ascending_calls.specs.Setting.{marked}
-use Rattle.ascending_list.specs.Made.{admits-set, admits-add}
+use Rattle.ascending_list.specs.Made.{admits_set, admits_add}
 use Rattle.ascending_list.proofs.admit_call.Statement.{statement}
 use Rattle.ascending_list.proofs.admit_call.Tie as tie
 
@@ -34,7 +34,7 @@ to-past-list2 c =
     after-wide2.before.before.before.before.before
 
 mul-if1 : tie.Need-overflow-mul-if1
-mul-if1 c = let e = c.before.before in omega (arith, e.requires.1.0.inside, e.well-formed)
+mul-if1 c = let e = c.before.before in omega (arith, e.requires.1.0.inside, e.well_formed)
 
 shared-slice-read-if1 : tie.Need-shared-slice-read-if1
 shared-slice-read-if1 c =
@@ -42,13 +42,13 @@ shared-slice-read-if1 c =
     start.requires.1.0.inside
 
 add-admit-set : tie.Need-overflow-add-admit-set
-add-admit-set c = let e = c.before.before.before.before.before in omega (arith, set-inside e.requires.1.0 c.before.if1.true, e.well-formed)
+add-admit-set c = let e = c.before.before.before.before.before in omega (arith, set_inside e.requires.1.0 c.before.if1.true, e.well_formed)
 
 mul-admit-set : tie.Need-overflow-mul-admit-set
-mul-admit-set c = let e = c.before.before.before.before.before in omega (arith, set-inside e.requires.1.0 c.before.if1.true, e.well-formed)
+mul-admit-set c = let e = c.before.before.before.before.before in omega (arith, set_inside e.requires.1.0 c.before.if1.true, e.well_formed)
 
 shared-slice-read-admit-set : tie.Need-shared-slice-read-admit-set
-shared-slice-read-admit-set c = set-inside (to-start-2 c).requires.1.0 c.before.before.if1.true
+shared-slice-read-admit-set c = set_inside (to-start-2 c).requires.1.0 c.before.before.if1.true
 
 admit-set-requires : tie.Need-admit-set-requires
 admit-set-requires c κs = (to-start-2 c).requires.0
@@ -57,7 +57,7 @@ add-t20 : tie.Need-overflow-add-t20
 add-t20 c =
     let then1 = c.before.before.before.before.before in
     let e = to-start-2 c.before.before.before in
-    omega (arith, set-inside e.pre.1.0 then1.if1.true, e.good)
+    omega (arith, set_inside e.pre.1.0 then1.if1.true, e.good)
 
 same_length : tie.Need-same-length
 same_length c = c.before.before.admit-set.auto.1.0
@@ -67,7 +67,7 @@ returns c =
     let after-admit-set = c.before.before in
     let then1 = after-admit-set.before.before.before in
     let start = then1.before.before.before.before in
-    λ σ q. admits-set (says-set start.requires.1.0 then1.if1.true) refl (after-admit-set.admit-set.ensures σ q)
+    λ σ q. admits_set (says_set start.requires.1.0 then1.if1.true) refl (after-admit-set.admit-set.ensures σ q)
 
 add-start-requires : tie.Need-add-start-requires
 add-start-requires c κs = let e = c.before.before.before.before in (e.requires.1.0, e.requires.1.1, c.if1.false)
@@ -75,21 +75,21 @@ add-start-requires c κs = let e = c.before.before.before.before in (e.requires.
 past-list-requires : tie.Need-past-list-requires
 past-list-requires c κs =
     let start = c.before.before.before.before.before in
-    ins-there start.requires.1.0 c.add_start.ensures
+    ins_there start.requires.1.0 c.add_start.ensures
 
 past-list-requires-2 : tie.Need-past-list-requires-2
-past-list-requires-2 c κs = outs-there (to_start c).requires.1.0 c.before.add_start.ensures _ c.past-list.ensures
+past-list-requires-2 c κs = outs_there (to_start c).requires.1.0 c.before.add_start.ensures _ c.past-list.ensures
 
 -- the two lists lie within the numbers
 inside : (c : tie.After-past-list2) → (c.before.before.add_start.result.lists + 1 ≤ c.before.past-list.result)
     × ((c.before.past-list.result + 1 ≤ c.past-list2.result) × (c.past-list2.result ≤ length (to_start c.before).args.calls.now))
-inside c = add-inside (to_start c.before).requires.1.0 c.before.before.add_start.ensures _ c.before.past-list.ensures _ c.past-list2.ensures
+inside c = add_inside (to_start c.before).requires.1.0 c.before.before.add_start.ensures _ c.before.past-list.ensures _ c.past-list2.ensures
 
 add-ins : tie.Need-overflow-add-ins
-add-ins c = omega (arith, inside c.before, (to_start c.before.before).well-formed)
+add-ins c = omega (arith, inside c.before, (to_start c.before.before).well_formed)
 
 mul-ins : tie.Need-overflow-mul-ins
-mul-ins c = omega (arith, inside c.before, (to_start c.before.before).well-formed)
+mul-ins c = omega (arith, inside c.before, (to_start c.before.before).well_formed)
 
 sub-ins : tie.Need-overflow-sub-ins
 sub-ins c = omega (arith, inside c.before)
@@ -100,11 +100,11 @@ part-ins-start c = (inside c.before).0
 part-ins-end : tie.Need-slice-bounds-ins-end
 part-ins-end c = omega (arith, inside c.before)
 
-add-outs : tie.Need-overflow-add-outs
-add-outs c = omega (arith, inside c.before.before, (to_start c.before.before.before).well-formed)
+add_outs : tie.Need-overflow-add-outs
+add_outs c = omega (arith, inside c.before.before, (to_start c.before.before.before).well_formed)
 
 mul-outs : tie.Need-overflow-mul-outs
-mul-outs c = omega (arith, inside c.before.before, (to_start c.before.before.before).well-formed)
+mul-outs c = omega (arith, inside c.before.before, (to_start c.before.before.before).well_formed)
 
 sub-outs : tie.Need-overflow-sub-outs
 sub-outs c = omega (arith, inside c.before.before)
@@ -122,7 +122,7 @@ wide-requires-2 : tie.Need-wide-requires-2
 wide-requires-2 c κs = search rules
 
 check-add-requires : tie.Need-check-add-requires
-check-add-requires c κs = rw c.before.before.wide.ensures (may-check (to-start-3 c).requires.0.asks)
+check-add-requires c κs = rw c.before.before.wide.ensures (may_check (to-start-3 c).requires.0.asks)
 
 add-t14 : tie.Need-overflow-add-t14
 add-t14 c =
@@ -133,7 +133,7 @@ add-t14 c =
 same-length-2 : tie.Need-same-length-2
 same-length-2 c =
     let after-check-add = c.before.before.before in
-    after-check-add.check-add.auto.0
+    after-check-add.check_add.auto.0
 
 returns-2 : tie.Need-returns-2
 returns-2 c =
@@ -146,9 +146,9 @@ returns-2 c =
     λ σ q.
     let lists = to-past-list2 c in
     let within = inside lists in
-    let checked = after-check-add.check-add.ensures in
-    admits-add (says-add start.requires.1.0 after-add-start.add_start.ensures _ after-past-list.past-list.ensures _ lists.past-list2.ensures) refl within.0 within.1.0
-    (add-number after-wide.wide.ensures after-wide2.wide2.ensures checked) (ap (λ (m : List ℕ). marked σ m) checked.same)
+    let checked = after-check-add.check_add.ensures in
+    admits_add (says_add start.requires.1.0 after-add-start.add_start.ensures _ after-past-list.past-list.ensures _ lists.past-list2.ensures) refl within.0 within.1.0
+    (add_number after-wide.wide.ensures after-wide2.wide2.ensures checked) (ap (λ (m : List ℕ). marked σ m) checked.same)
 
 pub admit-call-spec : {M : Type 1} → statement M
 admit-call-spec =
@@ -171,7 +171,7 @@ admit-call-spec =
     sub-ins
     part-ins-start
     part-ins-end
-    add-outs
+    add_outs
     mul-outs
     sub-outs
     part-outs-start

@@ -1,6 +1,6 @@
 -- `ascending_list::make_end` meets its contract: the tag is a flush's or a final's.
 use native.Mathlib.Omega.{arith}
-use Rattle.ascending_list.specs.Made.{made-flush, made-final}
+use Rattle.ascending_list.specs.Made.{made_flush, made_final}
 use Rattle.ascending_list.proofs.make_end.Statement.{statement}
 use Rattle.ascending_list.proofs.make_end.Tie as tie
 
@@ -63,7 +63,7 @@ returns : tie.Need-returns
 returns c =
     let then1 = to-then1 (to-flush c).before in
     let start = to_start then1.before.before in
-    made-flush start.pre.1.0 then1.if1.taken (to-flush c).flush.ensures
+    made_flush start.pre.1.0 then1.if1.taken (to-flush c).flush.ensures
 
 close-requires : tie.Need-close-requires
 close-requires c κs = (to_start (to-else1 c).before.before).requires.0
@@ -91,7 +91,7 @@ returns-2 c =
     let else1 = to-else1 (to-close c).before in
     let start = to_start else1.before.before in
     let e = start.pre.1 in
-    made-final e.0 e.1 else1.if1.left (to-close c).close.ensures
+    made_final e.0 e.1 else1.if1.left (to-close c).close.ensures
 
 pub make-end-spec : {M : Type 1} → statement M
 make-end-spec =

@@ -2,8 +2,8 @@
 use mathlib.Core.Path.{sym, ◌∙◌}
 use borrow.Author.Tests.{not-true, not-false}
 use borrow.Author.Rules.{rules}
-use Rattle.ascending_opening.specs.Opened.{lengths-of}
-use Rattle.ascending_list.specs.Running.{replay-malformed, replay-refused, replay-no-room, may-run, replay-done}
+use Rattle.ascending_opening.specs.Opened.{lengths_of}
+use Rattle.ascending_list.specs.Running.{replay_malformed, replay_refused, replay_no_room, may_run, replay_done}
 use Rattle.ascending_list.proofs.replay.Statement.{statement}
 use Rattle.ascending_list.proofs.replay.Tie as tie
 
@@ -56,7 +56,7 @@ returns : tie.Need-returns
 returns c =
     let after-count-calls = c.before.before.before in
     let d = c.refused.ensures in
-    replay-malformed after-count-calls.count-calls.ensures d.0 d.1 (not-true _ c.before.if1.true)
+    replay_malformed after-count-calls.count-calls.ensures d.0 d.1 (not-true _ c.before.if1.true)
 
 check-open-requires : tie.Need-check-open-requires
 check-open-requires c κs = search rules
@@ -70,7 +70,7 @@ returns-2 c =
     let else1 = after-check-open.before in
     let after-count-calls = else1.before.before in
     let d = c.refused2.ensures in
-    replay-refused after-count-calls.count-calls.ensures (not-false _ else1.if1.false) d.0 d.1 after-check-open.check-open.ensures c.before.if2.true
+    replay_refused after-count-calls.count-calls.ensures (not-false _ else1.if1.false) d.0 d.1 after-check-open.check_open.ensures c.before.if2.true
 
 refused-requires-3 : tie.Need-refused-requires-3
 refused-requires-3 c κs = search rules
@@ -82,7 +82,7 @@ returns-3 c =
     let else1 = after-check-open.before in
     let after-count-calls = else1.before.before in
     let d = c.refused3.ensures in
-    replay-no-room after-count-calls.count-calls.ensures (not-false _ else1.if1.false) d.0 d.1 (sym else2.if2.false ∙ after-check-open.check-open.ensures) c.before.if3.true
+    replay_no_room after-count-calls.count-calls.ensures (not-false _ else1.if1.false) d.0 d.1 (sym else2.if2.false ∙ after-check-open.check_open.ensures) c.before.if3.true
 
 begin-requires : tie.Need-begin-requires
 begin-requires c κs =
@@ -90,8 +90,8 @@ begin-requires c κs =
     let after-check-open = else2.before in
     let start = to_start after-check-open.before.before.before in
     let a = start.args in
-    lengths-of a.p a.v a.spans.now a.order.now a.tally.now a.rows.now a.marks.now a.locations.now
-    (sym else2.if2.left ∙ after-check-open.check-open.ensures)
+    lengths_of a.p a.v a.spans.now a.order.now a.tally.now a.rows.now a.marks.now a.locations.now
+    (sym else2.if2.left ∙ after-check-open.check_open.ensures)
 
 run-calls-requires : tie.Need-run-calls-requires
 run-calls-requires c κs =
@@ -101,8 +101,8 @@ run-calls-requires c κs =
     let after-check-open = else2.before in
     let else1 = after-check-open.before in
     let after-count-calls = else1.before.before in
-    may-run after-count-calls.count-calls.ensures (not-false _ else1.if1.left) else3.if3.left
-    (after-begin.begin.ensures.opens _ _ (sym else2.if2.left ∙ after-check-open.check-open.ensures))
+    may_run after-count-calls.count-calls.ensures (not-false _ else1.if1.left) else3.if3.left
+    (after-begin.begin.ensures.opens _ _ (sym else2.if2.left ∙ after-check-open.check_open.ensures))
 
 same_length : tie.Need-same-length
 same_length c = (ran c).run-calls.auto.1.0
@@ -132,8 +132,8 @@ returns-4 c =
     let after-check-open = else2.before in
     let else1 = after-check-open.before in
     let after-count-calls = else1.before.before in
-    replay-done after-count-calls.count-calls.ensures (not-false _ else1.if1.left) else3.if3.left
-    ((begun c).begin.ensures.opens _ _ (sym else2.if2.left ∙ after-check-open.check-open.ensures)) (ran c).run-calls.ensures
+    replay_done after-count-calls.count-calls.ensures (not-false _ else1.if1.left) else3.if3.left
+    ((begun c).begin.ensures.opens _ _ (sym else2.if2.left ∙ after-check-open.check_open.ensures)) (ran c).run-calls.ensures
 
 pub replay-spec : {M : Type 1} → statement M
 replay-spec =

@@ -4,7 +4,7 @@ use native.Mathlib.Omega.{arith}
 use lib.ListN.{length}
 use Rattle.ascending_session.specs.Slices.{lean}
 use Rattle.ascending_list.specs.Progress.{Leads, going_on, kept}
-use Rattle.ascending_list.specs.Running.{run-begins, run_ends}
+use Rattle.ascending_list.specs.Running.{run_begins, run_ends}
 use Rattle.ascending_list.proofs.run_calls.Statement.{statement}
 use Rattle.ascending_list.proofs.run_calls.Tie as tie
 
@@ -47,7 +47,7 @@ run-past-requires c κs =
     let then1 = to-then1 c in
     let at-loop = then1.before.before in
     let start = to_start at-loop in
-    (going_on (run-begins start.pre) at-loop.loop.inv, then1.if1.taken)
+    (going_on (run_begins start.pre) at-loop.loop.inv, then1.if1.taken)
 
 loop-less : tie.Need-loop-smaller invariant-loop decreases-loop
 loop-less c =
@@ -62,25 +62,25 @@ loop-again c =
     λ P N W all σ₀ out₀ R. after-run-past.run_past.ensures.0 P N W all σ₀ out₀ (at-loop.loop.inv P N W all σ₀ out₀ R)
 
 same_length : tie.Need-same-length invariant-loop decreases-loop
-same_length c = (kept (run-begins (to-start-2 c).requires) (to-at-loop c).loop.invariant).spans
+same_length c = (kept (run_begins (to-start-2 c).requires) (to-at-loop c).loop.invariant).spans
 
 same-length-2 : tie.Need-same-length-2 invariant-loop decreases-loop
-same-length-2 c = (kept (run-begins (to-start-2 c).requires) (to-at-loop c).loop.invariant).order
+same-length-2 c = (kept (run_begins (to-start-2 c).requires) (to-at-loop c).loop.invariant).order
 
 same-length-3 : tie.Need-same-length-3 invariant-loop decreases-loop
-same-length-3 c = (kept (run-begins (to-start-2 c).requires) (to-at-loop c).loop.invariant).tally
+same-length-3 c = (kept (run_begins (to-start-2 c).requires) (to-at-loop c).loop.invariant).tally
 
 same-length-4 : tie.Need-same-length-4 invariant-loop decreases-loop
-same-length-4 c = (kept (run-begins (to-start-2 c).requires) (to-at-loop c).loop.invariant).rows
+same-length-4 c = (kept (run_begins (to-start-2 c).requires) (to-at-loop c).loop.invariant).rows
 
 same-length-5 : tie.Need-same-length-5 invariant-loop decreases-loop
-same-length-5 c = (kept (run-begins (to-start-2 c).requires) (to-at-loop c).loop.invariant).marks
+same-length-5 c = (kept (run_begins (to-start-2 c).requires) (to-at-loop c).loop.invariant).marks
 
 same-length-6 : tie.Need-same-length-6 invariant-loop decreases-loop
-same-length-6 c = (kept (run-begins (to-start-2 c).requires) (to-at-loop c).loop.invariant).locations
+same-length-6 c = (kept (run_begins (to-start-2 c).requires) (to-at-loop c).loop.invariant).locations
 
 same-length-7 : tie.Need-same-length-7 invariant-loop decreases-loop
-same-length-7 c = (kept (run-begins (to-start-2 c).requires) (to-at-loop c).loop.invariant).answers
+same-length-7 c = (kept (run_begins (to-start-2 c).requires) (to-at-loop c).loop.invariant).answers
 
 returns : tie.Need-returns invariant-loop decreases-loop
 returns c = run_ends (to-at-loop c).loop.invariant c.before.if1.false

@@ -6,9 +6,9 @@ use native.Mathlib.Omega.{arith}
 use lib.ListN.{length}
 use borrow.Author.Rules.{rules}
 use Rattle.ascending_session.specs.Slices.{lean}
-use Rattle.ascending_adding.specs.Adding.{add-counts}
-use Rattle.ascending_list.specs.Made.{AdmitsAt, call-asked, call-admitted, made-refused, made-set, may-place, made-add}
-use Rattle.ascending_list.specs.Progress.{Going, Leads, leads-next, going-asks, going-readable, going-room, going_on, kept}
+use Rattle.ascending_adding.specs.Adding.{add_counts}
+use Rattle.ascending_list.specs.Made.{AdmitsAt, call_asked, call_admitted, made_refused, made_set, may_place, made_add}
+use Rattle.ascending_list.specs.Progress.{Going, Leads, leads_next, going_asks, going_readable, going_room, going_on, kept}
 use Rattle.ascending_list.proofs.run_open.Statement.{statement}
 use Rattle.ascending_list.proofs.run_open.Tie as tie
 
@@ -75,7 +75,7 @@ admitted : (c : tie.After-admit-call invariant-loop decreases-loop) →
     let e = (to-turn c).loop in
     AdmitsAt (to_start (to-turn c)).args.calls.now e.at c.admit-call.result e.z
     (lean e.spans e.order e.tally e.rows e.marks e.locations) (lean e.spans e.order e.tally e.rows c.admit-call.new.1.0 e.locations)
-admitted c = call-admitted (going-asks (going (to-turn c))) c.admit-call.ensures
+admitted c = call_admitted (going_asks (going (to-turn c))) c.admit-call.ensures
 
 loop-holds : tie.Need-loop-init invariant-loop decreases-loop
 loop-holds c = (λ P N W all σ₀ out₀ R. R, omega arith)
@@ -95,20 +95,20 @@ admit-call-requires c κs =
     let in-loop = after-ends-run.before.before in
     let at-loop = in-loop.before in
     let g = going at-loop in
-    (call-asked (going-asks g), (going-readable g in-loop.loop-test.true, sym after-ends-run.ends-run.ensures ∙ c.before.if1.false))
+    (call_asked (going_asks g), (going_readable g in-loop.loop-test.true, sym after-ends-run.ends_run.ensures ∙ c.before.if1.false))
 
 mul-answers : tie.Need-overflow-mul-answers invariant-loop decreases-loop
 mul-answers c =
     let in-loop = to-in-loop c in
     let at-loop = in-loop.before in
     let start = to_start at-loop in
-    omega (arith, going-room (going at-loop) in-loop.loop-test.taken, (kept start.pre at-loop.loop.inv.0).answers, start.good)
+    omega (arith, going_room (going at-loop) in-loop.loop-test.taken, (kept start.pre at-loop.loop.inv.0).answers, start.good)
 
 slice-write-answers : tie.Need-slice-write-answers invariant-loop decreases-loop
 slice-write-answers c =
     let in-loop = to-in-loop c in
     let at-loop = in-loop.before in
-    going-room (going at-loop) in-loop.loop-test.taken
+    going_room (going at-loop) in-loop.loop-test.taken
 
 mul-ins : tie.Need-overflow-mul-ins invariant-loop decreases-loop
 mul-ins c = let A = admitted (to-admit-call c) in let x = (A.adds c.if3.true).0 in omega (arith, x.first, x.second, A.says.within, (to_start (to-turn (to-admit-call c))).good)
@@ -122,8 +122,8 @@ part-ins-start c = ((admitted (to-admit-call c)).adds c.if3.true).0.first
 part-ins-end : tie.Need-slice-bounds-ins-end invariant-loop decreases-loop
 part-ins-end c = let A = admitted (to-admit-call c) in omega (arith, (A.adds c.if3.true).0.second, A.says.within)
 
-add-outs : tie.Need-overflow-add-outs invariant-loop decreases-loop
-add-outs c = let A = admitted (to-admit-call-2 c) in omega (arith, (A.adds c.before.if3.true).0.second, A.says.within, (to_start (to-turn (to-admit-call-2 c))).good)
+add_outs : tie.Need-overflow-add-outs invariant-loop decreases-loop
+add_outs c = let A = admitted (to-admit-call-2 c) in omega (arith, (A.adds c.before.if3.true).0.second, A.says.within, (to_start (to-turn (to-admit-call-2 c))).good)
 
 mul-outs : tie.Need-overflow-mul-outs invariant-loop decreases-loop
 mul-outs c = let A = admitted (to-admit-call-2 c) in omega (arith, (A.adds c.before.if3.true).0.second, A.says.within, (to_start (to-turn (to-admit-call-2 c))).good)
@@ -143,7 +143,7 @@ place-new-requires c κs =
     let then2 = then3.before in
     let after-admit-call = then2.before.before.before.before in
     let at-loop = to-turn after-admit-call in
-    may-place (admitted after-admit-call) then2.if2.taken then3.if3.taken (going-asks (going at-loop))
+    may_place (admitted after-admit-call) then2.if2.taken then3.if3.taken (going_asks (going at-loop))
 
 add-z : tie.Need-overflow-add-z invariant-loop decreases-loop
 add-z c =
@@ -151,7 +151,7 @@ add-z c =
     let then2 = then3.before in
     let after-admit-call = then2.before.before.before.before in
     let at-loop = to-turn after-admit-call in
-    omega (arith, add-counts _ _ _ (may-place (admitted after-admit-call) then2.if2.taken then3.if3.taken (going-asks (going at-loop))), c.struct-known2.given)
+    omega (arith, add_counts _ _ _ (may_place (admitted after-admit-call) then2.if2.taken then3.if3.taken (going_asks (going at-loop))), c.struct-known2.given)
 
 add-z-2 : tie.Need-overflow-add-z-2 invariant-loop decreases-loop
 add-z-2 c =
@@ -159,7 +159,7 @@ add-z-2 c =
     let then2 = then3.before in
     let after-admit-call = then2.before.before.before.before in
     let at-loop = to-turn after-admit-call in
-    omega (arith, add-counts _ _ _ (may-place (admitted after-admit-call) then2.if2.taken then3.if3.taken (going-asks (going at-loop))))
+    omega (arith, add_counts _ _ _ (may_place (admitted after-admit-call) then2.if2.taken then3.if3.taken (going_asks (going at-loop))))
 
 add-z-3 : tie.Need-overflow-add-z-3 invariant-loop decreases-loop
 add-z-3 c =
@@ -167,7 +167,7 @@ add-z-3 c =
     let then2 = then3.before in
     let after-admit-call = then2.before.before.before.before in
     let at-loop = to-turn after-admit-call in
-    omega (arith, add-counts _ _ _ (may-place (admitted after-admit-call) then2.if2.taken then3.if3.taken (going-asks (going at-loop))), c.struct-known3.given)
+    omega (arith, add_counts _ _ _ (may_place (admitted after-admit-call) then2.if2.taken then3.if3.taken (going_asks (going at-loop))), c.struct-known3.given)
 
 add-z-4 : tie.Need-overflow-add-z-4 invariant-loop decreases-loop
 add-z-4 c =
@@ -175,7 +175,7 @@ add-z-4 c =
     let then2 = then3.before in
     let after-admit-call = then2.before.before.before.before in
     let at-loop = to-turn after-admit-call in
-    omega (arith, add-counts _ _ _ (may-place (admitted after-admit-call) then2.if2.taken then3.if3.taken (going-asks (going at-loop))), c.struct-known4.given)
+    omega (arith, add_counts _ _ _ (may_place (admitted after-admit-call) then2.if2.taken then3.if3.taken (going_asks (going at-loop))), c.struct-known4.given)
 
 add-z-5 : tie.Need-overflow-add-z-5 invariant-loop decreases-loop
 add-z-5 c = omega (arith, (admitted (to-admit-call-3 c)).low c.before.before.if2.true c.before.if3.false)
@@ -185,7 +185,7 @@ add-n c =
     let in-loop = to-in-loop c.before.before in
     let at-loop = in-loop.before in
     let start = to_start at-loop in
-    omega (arith, going-room (going at-loop) in-loop.loop-test.taken, (kept start.pre at-loop.loop.inv.0).answers, start.good)
+    omega (arith, going_room (going at-loop) in-loop.loop-test.taken, (kept start.pre at-loop.loop.inv.0).answers, start.good)
 
 loop-less : tie.Need-loop-smaller invariant-loop decreases-loop
 loop-less c =
@@ -200,10 +200,10 @@ loop-again c =
     let A = admitted after-admit-call in
     let L = at-loop.loop.inv.0 in (
       ⊎_elim
-          (λ w. leads-next L (made-add A w.0.taken w.1.taken w.10.ensures) w.32 w.26 w.27 w.28 w.29 w.30 w.31)
+          (λ w. leads_next L (made_add A w.0.taken w.1.taken w.10.ensures) w.32 w.26 w.27 w.28 w.29 w.30 w.31)
           (⊎_elim
-          (λ w. leads-next L (made-set A w.0.taken w.1.left) w.9 w.3 w.4 w.5 w.6 w.7 w.8)
-          (λ w. leads-next L (made-refused A w.0.left) w.7 w.1 w.2 w.3 w.4 w.5 w.6))
+          (λ w. leads_next L (made_set A w.0.taken w.1.left) w.9 w.3 w.4 w.5 w.6 w.7 w.8)
+          (λ w. leads_next L (made_refused A w.0.left) w.7 w.1 w.2 w.3 w.4 w.5 w.6))
           c.if2.branch,
       omega (arith, at-loop.loop.inv.1, A.says.past),
     )
@@ -254,7 +254,7 @@ same-length-14 : tie.Need-same-length-14 invariant-loop decreases-loop
 same-length-14 c = (kept (to-start-3 c).requires (to-at-loop c).loop.invariant.0).answers
 
 returns-2 : tie.Need-returns-2 invariant-loop decreases-loop
-returns-2 c = ((to-at-loop c).loop.invariant.0, ((to-at-loop c).loop.invariant.1, λ h. sym c.before.ends-run.ensures ∙ c.if1.true))
+returns-2 c = ((to-at-loop c).loop.invariant.0, ((to-at-loop c).loop.invariant.1, λ h. sym c.before.ends_run.ensures ∙ c.if1.true))
 
 pub run-open-spec : {M : Type 1} → statement M
 run-open-spec =
@@ -273,7 +273,7 @@ run-open-spec =
     sub-ins
     part-ins-start
     part-ins-end
-    add-outs
+    add_outs
     mul-outs
     sub-outs
     part-outs-start

@@ -2,7 +2,7 @@
 use lib.ListN.{length-set}
 use mathlib.Core.Path.{refl, ◌∙◌}
 use native.Mathlib.Omega.{arith}
-use Rattle.ascending_list.specs.Progress.{leads-next, going-asks, going-readable, going-room, going_on}
+use Rattle.ascending_list.specs.Progress.{leads_next, going_asks, going_readable, going_room, going_on}
 use Rattle.ascending_list.proofs.run_past.Statement.{statement}
 use Rattle.ascending_list.proofs.run_past.Tie as tie
 
@@ -86,21 +86,21 @@ make-end-requires c κs =
     let r = after-run-open.run-open.ensures in
     let h = else1.if1.left in
     let g = going_on start.pre.0 r.0 in
-    (going-asks g, (going-readable g h, r.1.1 h))
+    (going_asks g, (going_readable g h, r.1.1 h))
 
 mul-answers : tie.Need-overflow-mul-answers
 mul-answers c =
     let else1 = to-else1 (to-make-end-arg6 c) in
     let after-run-open = to-run-open else1.before in
     let start = to_start after-run-open.before in
-    omega (arith, going-room (going_on start.pre.0 after-run-open.run-open.ensures.0) else1.if1.left, after-run-open.run-open.kept.1.1.1.1.1.1.1.0, start.good)
+    omega (arith, going_room (going_on start.pre.0 after-run-open.run-open.ensures.0) else1.if1.left, after-run-open.run-open.kept.1.1.1.1.1.1.1.0, start.good)
 
 slice-write-answers : tie.Need-slice-write-answers
 slice-write-answers c =
     let else1 = to-else1 (to-make-end-arg6 c) in
     let after-run-open = to-run-open else1.before in
     let start = to_start after-run-open.before in
-    going-room (going_on start.pre.0 after-run-open.run-open.ensures.0) else1.if1.left
+    going_room (going_on start.pre.0 after-run-open.run-open.ensures.0) else1.if1.left
 
 add-t30 : tie.Need-overflow-add-t30
 add-t30 c =
@@ -113,7 +113,7 @@ add-t45 c =
     let else1 = to-else1 (to-make-end-arg6 c.before.before) in
     let after-run-open = to-run-open else1.before in
     let start = to_start after-run-open.before in
-    omega (arith, going-room (going_on start.pre.0 after-run-open.run-open.ensures.0) else1.if1.left, (opened c).run-open.auto.1.1.1.1.1.1.1.0, start.good)
+    omega (arith, going_room (going_on start.pre.0 after-run-open.run-open.ensures.0) else1.if1.left, (opened c).run-open.auto.1.1.1.1.1.1.1.0, start.good)
 
 same-length-8 : tie.Need-same-length-8
 same-length-8 c = (ended c).make-end.auto.1.0 ∙ (opened c).run-open.auto.1.0
@@ -138,7 +138,7 @@ same-length-14 c =
     length-set (opened c).run-open.new.1.1.1.1.1.1.1.0 (opened c).run-open.result.made (ended c).make-end.result.number ∙ (opened c).run-open.auto.1.1.1.1.1.1.1.0
 
 returns-2 : tie.Need-returns-2
-returns-2 c = (leads-next (opened c).run-open.ensures.0 (ended c).make-end.ensures refl refl refl refl refl refl refl, omega (arith, (opened c).run-open.ensures.1.0))
+returns-2 c = (leads_next (opened c).run-open.ensures.0 (ended c).make-end.ensures refl refl refl refl refl refl refl, omega (arith, (opened c).run-open.ensures.1.0))
 
 pub run-past-spec : {M : Type 1} → statement M
 run-past-spec =

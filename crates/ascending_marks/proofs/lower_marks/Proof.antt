@@ -6,7 +6,7 @@ use Prim.Native.Nat.{ℕ, ◌-◌, ◌≤◌, ◌<◌}
 use borrow.Author.Rules.{rules}
 use native.Mathlib.Omega.{arith}
 use Rattle.ascending_marks.specs.Raised.{Unraised, Raises}
-use Rattle.ascending_marks.specs.Raising.{Raising, lower-start, lower_in, lower-next, lower-end}
+use Rattle.ascending_marks.specs.Raising.{Raising, lower_start, lower_in, lower_next, lower_end}
 use Rattle.ascending_marks.proofs.lower_marks.Statement.{statement}
 use Rattle.ascending_marks.proofs.lower_marks.Tie as tie
 
@@ -32,7 +32,7 @@ inside c =
     lower_in p.unraised (c.before.loop.invariant.1 p.before p.unraised p.raises) (omega (arith, c.loop-test.true))
 
 loop-holds : tie.Need-loop-init invariant-loop decreases-loop
-loop-holds c = (refl, λ u f r. lower-start r)
+loop-holds c = (refl, λ u f r. lower_start r)
 
 sub-i : tie.Need-overflow-sub-i invariant-loop decreases-loop
 sub-i c = search rules
@@ -64,13 +64,13 @@ loop-less c = omega arith
 loop-again : tie.Need-loop-preserved invariant-loop decreases-loop
 loop-again c =
     let t = turn c in
-    (length-set t.before.loop.marks _ _ ∙ t.before.loop.inv.0, λ u f r. lower-next f (t.before.loop.inv.1 u f r) (omega (arith, t.loop-test.taken)))
+    (length-set t.before.loop.marks _ _ ∙ t.before.loop.inv.0, λ u f r. lower_next f (t.before.loop.inv.1 u f r) (omega (arith, t.loop-test.taken)))
 
 same_length : tie.Need-same-length invariant-loop decreases-loop
 same_length c = c.before.loop.invariant.0
 
 returns : tie.Need-returns invariant-loop decreases-loop
-returns c = record { back = λ u f r. lower-end (c.before.loop.invariant.1 u f r) c.loop-test.false }
+returns c = record { back = λ u f r. lower_end (c.before.loop.invariant.1 u f r) c.loop-test.false }
 
 pub lower-marks-spec : {M : Type 1} → statement M
 lower-marks-spec =

@@ -1,5 +1,5 @@
 -- What was raised is lowered, and places were left over exactly where they repeat. Assumes nothing.
-use Rattle.ascending_marks.specs.Raising.{repeats-is}
+use Rattle.ascending_marks.specs.Raising.{repeats_is}
 use borrow.Author.Rules.{rules}
 use Rattle.ascending_marks.proofs.repeats.Statement.{statement}
 use Rattle.ascending_marks.proofs.repeats.Tie as tie
@@ -26,7 +26,7 @@ returns : tie.Need-returns
 returns c =
     let l = c.before.before in
     let r = raising l.before in
-    record { answer = repeats-is r.raise-marks.ensures; same = l.lower-marks.ensures.back (start r).args.marks.now (start r).pre r.raise-marks.ensures }
+    record { answer = repeats_is r.raise-marks.ensures; same = l.lower-marks.ensures.back (start r).args.marks.now (start r).pre r.raise-marks.ensures }
 
 pub repeats-spec : {M : Type 1} → statement M
 repeats-spec = tie.close (tie.spec raise-marks-requires lower-marks-requires same_length returns)

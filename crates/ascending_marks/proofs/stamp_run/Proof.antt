@@ -2,14 +2,14 @@
 use Prim.Native.Nat.{◌-◌, ◌≤◌}
 use borrow.Author.Rules.{rules}
 use native.Mathlib.Omega.{arith}
-use Rattle.rules.specs.Limits.{mark-written}
-use Rattle.ascending_marks.specs.Runs.{Running, run-start, run-next, run_end}
+use Rattle.rules.specs.Limits.{mark_written}
+use Rattle.ascending_marks.specs.Runs.{Running, run_start, run_next, run_end}
 use Rattle.ascending_marks.proofs.stamp_run.Statement.{statement}
 use Rattle.ascending_marks.proofs.stamp_run.Tie as tie
 
 abbrev invariant-loop : tie.invariant-loop
 invariant-loop marks₀ locations₀ from n loc j₀ marks locations j =
-    (j ≤ n) × Running from n mark-written marks₀ marks j × Running from n loc locations₀ locations j
+    (j ≤ n) × Running from n mark_written marks₀ marks j × Running from n loc locations₀ locations j
 
 abbrev decreases-loop : tie.decreases-loop
 decreases-loop marks₀ locations₀ from n loc j₀ marks locations j = n - j
@@ -21,7 +21,7 @@ start c = c.before
 loop-holds : tie.Need-loop-init invariant-loop decreases-loop
 loop-holds c =
     let a = c.args in
-    (omega arith, run-start a.from a.n mark-written a.marks.now, run-start a.from a.n a.loc a.locations.now)
+    (omega arith, run_start a.from a.n mark_written a.marks.now, run_start a.from a.n a.loc a.locations.now)
 
 add-marks : tie.Need-overflow-add-marks invariant-loop decreases-loop
 add-marks c = search rules
@@ -51,7 +51,7 @@ loop-again : tie.Need-loop-preserved invariant-loop decreases-loop
 loop-again c =
     let a = (start c.before).args in
     let i = c.before.loop.invariant in
-    (omega arith, run-next a.from a.n i.1 c.loop-test.true, run-next a.from a.n i.2 c.loop-test.true)
+    (omega arith, run_next a.from a.n i.1 c.loop-test.true, run_next a.from a.n i.2 c.loop-test.true)
 
 same_length : tie.Need-same-length invariant-loop decreases-loop
 same_length c = c.before.loop.invariant.1.long
@@ -63,7 +63,7 @@ returns : tie.Need-returns invariant-loop decreases-loop
 returns c =
     let a = (start c.before).args in
     let i = c.before.loop.invariant in
-    record { marks-are = run_end a.from a.n i.1 c.loop-test.false; locations-are = run_end a.from a.n i.2 c.loop-test.false }
+    record { marks_are = run_end a.from a.n i.1 c.loop-test.false; locations_are = run_end a.from a.n i.2 c.loop-test.false }
 
 pub stamp-run-spec : {M : Type 1} → statement M
 stamp-run-spec =

@@ -9,13 +9,13 @@ use native.Mathlib.Nat.{zero-add}
 use native.Mathlib.Omega.{arith}
 use Rattle.lists.specs.Part.{below_at}
 use Rattle.tracking.specs.Tracking.{peak}
-use Rattle.tracking.specs.Loops.{to-peak, peak-begins, peak-less, peak-more, peak-ends}
-use Rattle.ascending_marks.specs.Runs.{part-whole}
+use Rattle.tracking.specs.Loops.{to_peak, peak_begins, peak_less, peak_more, peak_ends}
+use Rattle.ascending_marks.specs.Runs.{part_whole}
 use Rattle.ascending_marks.proofs.top_among.Statement.{statement}
 use Rattle.ascending_marks.proofs.top_among.Tie as tie
 
 abbrev invariant-loop : tie.invariant-loop
-invariant-loop locations places m₀ j₀ m j = (j ≤ length places) × (peak locations places ≡ to-peak places 0 (length places) locations m j)
+invariant-loop locations places m₀ j₀ m j = (j ≤ length places) × (peak locations places ≡ to_peak places 0 (length places) locations m j)
 
 abbrev decreases-loop : tie.decreases-loop
 decreases-loop locations places m₀ j₀ m j = length places - j
@@ -37,7 +37,7 @@ loop-holds : tie.Need-loop-init invariant-loop decreases-loop
 loop-holds c =
     let l = c.args.locations.now in
     let xs = c.args.places.now in
-    (omega arith, ap (peak l) (sym (part-whole xs (length xs) (omega arith))) ∙ peak-begins xs 0 (length xs) (omega arith) l)
+    (omega arith, ap (peak l) (sym (part_whole xs (length xs) (omega arith))) ∙ peak_begins xs 0 (length xs) (omega arith) l)
 
 mul-l : tie.Need-overflow-mul-l invariant-loop decreases-loop
 mul-l c = search rules
@@ -65,12 +65,12 @@ loop-again c =
     let xs = a.places.now in
     let k = t.before.loop in
     let at_x = ap (λ (i : ℕ). get_or l (get_or xs i 0) 0) (zero-add k.j) in
-    let more = peak-more xs 0 (length xs) (omega arith) l k.m k.j t.loop-test.taken in
-    let less = peak-less xs 0 (length xs) (omega arith) l k.m k.j t.loop-test.taken in (
+    let more = peak_more xs 0 (length xs) (omega arith) l k.m k.j t.loop-test.taken in
+    let less = peak_less xs 0 (length xs) (omega arith) l k.m k.j t.loop-test.taken in (
       omega arith,
       k.inv.1
-          ∙ ⊎_elim (λ w. more (omega (arith, w.0.taken, at_x)) ∙ ap (λ (x : ℕ). to-peak xs 0 (length xs) l x (k.j + 1)) (at_x ∙ sym w.1))
-          (λ w. less (omega (arith, w.0.left, at_x)) ∙ ap (λ (x : ℕ). to-peak xs 0 (length xs) l x (k.j + 1)) (sym w.1)) c.if1.branch,
+          ∙ ⊎_elim (λ w. more (omega (arith, w.0.taken, at_x)) ∙ ap (λ (x : ℕ). to_peak xs 0 (length xs) l x (k.j + 1)) (at_x ∙ sym w.1))
+          (λ w. less (omega (arith, w.0.left, at_x)) ∙ ap (λ (x : ℕ). to_peak xs 0 (length xs) l x (k.j + 1)) (sym w.1)) c.if1.branch,
     )
 
 returns : tie.Need-returns invariant-loop decreases-loop
@@ -78,7 +78,7 @@ returns c =
     let a = (start c.before).args in
     let xs = a.places.now in
     let k = c.before.loop in
-    sym (k.invariant.1 ∙ peak-ends xs 0 (length xs) (omega arith) a.locations.now k.m k.j c.loop-test.false)
+    sym (k.invariant.1 ∙ peak_ends xs 0 (length xs) (omega arith) a.locations.now k.m k.j c.loop-test.false)
 
 pub top-among-spec : {M : Type 1} → statement M
 top-among-spec =

@@ -25,10 +25,10 @@ clear-requires : tie.Need-clear-requires
 clear-requires c κs = (to_start c).requires
 
 cast-fresh : tie.Need-overflow-cast-fresh
-cast-fresh c = omega (arith, (to_start (to-clear-arg4 c)).requires.low-p)
+cast-fresh c = omega (arith, (to_start (to-clear-arg4 c)).requires.low_p)
 
 cast-fresh-2 : tie.Need-overflow-cast-fresh-2
-cast-fresh-2 c = omega (arith, (to_start (to-clear-arg4 c)).requires.low-v)
+cast-fresh-2 c = omega (arith, (to_start (to-clear-arg4 c)).requires.low_v)
 
 fresh-requires : tie.Need-fresh-requires
 fresh-requires c κs = search rules

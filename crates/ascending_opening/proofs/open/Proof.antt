@@ -1,6 +1,6 @@
 -- `ascending_opening::open` meets its contract: refused by the checks, or begun.
 use mathlib.Core.Path.{sym, ◌∙◌}
-use Rattle.ascending_opening.specs.Opened.{opens-refused, lengths-of}
+use Rattle.ascending_opening.specs.Opened.{opens_refused, lengths_of}
 use borrow.Author.Rules.{rules}
 use Rattle.ascending_opening.proofs.open.Statement.{statement}
 use Rattle.ascending_opening.proofs.open.Tie as tie
@@ -28,16 +28,16 @@ fresh-requires c κs = search rules
 returns : tie.Need-returns
 returns c =
     let a = (to_start c.before.before).args in
-    let n = c.before.before.check-open in
-    opens-refused a.p a.v a.w a.spans.now a.order.now a.tally.now a.rows.now a.marks.now a.locations.now
+    let n = c.before.before.check_open in
+    opens_refused a.p a.v a.w a.spans.now a.order.now a.tally.now a.rows.now a.marks.now a.locations.now
     n.result c.fresh.result n.ensures c.before.if1.true c.fresh.ensures
 
 begin-requires : tie.Need-begin-requires
 begin-requires c κs =
     let else1 = c.before.before.before.before in
     let a = (to_start else1.before).args in
-    lengths-of a.p a.v a.spans.now a.order.now a.tally.now a.rows.now a.marks.now a.locations.now
-    (sym else1.if1.false ∙ else1.before.check-open.ensures)
+    lengths_of a.p a.v a.spans.now a.order.now a.tally.now a.rows.now a.marks.now a.locations.now
+    (sym else1.if1.false ∙ else1.before.check_open.ensures)
 
 same_length : tie.Need-same-length
 same_length c = (begun c).begin.auto.0
@@ -55,7 +55,7 @@ returns-2 : tie.Need-returns-2
 returns-2 c =
     let o = begun c in
     let else1 = to-else1 o in
-    o.begin.ensures.opens _ _ (sym else1.if1.left ∙ else1.before.check-open.ensures)
+    o.begin.ensures.opens _ _ (sym else1.if1.left ∙ else1.before.check_open.ensures)
 
 pub open_spec : {M : Type 1} → statement M
 open_spec =

@@ -3,10 +3,10 @@ use borrow.Author.Rules.{rules}
 use lib.ListN.{get_or}
 use native.Mathlib.Omega.{arith}
 use Prim.Native.Nat.{◌+◌, ◌≤◌}
-use Rattle.rules.specs.Checks.{spans-needed}
+use Rattle.rules.specs.Checks.{spans_needed}
 use Rattle.buffer.specs.View.{start_of}
 use Rattle.buffer.specs.Rows.{row_ends}
-use Rattle.buffer.specs.Moves.{released-guide, released-order}
+use Rattle.buffer.specs.Moves.{released_guide, released_order}
 use Rattle.buffer.proofs.release.Statement.{statement}
 use Rattle.buffer.proofs.release.Tie as tie
 
@@ -41,14 +41,14 @@ cast-n : tie.Need-overflow-cast-n
 cast-n c = search rules
 
 -- the row of span 0 ends within the span storage
-row_within : (s : tie.Start) → start_of s.args.g 0 + (s.args.g.p + 1) ≤ spans-needed s.args.g.p
+row_within : (s : tie.Start) → start_of s.args.g 0 + (s.args.g.p + 1) ≤ spans_needed s.args.g.p
 row_within s = row_ends s.args.g.p (get_or s.args.g.window.rows 0 0) 32 s.requires.in_rows
 
 append-row-requires : tie.Need-append-row-requires
 append-row-requires c κs =
     let s = to_start c in
     let fit = s.pre in
-    omega (arith, (to-row-start c).row-start.ensures, row_within s, fit.few, fit.one, fit.short, fit.long, fit.next-short, fit.room)
+    omega (arith, (to-row-start c).row_start.ensures, row_within s, fit.few, fit.one, fit.short, fit.long, fit.next_short, fit.room)
 
 rotate-requires : tie.Need-rotate-requires
 rotate-requires c κs = search rules
@@ -63,10 +63,10 @@ same_length : tie.Need-same-length
 same_length c = search rules
 
 returns : tie.Need-returns
-unfolding released-guide released-order
+unfolding released_guide released_order
 returns c =
     let after-append-row = c.before.before.before.before.before in
-    (rw c.before.before.rotate.ensures, rw (to-row-start after-append-row.before).row-start.ensures at after-append-row.append-row.ensures)
+    (rw c.before.before.rotate.ensures, rw (to-row-start after-append-row.before).row_start.ensures at after-append-row.append-row.ensures)
 
 pub release_spec : {M : Type 1} → statement M
 release_spec =

@@ -1,6 +1,6 @@
 -- `call_list::make_end` meets its contract: the tag is a flush's or a final's.
 use native.Mathlib.Omega.{arith}
-use Rattle.call_runs.specs.Making.{end-tag, made-flush, made-final}
+use Rattle.call_runs.specs.Making.{end_tag, made_flush, made_final}
 use Rattle.call_list.proofs.make_end.Statement.{statement}
 use Rattle.call_list.proofs.make_end.Tie as tie
 
@@ -68,7 +68,7 @@ same-length-8 : tie.Need-same-length-8
 same-length-8 c = (to-flush c).flush.auto.1.1.1.1.1.1.1.1.0
 
 returns : tie.Need-returns
-returns c = let b = to-then1 (to-flush c).before in made-flush (to_start b.before.before).requires.1.0 b.if1.taken (to-flush c).flush.ensures
+returns c = let b = to-then1 (to-flush c).before in made_flush (to_start b.before.before).requires.1.0 b.if1.taken (to-flush c).flush.ensures
 
 close-requires : tie.Need-close-requires
 close-requires c κs = (to_start (to-else1 c).before.before).requires.0
@@ -101,8 +101,8 @@ returns-2 : tie.Need-returns-2
 returns-2 c = let f = to-close c in
     let b = to-else1 f.before in
     let t = (to_start b.before.before).requires.1 in
-    let e = end-tag t.1 in
-    made-final t.0 e.0 e.1 e.2 b.if1.left f.close.ensures
+    let e = end_tag t.1 in
+    made_final t.0 e.0 e.1 e.2 b.if1.left f.close.ensures
 
 pub make-end-spec : {M : Type 1} → statement M
 make-end-spec =

@@ -2,8 +2,8 @@
 use mathlib.Core.Path.{sym, ◌∙◌}
 use borrow.Author.Tests.{not-true, not-false}
 use borrow.Author.Rules.{rules}
-use Rattle.opening.specs.Opened.{lengths-of}
-use Rattle.call_list.specs.Running.{replay-malformed, replay-refused, replay-no-room, may-run, replay-done}
+use Rattle.opening.specs.Opened.{lengths_of}
+use Rattle.call_list.specs.Running.{replay_malformed, replay_refused, replay_no_room, may_run, replay_done}
 use Rattle.call_list.proofs.replay.Statement.{statement}
 use Rattle.call_list.proofs.replay.Tie as tie
 
@@ -64,7 +64,7 @@ returns : tie.Need-returns
 returns c =
     let after-count-calls = c.before.before.before in
     let d = c.refused.ensures in
-    replay-malformed after-count-calls.count-calls.ensures d.0 d.1 (not-true _ c.before.if1.true)
+    replay_malformed after-count-calls.count-calls.ensures d.0 d.1 (not-true _ c.before.if1.true)
 
 check-open-requires : tie.Need-check-open-requires
 check-open-requires c κs = search rules
@@ -75,7 +75,7 @@ refused-requires-2 c κs = search rules
 returns-2 : tie.Need-returns-2
 returns-2 c = let k = c.before.before in
     let d = c.refused2.ensures in
-    replay-refused (counted k).count-calls.ensures (not-false _ k.before.if1.false) d.0 d.1 k.check-open.ensures c.before.if2.true
+    replay_refused (counted k).count-calls.ensures (not-false _ k.before.if1.false) d.0 d.1 k.check_open.ensures c.before.if2.true
 
 refused-requires-3 : tie.Need-refused-requires-3
 refused-requires-3 c κs = search rules
@@ -85,21 +85,21 @@ returns-3 c =
     let else2 = c.before.before.before in
     let k = c.before.before.before.before in
     let d = c.refused3.ensures in
-    replay-no-room (counted k).count-calls.ensures (not-false _ k.before.if1.false) d.0 d.1
-    (sym else2.if2.false ∙ k.check-open.ensures) c.before.if3.true
+    replay_no_room (counted k).count-calls.ensures (not-false _ k.before.if1.false) d.0 d.1
+    (sym else2.if2.false ∙ k.check_open.ensures) c.before.if3.true
 
 begin-requires : tie.Need-begin-requires
 begin-requires c κs = let e = c.before.before.before.before.before in
     let a = (to-start-2 c).args in
-    lengths-of a.p a.v a.spans.now a.order.now a.tally.now a.rows.now a.marks.now a.locations.now a.waiting.now a.pool.now
-    (sym e.before.before.if2.false ∙ (checked e).check-open.ensures)
+    lengths_of a.p a.v a.spans.now a.order.now a.tally.now a.rows.now a.marks.now a.locations.now a.waiting.now a.pool.now
+    (sym e.before.before.if2.false ∙ (checked e).check_open.ensures)
 
 run-calls-requires : tie.Need-run-calls-requires
 run-calls-requires c κs = let b = begun c in
     let e = passed b in
     let k = checked e in
-    may-run (counted k).count-calls.ensures (not-false _ k.before.if1.left) e.if3.left
-    (b.begin.ensures.opens _ _ _ (sym e.before.before.if2.left ∙ k.check-open.ensures))
+    may_run (counted k).count-calls.ensures (not-false _ k.before.if1.left) e.if3.left
+    (b.begin.ensures.opens _ _ _ (sym e.before.before.if2.left ∙ k.check_open.ensures))
 
 same_length : tie.Need-same-length
 same_length c = (ran c).run-calls.auto.1.0
@@ -133,8 +133,8 @@ returns-4 c = let r = ran c in
     let b = opened r in
     let e = passed b in
     let k = checked e in
-    replay-done (counted k).count-calls.ensures (not-false _ k.before.if1.left) e.if3.left
-    (b.begin.ensures.opens _ _ _ (sym e.before.before.if2.left ∙ k.check-open.ensures)) r.run-calls.ensures
+    replay_done (counted k).count-calls.ensures (not-false _ k.before.if1.left) e.if3.left
+    (b.begin.ensures.opens _ _ _ (sym e.before.before.if2.left ∙ k.check_open.ensures)) r.run-calls.ensures
 
 pub replay-spec : {M : Type 1} → statement M
 replay-spec =

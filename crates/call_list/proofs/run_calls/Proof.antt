@@ -6,9 +6,9 @@ use lib.ListN.{length, get_or}
 use Prim.Native.Nat.{◌-◌, ◌<◌}
 use native.Mathlib.Omega.{arith}
 use Rattle.session.specs.Storage.{storage}
-use Rattle.call_runs.specs.Made.{ends-run}
+use Rattle.call_runs.specs.Made.{ends_run}
 use Rattle.call_runs.specs.Continuing.{Going, going_on}
-use Rattle.call_list.specs.Running.{run-may, run-begins, run_ends}
+use Rattle.call_list.specs.Running.{run_may, run_begins, run_ends}
 use Rattle.call_list.proofs.run_calls.Statement.{statement}
 use Rattle.call_list.proofs.run_calls.Tie as tie
 
@@ -16,7 +16,7 @@ abbrev invariant-loop : tie.invariant-loop
 invariant-loop spans₀ order₀ tally₀ rows₀ marks₀ locations₀ waiting₀ pool₀ answers₀ calls r₀ spans order tally rows marks locations waiting pool answers r =
     Going calls r₀.session (storage spans₀ order₀ tally₀ rows₀ marks₀ locations₀ waiting₀ pool₀) answers₀ r₀.at r₀.made
     r.session (storage spans order tally rows marks locations waiting pool) answers r.at r.made
-    × (r.at < length calls → ends-run (get_or calls r.at 0) ≡ true)
+    × (r.at < length calls → ends_run (get_or calls r.at 0) ≡ true)
 
 abbrev decreases-loop : tie.decreases-loop
 decreases-loop spans₀ order₀ tally₀ rows₀ marks₀ locations₀ waiting₀ pool₀ answers₀ calls r₀ spans order tally rows marks locations waiting pool answers r =
@@ -68,10 +68,10 @@ first c =
     after-tally.before.before.before.before.before
 
 run-open-requires : tie.Need-run-open-requires invariant-loop decreases-loop
-run-open-requires c κs = run-may (to_start c).requires
+run-open-requires c κs = run_may (to_start c).requires
 
 loop-holds : tie.Need-loop-init invariant-loop decreases-loop
-loop-holds c = let x = (entered c).run-open.ensures in (run-begins x.onward (start (entered c)).pre, x.stops)
+loop-holds c = let x = (entered c).run-open.ensures in (run_begins x.onward (start (entered c)).pre, x.stops)
 
 run-past-requires : tie.Need-run-past-requires invariant-loop decreases-loop
 run-past-requires c κs =

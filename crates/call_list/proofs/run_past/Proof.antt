@@ -2,8 +2,8 @@
 use native.Mathlib.Omega.{arith}
 use mathlib.Core.Path.{◌∙◌}
 use lib.ListN.{length-set}
-use Rattle.call_runs.specs.Continuing.{going-asks, going-readable, going-room, going_next}
-use Rattle.call_list.specs.Running.{pass-begins, passes}
+use Rattle.call_runs.specs.Continuing.{going_asks, going_readable, going_room, going_next}
+use Rattle.call_list.specs.Running.{pass_begins, passes}
 use Rattle.call_list.proofs.run_past.Statement.{statement}
 use Rattle.call_list.proofs.run_past.Tie as tie
 
@@ -56,24 +56,24 @@ ended c =
 
 make-end-requires : tie.Need-make-end-requires
 make-end-requires c κs = let M = (to_start c).requires in
-    (going-asks (pass-begins M), (going-readable (pass-begins M) M.inside, M.tag))
+    (going_asks (pass_begins M), (going_readable (pass_begins M) M.inside, M.tag))
 
 mul-answers : tie.Need-overflow-mul-answers
 mul-answers c = let s = start (stored c) in
-    omega (arith, going-room (pass-begins s.pre) s.pre.inside, s.good.1.1.1.1.1.1.1.1.1.0)
+    omega (arith, going_room (pass_begins s.pre) s.pre.inside, s.good.1.1.1.1.1.1.1.1.1.0)
 
 slice-write-answers : tie.Need-slice-write-answers
-slice-write-answers c = let M = (start (stored c)).requires in going-room (pass-begins M) M.inside
+slice-write-answers c = let M = (start (stored c)).requires in going_room (pass_begins M) M.inside
 
 add-run-open : tie.Need-overflow-add-run-open
 add-run-open c = let s = start (passed c) in omega (arith, s.pre.inside, s.good.1.1.1.1.1.1.1.1.1.1.0)
 
 add-run-open-2 : tie.Need-overflow-add-run-open-2
 add-run-open-2 c = let s = start (passed c) in
-    omega (arith, going-room (pass-begins s.pre) s.pre.inside, s.good.1.1.1.1.1.1.1.1.1.0)
+    omega (arith, going_room (pass_begins s.pre) s.pre.inside, s.good.1.1.1.1.1.1.1.1.1.0)
 
 run-open-requires : tie.Need-run-open-requires
-run-open-requires c κs = let M = (start (passed c)).requires in (going_next (pass-begins M) M.inside (passed c).make-end.ensures).may
+run-open-requires c κs = let M = (start (passed c)).requires in (going_next (pass_begins M) M.inside (passed c).make-end.ensures).may
 
 same_length : tie.Need-same-length
 same_length c = let r = ran c in r.run-open.kept.1.0 ∙ (ended r).make-end.kept.1.0

@@ -1,10 +1,10 @@
 -- Of the two tests, one way out each. Assumes nothing.
-use Rattle.call_runs.specs.Making.{run_ends, run-goes-on}
+use Rattle.call_runs.specs.Making.{run_ends, run_goes_on}
 use Rattle.call_runs.proofs.ends_run.Statement.{statement}
 use Rattle.call_runs.proofs.ends_run.Tie as tie
 
 returns : tie.Need-returns
-returns c = run-goes-on c.if1.true
+returns c = run_goes_on c.if1.true
 
 returns-2 : tie.Need-returns-2
 returns-2 c = run_ends c.if1.false

@@ -1,6 +1,6 @@
 -- `call_runs::make_one` meets its contract: the loop makes the call, its number is the one answer, and nothing is left.
 use borrow.Author.Rules.{rules}
-use Rattle.call_runs.specs.Continuing.{one-may, one-made}
+use Rattle.call_runs.specs.Continuing.{one_may, one_made}
 use Rattle.call_runs.proofs.make_one.Statement.{statement}
 use Rattle.call_runs.proofs.make_one.Tie as tie
 
@@ -23,7 +23,7 @@ slice-aggregate-run-open : tie.Need-slice-aggregate-run-open
 slice-aggregate-run-open c = search rules
 
 run-open-requires : tie.Need-run-open-requires
-run-open-requires c κs = let pre = (start c).requires in one-may pre.1 _ pre.0 (search rules)
+run-open-requires c κs = let pre = (start c).requires in one_may pre.1 _ pre.0 (search rules)
 
 array-read-t34 : tie.Need-array-read-t34
 array-read-t34 c = search rules
@@ -53,7 +53,7 @@ same-length-8 : tie.Need-same-length-8
 same-length-8 c = (ran c).run-open.auto.1.1.1.1.1.1.1.1.0
 
 returns : tie.Need-returns
-returns c = let r = ran c in one-made (start r.before).requires.1 (search rules) r.run-open.ensures
+returns c = let r = ran c in one_made (start r.before).requires.1 (search rules) r.run-open.ensures
 
 pub make-one-spec : {M : Type 1} → statement M
 make-one-spec =

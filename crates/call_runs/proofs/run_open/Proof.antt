@@ -7,10 +7,10 @@ use mathlib.Core.Path.{sym, ◌∙◌}
 use native.Mathlib.Omega.{arith}
 use borrow.Author.Rules.{rules}
 use Rattle.session.specs.Storage.{storage}
-use Rattle.admitting.specs.Begun.{places, row-there}
-use Rattle.call_runs.specs.Made.{call-asked, call-admitted}
-use Rattle.call_runs.specs.Cascading.{Cascading, cascading-begins, cascading-turn, cascading-less, cascading-step, cascading-ends}
-use Rattle.call_runs.specs.Continuing.{Going, going-begins, going-asks, going-readable, going-room, going-refused, going-placed}
+use Rattle.admitting.specs.Begun.{places, row_there}
+use Rattle.call_runs.specs.Made.{call_asked, call_admitted}
+use Rattle.call_runs.specs.Cascading.{Cascading, cascading_begins, cascading_turn, cascading_less, cascading_step, cascading_ends}
+use Rattle.call_runs.specs.Continuing.{Going, going_begins, going_asks, going_readable, going_room, going_refused, going_placed}
 use Rattle.call_runs.proofs.run_open.Statement.{statement}
 use Rattle.call_runs.proofs.run_open.Tie as tie
 
@@ -62,7 +62,7 @@ to-place-next c =
     after-tally.before.before.before.before.before
 
 loop-holds : tie.Need-loop-init invariant-loop2 decreases-loop2 invariant-loop decreases-loop
-loop-holds c = going-begins (to_start c).requires
+loop-holds c = going_begins (to_start c).requires
 
 mul-ends-run : tie.Need-overflow-mul-ends-run invariant-loop2 decreases-loop2 invariant-loop decreases-loop
 mul-ends-run c = omega (arith, c.loop-test.true, (to_start c.before.before).good.1.1.1.1.1.1.1.1.1.1.0)
@@ -79,7 +79,7 @@ admit-call-requires c κs =
     let in-loop = to-in-loop else1 in
     let at-loop = in-loop.before in
     let g = at-loop.loop.inv in
-    (call-asked (going-asks g), (going-readable g in-loop.loop-test.taken, sym else1.before.ends-run.ensures ∙ else1.if1.left))
+    (call_asked (going_asks g), (going_readable g in-loop.loop-test.taken, sym else1.before.ends_run.ensures ∙ else1.if1.left))
 
 mul-answers : tie.Need-overflow-mul-answers invariant-loop2 decreases-loop2 invariant-loop decreases-loop
 mul-answers c =
@@ -88,39 +88,39 @@ mul-answers c =
     let start = to_start at-loop.before in
     let g = at-loop.loop.inv in
     let h = in-loop.loop-test.taken in
-    omega (arith, going-room g h, g.kept.answers, start.good.1.1.1.1.1.1.1.1.1.0)
+    omega (arith, going_room g h, g.kept.answers, start.good.1.1.1.1.1.1.1.1.1.0)
 
 slice-write-answers : tie.Need-slice-write-answers invariant-loop2 decreases-loop2 invariant-loop decreases-loop
 slice-write-answers c =
     let in-loop = to-in-loop (to-else1 (to-admit-call c).before) in
     let at-loop = in-loop.before in
-    going-room at-loop.loop.inv in-loop.loop-test.taken
+    going_room at-loop.loop.inv in-loop.loop-test.taken
 
 loop2-holds : tie.Need-loop2-init invariant-loop2 decreases-loop2 invariant-loop decreases-loop
 loop2-holds c =
     let after-admit-call = to-admit-call c.before.before in
     let at-loop = (to-in-loop (to-else1 after-admit-call.before)).before in
-    cascading-begins ((call-admitted (going-asks at-loop.loop.inv) after-admit-call.admit-call.ensures).admits.may c.if2.true)
+    cascading_begins ((call_admitted (going_asks at-loop.loop.inv) after-admit-call.admit-call.ensures).admits.may c.if2.true)
 
 place-next-requires : tie.Need-place-next-requires invariant-loop2 decreases-loop2 invariant-loop decreases-loop
 place-next-requires c κs =
     let in-loop2 = to-in-loop2 c in
     let at-loop2 = in-loop2.before in
-    cascading-turn at-loop2.loop2.inv in-loop2.loop2-test.taken
+    cascading_turn at-loop2.loop2.inv in-loop2.loop2-test.taken
 
 loop2-less : tie.Need-loop2-smaller invariant-loop2 decreases-loop2 invariant-loop decreases-loop
 loop2-less c =
     let after-place-next = to-place-next c in
     let in-loop2 = to-in-loop2 after-place-next.before in
     let at-loop2 = in-loop2.before in
-    omega (arith, cascading-less at-loop2.loop2.inv in-loop2.loop2-test.taken after-place-next.place-next.ensures)
+    omega (arith, cascading_less at-loop2.loop2.inv in-loop2.loop2-test.taken after-place-next.place-next.ensures)
 
 loop2-again : tie.Need-loop2-preserved invariant-loop2 decreases-loop2 invariant-loop decreases-loop
 loop2-again c =
     let after-place-next = to-place-next c in
     let in-loop2 = to-in-loop2 after-place-next.before in
     let at-loop2 = in-loop2.before in
-    cascading-step at-loop2.loop2.inv in-loop2.loop2-test.taken after-place-next.place-next.ensures
+    cascading_step at-loop2.loop2.inv in-loop2.loop2-test.taken after-place-next.place-next.ensures
 
 note-latest-requires : tie.Need-note-latest-requires invariant-loop2 decreases-loop2 invariant-loop decreases-loop
 note-latest-requires c κs =
@@ -128,7 +128,7 @@ note-latest-requires c κs =
     let after-admit-call = to-admit-call at-loop2.before.before.before in
     let at-loop = (to-in-loop (to-else1 after-admit-call.before)).before in
     let i = at-loop2.loop2.invariant in
-    row-there at-loop.loop.z after-admit-call.admit-call.result.admitted _ _ _ (cascading-ends i c.before.loop2-test.false) i.may
+    row_there at-loop.loop.z after-admit-call.admit-call.result.admitted _ _ _ (cascading_ends i c.before.loop2-test.false) i.may
 
 add-n : tie.Need-overflow-add-n invariant-loop2 decreases-loop2 invariant-loop decreases-loop
 add-n c =
@@ -137,13 +137,13 @@ add-n c =
     let start = to_start at-loop.before in
     let g = at-loop.loop.inv in
     let h = in-loop.loop-test.taken in
-    omega (arith, going-room g h, g.kept.answers, start.good.1.1.1.1.1.1.1.1.1.0)
+    omega (arith, going_room g h, g.kept.answers, start.good.1.1.1.1.1.1.1.1.1.0)
 
 loop-less : tie.Need-loop-smaller invariant-loop2 decreases-loop2 invariant-loop decreases-loop
 loop-less c =
     let after-admit-call = to-admit-call c.before.before in
     let at-loop = (to-in-loop (to-else1 after-admit-call.before)).before in
-    let d = call-admitted (going-asks at-loop.loop.inv) after-admit-call.admit-call.ensures in
+    let d = call_admitted (going_asks at-loop.loop.inv) after-admit-call.admit-call.ensures in
     omega (arith, d.past, d.within)
 
 loop-again : tie.Need-loop-preserved invariant-loop2 decreases-loop2 invariant-loop decreases-loop
@@ -153,12 +153,12 @@ loop-again c =
     let at-loop = in-loop.before in
     let g = at-loop.loop.inv in
     let h = in-loop.loop-test.taken in
-    let d = call-admitted (going-asks g) after-admit-call.admit-call.ensures in
+    let d = call_admitted (going_asks g) after-admit-call.admit-call.ensures in
     ⊎_elim
-    (λ w. going-placed g h d w.0.taken
-    (places at-loop.loop.z after-admit-call.admit-call.result.admitted _ _ _ (cascading-ends w.1.inv w.2.left) _ w.4.ensures)
+    (λ w. going_placed g h d w.0.taken
+    (places at-loop.loop.z after-admit-call.admit-call.result.admitted _ _ _ (cascading_ends w.1.inv w.2.left) _ w.4.ensures)
     w.14 w.7 w.8 w.9 w.10 w.11 w.12 w.13)
-    (λ w. going-refused g h d w.0.left w.8 w.1 w.2 w.3 w.4 w.5 w.6 w.7)
+    (λ w. going_refused g h d w.0.left w.8 w.1 w.2 w.3 w.4 w.5 w.6 w.7)
     c.if2.branch
 
 same_length : tie.Need-same-length invariant-loop2 decreases-loop2 invariant-loop decreases-loop
@@ -219,7 +219,7 @@ same-length-18 : tie.Need-same-length-18 invariant-loop2 decreases-loop2 invaria
 same-length-18 c = (to-at-loop c).loop.invariant.kept.answers
 
 returns-2 : tie.Need-returns-2 invariant-loop2 decreases-loop2 invariant-loop decreases-loop
-returns-2 c = record { onward = (to-at-loop c).loop.invariant.onward; stops = λ h. sym c.before.ends-run.ensures ∙ c.if1.true }
+returns-2 c = record { onward = (to-at-loop c).loop.invariant.onward; stops = λ h. sym c.before.ends_run.ensures ∙ c.if1.true }
 
 pub run-open-spec : {M : Type 1} → statement M
 run-open-spec =

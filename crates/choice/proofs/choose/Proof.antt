@@ -1,8 +1,8 @@
 -- `choice::choose` meets its contract: each return is one way out of `chosen_by`, and the signed difference, where it is not negative, is the
 -- distance. Assumes nothing.
 use native.Mathlib.Omega.{arith}
-use Rattle.choice.proofs.Difference.{fits, was-less, was-not, read-at-least, reach}
-use Rattle.choice.specs.Chosen.{by-none, by_old, by_two, by-far, by_near}
+use Rattle.choice.proofs.Difference.{fits, was_less, was_not, read_at_least, reach}
+use Rattle.choice.specs.Chosen.{by_none, by_old, by_two, by_far, by_near}
 use mathlib.Core.Path.{sym, ◌∙◌}
 use borrow.Author.Rules.{rules}
 use Rattle.choice.proofs.choose.Statement.{statement}
@@ -20,14 +20,14 @@ sub-d c = let s = c.before in fits s.args.span s.args.first s.ranges.span.fits s
 returns : tie.Need-returns
 returns c = let s = c.before.before in
     let a = s.args in
-    by_old a.first a.t2 a.p a.has a.span a.pos c.before.if1.true (was-less a.span a.first s.ranges.span.fits s.ranges.first.fits c.if2.true)
+    by_old a.first a.t2 a.p a.has a.span a.pos c.before.if1.true (was_less a.span a.first s.ranges.span.fits s.ranges.first.fits c.if2.true)
 
 cast-at : tie.Need-overflow-cast-at
 cast-at c = let s = c.before.before in
     let a = s.args in
-    let h = was-not a.span a.first s.ranges.span.fits s.ranges.first.fits c.if2.false in
+    let h = was_not a.span a.first s.ranges.span.fits s.ranges.first.fits c.if2.false in
     let f = s.ranges.span.fits in
-    rw (read-at-least a.span a.first s.ranges.span.fits s.ranges.first.fits h) (tt, record { fits = omega arith })
+    rw (read_at_least a.span a.first s.ranges.span.fits s.ranges.first.fits h) (tt, record { fits = omega arith })
 
 returns-2 : tie.Need-returns-2
 returns-2 c =
@@ -82,7 +82,7 @@ returns-3 c =
     let s = c.before.before.before.before.before in
     let a = s.args in
     let z = reach a.span a.first s.ranges.span.fits s.ranges.first.fits c.before.before.before.if2.false (s.requires c.before.before.before.before.if1.true) in
-    by-far a.first a.t2 a.p a.has a.span a.pos _ c.find-span.result c.before.before.before.before.if1.true
+    by_far a.first a.t2 a.p a.has a.span a.pos _ c.find-span.result c.before.before.before.before.if1.true
     z.0 (λ e. c.before.before.if3.false (z.1.0 ∙ e)) z.1.0 c.before.if4.true c.find-span.ensures
 
 add-find-span-2 : tie.Need-overflow-add-find-span-2
@@ -109,7 +109,7 @@ returns-4 c =
     z.0 (λ e. c.before.before.if3.false (z.1.0 ∙ e)) z.1.0 c.before.if4.false c.find-span2.ensures
 
 returns-5 : tie.Need-returns-5
-returns-5 c = let a = c.before.args in by-none a.first a.t2 a.p a.has a.span a.pos c.if1.false
+returns-5 c = let a = c.before.args in by_none a.first a.t2 a.p a.has a.span a.pos c.if1.false
 
 pub choose_spec : {M : Type 1} → statement M
 choose_spec =

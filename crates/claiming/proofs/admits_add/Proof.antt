@@ -2,7 +2,7 @@
 use native.Mathlib.Omega.{arith}
 use borrow.Author.Rules.{rules}
 use borrow.Author.Tests.{lt-ltb, le-ltb}
-use Rattle.claiming.specs.Claiming.{closed-fails, lane-fails, many-fails, ins-outside, count-fails, room-fails, may-claim, admits}
+use Rattle.claiming.specs.Claiming.{closed_fails, lane_fails, many_fails, ins_outside, count_fails, room_fails, may_claim, admits}
 use Rattle.claiming.proofs.admits_add.Statement.{statement}
 use Rattle.claiming.proofs.admits_add.Tie as tie
 
@@ -17,22 +17,22 @@ abbrev whole : tie.Else4 → tie.Start
 whole c = start c.before.before.before
 
 returns : tie.Need-returns
-returns c = closed-fails c.if1.true
+returns c = closed_fails c.if1.true
 
 returns-2 : tie.Need-returns-2
-returns-2 c = lane-fails c.if2.true
+returns-2 c = lane_fails c.if2.true
 
 returns-3 : tie.Need-returns-3
-returns-3 c = many-fails (rw (lt-ltb _ _ c.if3.true))
+returns-3 c = many_fails (rw (lt-ltb _ _ c.if3.true))
 
 returns-4 : tie.Need-returns-4
-returns-4 c = many-fails (rw (le-ltb _ _ c.before.if3.false, lt-ltb _ _ c.if4.true))
+returns-4 c = many_fails (rw (le-ltb _ _ c.before.if3.false, lt-ltb _ _ c.if4.true))
 
 returns-5 : tie.Need-returns-5
-returns-5 c = ins-outside (whole c.before).requires c.if5.true
+returns-5 c = ins_outside (whole c.before).requires c.if5.true
 
 returns-6 : tie.Need-returns-6
-returns-6 c = count-fails c.if6.true
+returns-6 c = count_fails c.if6.true
 
 add-if7 : tie.Need-overflow-add-if7
 add-if7 c = search rules
@@ -41,10 +41,10 @@ sub-if7 : tie.Need-overflow-sub-if7
 sub-if7 c = search rules
 
 returns-7 : tie.Need-returns-7
-returns-7 c = room-fails (whole c.before.before.before).requires c.if7.true
+returns-7 c = room_fails (whole c.before.before.before).requires c.if7.true
 
 claim-new-requires : tie.Need-claim-new-requires
-claim-new-requires c κs = may-claim (whole (short c.before)).requires
+claim-new-requires c κs = may_claim (whole (short c.before)).requires
 
 same_length : tie.Need-same-length
 same_length c = search rules

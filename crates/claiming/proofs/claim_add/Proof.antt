@@ -1,6 +1,6 @@
 -- Admitted, the number is 0; refused, it is that of `check_add`, which is not 0. Assumes nothing.
 use borrow.Author.Rules.{rules}
-use Rattle.claiming.specs.Claiming.{claimed-add, may-again, refused-add}
+use Rattle.claiming.specs.Claiming.{claimed_add, may_again, refused_add}
 use Rattle.claiming.proofs.claim_add.Statement.{statement}
 use Rattle.claiming.proofs.claim_add.Tie as tie
 
@@ -18,12 +18,12 @@ same_length : tie.Need-same-length
 same_length c = search rules
 
 returns : tie.Need-returns
-returns c = claimed-add c.before.before.before.admits-add.ensures c.if1.true
+returns c = claimed_add c.before.before.before.admits_add.ensures c.if1.true
 
 check-add-requires : tie.Need-check-add-requires
 check-add-requires c κs =
     let r = c.before in
-    may-again (answered r).admits-add.ensures r.if1.false (start (answered r)).requires.may
+    may_again (answered r).admits_add.ensures r.if1.false (start (answered r)).requires.may
 
 same-length-2 : tie.Need-same-length-2
 same-length-2 c = search rules
@@ -32,7 +32,7 @@ returns-2 : tie.Need-returns-2
 returns-2 c =
     let s = c.before.before in
     let r = s.before.before in
-    refused-add (answered r).admits-add.ensures r.if1.false (start (answered r)).requires.may s.check-add.ensures
+    refused_add (answered r).admits_add.ensures r.if1.false (start (answered r)).requires.may s.check_add.ensures
 
 pub claim-add-spec : {M : Type 1} → statement M
 claim-add-spec =

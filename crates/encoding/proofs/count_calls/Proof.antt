@@ -1,5 +1,5 @@
 -- `encoding::count_calls` meets its contract. The invariant: the calls read so far come before what the remaining numbers decode to.
-use Rattle.encoding.specs.Ends.{Counting, count-start, count_turn, count-stop, count-end, count_less}
+use Rattle.encoding.specs.Ends.{Counting, count_start, count_turn, count_stop, count_end, count_less}
 use lib.ListN.{length}
 use Prim.Native.Nat.{◌-◌}
 use borrow.Author.Rules.{rules}
@@ -14,7 +14,7 @@ abbrev decreases-loop : tie.decreases-loop
 decreases-loop calls at₀ n₀ at n = length calls - at
 
 loop-holds : tie.Need-loop-init invariant-loop decreases-loop
-loop-holds c = count-start _
+loop-holds c = count_start _
 
 call-end-requires : tie.Need-call-end-requires invariant-loop decreases-loop
 call-end-requires c κs = search rules
@@ -23,7 +23,7 @@ returns : tie.Need-returns invariant-loop decreases-loop
 returns c =
     let in-loop = c.before.before in
     let at-loop = in-loop.before in
-    count-stop _ _ _ _ at-loop.loop.invariant in-loop.loop-test.true c.before.call-end.ensures c.if1.true
+    count_stop _ _ _ _ at-loop.loop.invariant in-loop.loop-test.true c.before.call-end.ensures c.if1.true
 
 add-n : tie.Need-overflow-add-n invariant-loop decreases-loop
 add-n c =
@@ -39,7 +39,7 @@ loop-again c =
     count_turn _ _ _ _ at-loop.loop.invariant c.before.call-end.ensures c.if1.false
 
 returns-2 : tie.Need-returns-2 invariant-loop decreases-loop
-returns-2 c = count-end _ _ _ c.before.loop.invariant c.loop-test.false
+returns-2 c = count_end _ _ _ c.before.loop.invariant c.loop-test.false
 
 pub count-calls-spec : {M : Type 1} → statement M
 count-calls-spec =

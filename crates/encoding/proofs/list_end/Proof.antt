@@ -1,11 +1,11 @@
 -- `encoding::list_end` meets its contract: a law for each way out.
-use Rattle.encoding.specs.Ends.{list-past, list-short, list-whole}
+use Rattle.encoding.specs.Ends.{list_past, list_short, list_whole}
 use borrow.Author.Rules.{rules}
 use Rattle.encoding.proofs.list_end.Statement.{statement}
 use Rattle.encoding.proofs.list_end.Tie as tie
 
 returns : tie.Need-returns
-returns c = list-past _ _ c.if1.true
+returns c = list_past _ _ c.if1.true
 
 mul-short : tie.Need-overflow-mul-short
 mul-short c = search rules
@@ -22,7 +22,7 @@ sub-left c = search rules
 returns-2 : tie.Need-returns-2
 returns-2 c =
     let else1 = c.before.before.before in
-    list-short _ _ _ c.before.short.ensures else1.if1.false c.if2.true
+    list_short _ _ _ c.before.short.ensures else1.if1.false c.if2.true
 
 add-result : tie.Need-overflow-add-result
 add-result c = search rules
@@ -33,7 +33,7 @@ add-result-2 c = search rules
 returns-3 : tie.Need-returns-3
 returns-3 c =
     let else1 = c.before.before.before in
-    list-whole _ _ _ c.before.short.ensures else1.if1.false c.if2.false
+    list_whole _ _ _ c.before.short.ensures else1.if1.false c.if2.false
 
 pub list-end-spec : {M : Type 1} → statement M
 list-end-spec =

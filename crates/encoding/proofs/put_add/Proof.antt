@@ -1,7 +1,7 @@
 -- Four stores around the lists. Assumes nothing.
 use native.Mathlib.Omega.{arith}
 use lib.ListN.{length-set}
-use Rattle.encoding.specs.Put.{put-add}
+use Rattle.encoding.specs.Put.{put_add}
 use borrow.Author.Rules.{rules}
 use Rattle.encoding.proofs.put_add.Statement.{statement}
 use Rattle.encoding.proofs.put_add.Tie as tie
@@ -34,7 +34,7 @@ same_length : tie.Need-same-length
 same_length c = search rules
 
 returns : tie.Need-returns
-returns c = (put-add c.args.lane c.args.inputs c.args.outputs _ c.requires, omega arith)
+returns c = (put_add c.args.lane c.args.inputs c.args.outputs _ c.requires, omega arith)
 
 pub put-add-spec : {M : Type 1} → statement M
 put-add-spec =

@@ -1,5 +1,5 @@
 -- Two stores. Assumes nothing.
-use Rattle.encoding.specs.Put.{put-set}
+use Rattle.encoding.specs.Put.{put_set}
 use borrow.Author.Rules.{rules}
 use mathlib.Core.Path.{refl}
 use Rattle.encoding.proofs.put_set.Statement.{statement}
@@ -15,7 +15,7 @@ same_length : tie.Need-same-length
 same_length c = search rules
 
 returns : tie.Need-returns
-returns c = (put-set _ c.args.x c.requires, refl)
+returns c = (put_set _ c.args.x c.requires, refl)
 
 pub put-set-spec : {M : Type 1} → statement M
 put-set-spec = tie.close (tie.spec slice-write-into slice-write-into-2 same_length returns)

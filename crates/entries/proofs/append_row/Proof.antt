@@ -4,8 +4,8 @@ use mathlib.Core.Path.{◌≡◌, refl, sym, ap, ◌∙◌}
 use Prim.Native.Nat.{◌+◌, ◌-◌, ◌≤◌}
 use native.Mathlib.Omega.{arith}
 use lib.ListN.{length}
-use Rattle.entries.specs.Entries.{with-entry, row, annotated, appended}
-use Rattle.entries.specs.Stored.{parallelism-most}
+use Rattle.entries.specs.Entries.{with_entry, row, annotated, appended}
+use Rattle.entries.specs.Stored.{parallelism_most}
 use Rattle.entries.specs.declared.Entry.{Entry}
 use Rattle.entries.proofs.Laws.{rest, begins, turn, ends}
 use Rattle.entries.proofs.append_row.Statement.{statement}
@@ -45,7 +45,7 @@ cast-with-parallelism c =
     let start = at-loop.before.before.before in
     let g = start.args in
     let asked = start.requires.0 in
-    omega (arith, worked-out.parallelism-of.ensures, parallelism-most g.p g.a g.b at-loop.loop.q asked.0, asked)
+    omega (arith, worked-out.parallelism_of.ensures, parallelism_most g.p g.a g.b at-loop.loop.q asked.0, asked)
 
 with-parallelism-requires : tie.Need-with-parallelism-requires invariant-loop decreases-loop
 with-parallelism-requires c κs = search rules
@@ -68,9 +68,9 @@ loop-again c =
     let turn-begun = loaded.before in
     let l = turn-begun.before.loop in
     let g = turn-begun.before.before.before.before.args in
-    let w = worked-out.parallelism-of in
+    let w = worked-out.parallelism_of in
     let e = loaded.load in
-    let is = stored.store.ensures ∙ ap (λ (x : Entry). with-entry l.order (g.n + l.q) x) made.with-parallelism.ensures in (
+    let is = stored.store.ensures ∙ ap (λ (x : Entry). with_entry l.order (g.n + l.q) x) made.with_parallelism.ensures in (
       omega arith,
       (
         stored.store.auto.0 ∙ l.invariant.1.0,

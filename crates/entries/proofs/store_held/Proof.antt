@@ -1,7 +1,7 @@
 -- `entries::store_held` meets its contract: the store of the entry with parallelism 0. Assumes nothing.
 use borrow.Author.Rules.{rules}
 use mathlib.Core.Path.{ap, ◌∙◌}
-use Rattle.entries.specs.Entries.{with-entry}
+use Rattle.entries.specs.Entries.{with_entry}
 use Rattle.entries.specs.declared.Entry.{Entry}
 use Rattle.entries.proofs.store_held.Statement.{statement}
 use Rattle.entries.proofs.store_held.Tie as tie
@@ -20,7 +20,7 @@ returns c =
     let stored = c.before.before in
     let made = stored.before in
     let a = made.before.before.before.args in
-    stored.store.ensures ∙ ap (λ (e : Entry). with-entry a.s.now a.k e) made.with-parallelism.ensures
+    stored.store.ensures ∙ ap (λ (e : Entry). with_entry a.s.now a.k e) made.with_parallelism.ensures
 
 pub store-held-spec : {M : Type 1} → statement M
 store-held-spec = tie.close (tie.spec with-parallelism-requires store-requires same_length returns)

@@ -1,6 +1,6 @@
 -- `explaining::explain` meets its contract: never accepted, waiting, or accepted and not waiting.
 use borrow.Author.Rules.{rules}
-use Rattle.explaining.specs.Answers.{explains-unknown, asks-inputs, explains-none, explains-placed, explains-waiting}
+use Rattle.explaining.specs.Answers.{explains_unknown, asks_inputs, explains_none, explains_placed, explains_waiting}
 use Rattle.explaining.proofs.explain.Statement.{statement}
 use Rattle.explaining.proofs.explain.Tie as tie
 
@@ -19,7 +19,7 @@ cast-if1 : tie.Need-overflow-cast-if1
 cast-if1 c = search rules
 
 returns : tie.Need-returns
-returns c = let a = (start c.before).args in explains-unknown a.s a.waiting.now a.pool.now a.r c.if1.true
+returns c = let a = (start c.before).args in explains_unknown a.s a.waiting.now a.pool.now a.r c.if1.true
 
 cast-v : tie.Need-overflow-cast-v
 cast-v c = search rules
@@ -35,7 +35,7 @@ greatest-listed-requires c κs =
     let e = accepted c in
     let s = start e.before in
     let a = s.args in
-    asks-inputs a.s a.waiting.now a.pool.now a.r e.if1.left c.list-start.ensures c.before.list-inputs.ensures s.pre
+    asks_inputs a.s a.waiting.now a.pool.now a.r e.if1.left c.list_start.ensures c.before.list-inputs.ensures s.pre
 
 cast-input : tie.Need-overflow-cast-input
 cast-input c = search rules
@@ -47,7 +47,7 @@ returns-2 c =
     let e = accepted p in
     let s = start e.before in
     let a = s.args in
-    explains-waiting a.s a.waiting.now a.pool.now a.r e.if1.left p.list-start.ensures p.before.list-inputs.ensures g.greatest-listed.ensures s.pre
+    explains_waiting a.s a.waiting.now a.pool.now a.r e.if1.left p.list_start.ensures p.before.list-inputs.ensures g.greatest-listed.ensures s.pre
     c.before.before.if2.true c.if3.true
 
 returns-3 : tie.Need-returns-3
@@ -56,7 +56,7 @@ returns-3 c =
     let p = g.before in
     let e = accepted p in
     let a = (start e.before).args in
-    explains-placed a.s a.waiting.now a.pool.now a.r e.if1.left p.list-start.ensures p.before.list-inputs.ensures g.greatest-listed.ensures
+    explains_placed a.s a.waiting.now a.pool.now a.r e.if1.left p.list_start.ensures p.before.list-inputs.ensures g.greatest-listed.ensures
     c.if3.false
 
 returns-4 : tie.Need-returns-4
@@ -64,7 +64,7 @@ returns-4 c =
     let p = c.before.before in
     let e = accepted p in
     let a = (start e.before).args in
-    explains-none a.s a.waiting.now a.pool.now a.r e.if1.left p.list-start.ensures p.before.list-inputs.ensures c.if2.false
+    explains_none a.s a.waiting.now a.pool.now a.r e.if1.left p.list_start.ensures p.before.list-inputs.ensures c.if2.false
 
 pub explain-spec : {M : Type 1} → statement M
 explain-spec =

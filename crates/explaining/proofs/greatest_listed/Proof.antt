@@ -7,7 +7,7 @@ use borrow.Author.Rules.{rules}
 use native.Mathlib.Omega.{arith}
 use Rattle.rules.specs.Model.{greatest}
 use Rattle.lists.specs.Part.{part, part_length, part_at}
-use Rattle.lists.specs.Scan.{greatest-begins, greatest-less, greatest-more, greatest-ends}
+use Rattle.lists.specs.Scan.{greatest_begins, greatest_less, greatest_more, greatest_ends}
 use Rattle.explaining.proofs.greatest_listed.Statement.{statement}
 use Rattle.explaining.proofs.greatest_listed.Tie as tie
 
@@ -25,7 +25,7 @@ abbrev turn : tie.Joined1 invariant-loop decreases-loop → tie.In-loop invarian
 turn c = c.before.before
 
 loop-holds : tie.Need-loop-init invariant-loop decreases-loop
-loop-holds c = let a = c.args in (omega arith, greatest-begins (part a.pool.now a.at a.n))
+loop-holds c = let a = c.args in (omega arith, greatest_begins (part a.pool.now a.at a.n))
 
 add-x : tie.Need-overflow-add-x invariant-loop decreases-loop
 add-x c = search rules
@@ -54,8 +54,8 @@ loop-again c =
     let inside : l.j < length xs = omega (arith, long, t.loop-test.taken) in (
       omega arith,
       l.inv.1
-          ∙ ⊎_elim (λ k. greatest-more xs l.m l.j inside (omega (arith, k.0.taken, at_j)) ∙ ap (λ x. max x (greatest (drop (l.j + 1) xs))) (at_j ∙ sym k.1))
-          (λ k. greatest-less xs l.m l.j inside (omega (arith, k.0.left, at_j)) ∙ ap (λ x. max x (greatest (drop (l.j + 1) xs))) (sym k.1)) c.if1.branch,
+          ∙ ⊎_elim (λ k. greatest_more xs l.m l.j inside (omega (arith, k.0.taken, at_j)) ∙ ap (λ x. max x (greatest (drop (l.j + 1) xs))) (at_j ∙ sym k.1))
+          (λ k. greatest_less xs l.m l.j inside (omega (arith, k.0.left, at_j)) ∙ ap (λ x. max x (greatest (drop (l.j + 1) xs))) (sym k.1)) c.if1.branch,
     )
 
 returns : tie.Need-returns invariant-loop decreases-loop
@@ -64,7 +64,7 @@ returns c =
     let a = s.args in
     let l = c.before.loop in
     let long = part_length a.pool.now a.at a.n s.pre in
-    sym (l.invariant.1 ∙ greatest-ends (part a.pool.now a.at a.n) l.m l.j (omega (arith, long, c.loop-test.false)))
+    sym (l.invariant.1 ∙ greatest_ends (part a.pool.now a.at a.n) l.m l.j (omega (arith, long, c.loop-test.false)))
 
 pub greatest-listed-spec : {M : Type 1} → statement M
 greatest-listed-spec =

@@ -3,7 +3,7 @@ use mathlib.Core.Logic.{⊎_elim}
 use Prim.Native.Nat.{◌-◌, ◌≤◌}
 use native.Mathlib.Omega.{arith}
 use borrow.Author.Rules.{rules}
-use Rattle.figures.specs.Loops.{Low, low-begins, low-more, low-past, low-ends}
+use Rattle.figures.specs.Loops.{Low, low_begins, low_more, low_past, low_ends}
 use Rattle.figures.proofs.low_counts.Statement.{statement}
 use Rattle.figures.proofs.low_counts.Tie as tie
 
@@ -14,7 +14,7 @@ abbrev decreases-loop : tie.decreases-loop
 decreases-loop t low₀ i₀ low i = 128 - i
 
 loop-holds : tie.Need-loop-init invariant-loop decreases-loop
-loop-holds c = (omega arith, low-begins c.args.t.now)
+loop-holds c = (omega arith, low_begins c.args.t.now)
 
 mul_low : tie.Need-overflow-mul-low invariant-loop decreases-loop
 mul_low c = search rules
@@ -37,10 +37,10 @@ loop-less c = search rules
 loop-again : tie.Need-loop-preserved invariant-loop decreases-loop
 loop-again c = let t = c.before.before.before.args.t.now in
     let l = c.before.before.loop in
-    (omega arith, ⊎_elim (λ w. rw w.2 (low-more t l.i l.low (omega arith) l.invariant.1)) (λ w. rw w.1 (low-past t l.i l.low w.0.left l.invariant.1)) c.if1.branch)
+    (omega arith, ⊎_elim (λ w. rw w.2 (low_more t l.i l.low (omega arith) l.invariant.1)) (λ w. rw w.1 (low_past t l.i l.low w.0.left l.invariant.1)) c.if1.branch)
 
 returns : tie.Need-returns invariant-loop decreases-loop
-returns c = low-ends c.before.before.args.t.now c.before.loop.i c.before.loop.low c.loop-test.false c.before.loop.invariant.1
+returns c = low_ends c.before.before.args.t.now c.before.loop.i c.before.loop.low c.loop-test.false c.before.loop.invariant.1
 
 pub low-counts-spec : {M : Type 1} → statement M
 low-counts-spec =

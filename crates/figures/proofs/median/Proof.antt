@@ -4,19 +4,19 @@ use Prim.Native.Nat.{◌+◌, ◌-◌, ◌≤◌}
 use native.Mathlib.Omega.{arith}
 use lib.ListN.{length, drop}
 use borrow.Author.Rules.{rules}
-use Rattle.figures.specs.Loops.{sum_more, median-begins, median-stops, median-more, median-ends}
-use Rattle.rules.specs.Summary.{sum, median, median-from}
+use Rattle.figures.specs.Loops.{sum_more, median_begins, median_stops, median_more, median_ends}
+use Rattle.rules.specs.Summary.{sum, median, median_from}
 use Rattle.figures.proofs.median.Statement.{statement}
 use Rattle.figures.proofs.median.Tie as tie
 
 abbrev invariant-loop : tie.invariant-loop
-invariant-loop t all running₀ i₀ i-end running i = (i-end ≡ length t) × ((i ≤ length t) × ((running + sum (drop i t) ≡ sum t) × (median t ≡ median-from all i running (drop i t))))
+invariant-loop t all running₀ i₀ i-end running i = (i-end ≡ length t) × ((i ≤ length t) × ((running + sum (drop i t) ≡ sum t) × (median t ≡ median_from all i running (drop i t))))
 
 abbrev decreases-loop : tie.decreases-loop
 decreases-loop t all running₀ i₀ i-end running i = length t - i
 
 loop-holds : tie.Need-loop-init invariant-loop decreases-loop
-loop-holds c = (refl, (omega arith, (omega arith, median-begins c.args.all c.args.t.now c.requires.1)))
+loop-holds c = (refl, (omega arith, (omega arith, median_begins c.args.all c.args.t.now c.requires.1)))
 
 mul-running : tie.Need-overflow-mul-running invariant-loop decreases-loop
 mul-running c = search rules
@@ -37,7 +37,7 @@ cast-result c = search rules
 
 returns : tie.Need-returns invariant-loop decreases-loop
 returns c = let l = c.before.before.before.loop in
-    sym (l.invariant.1.1.1 ∙ median-stops c.before.before.before.before.args.all l.i l.running c.before.before.before.before.args.t.now (omega arith) c.if1.true)
+    sym (l.invariant.1.1.1 ∙ median_stops c.before.before.before.before.args.all l.i l.running c.before.before.before.before.args.t.now (omega arith) c.if1.true)
 
 add-i : tie.Need-overflow-add-i invariant-loop decreases-loop
 add-i c = search rules
@@ -49,11 +49,11 @@ loop-again : tie.Need-loop-preserved invariant-loop decreases-loop
 loop-again c = let l = c.before.before.before.loop in
     let t = c.before.before.before.before.args.t.now in
     let m = sum_more t l.i (omega arith) in
-    (l.invariant.0, (omega arith, (omega arith, l.invariant.1.1.1 ∙ median-more c.before.before.before.before.args.all l.i l.running t (omega arith) c.if1.false)))
+    (l.invariant.0, (omega arith, (omega arith, l.invariant.1.1.1 ∙ median_more c.before.before.before.before.args.all l.i l.running t (omega arith) c.if1.false)))
 
 returns-2 : tie.Need-returns-2 invariant-loop decreases-loop
 returns-2 c = let l = c.before.loop in
-    sym (l.invariant.1.1.1 ∙ median-ends c.before.before.args.all l.i l.running c.before.before.args.t.now (omega arith))
+    sym (l.invariant.1.1.1 ∙ median_ends c.before.before.args.all l.i l.running c.before.before.args.t.now (omega arith))
 
 pub median-spec : {M : Type 1} → statement M
 median-spec =

@@ -4,7 +4,7 @@ use Prim.Native.Nat.{◌+◌, ◌-◌, ◌≤◌}
 use native.Mathlib.Omega.{arith}
 use lib.ListN.{length, drop}
 use borrow.Author.Rules.{rules}
-use Rattle.figures.specs.Loops.{sum_more, sum-ends}
+use Rattle.figures.specs.Loops.{sum_more, sum_ends}
 use Rattle.rules.specs.Summary.{sum}
 use Rattle.figures.proofs.sum.Statement.{statement}
 use Rattle.figures.proofs.sum.Tie as tie
@@ -39,7 +39,7 @@ loop-again c = let m = sum_more c.before.before.before.args.t.now c.before.befor
     (c.before.before.loop.invariant.0, (omega arith, omega arith))
 
 returns : tie.Need-returns invariant-loop decreases-loop
-returns c = let e = sum-ends c.before.before.args.t.now c.before.loop.i (omega arith) in omega arith
+returns c = let e = sum_ends c.before.before.args.t.now c.before.loop.i (omega arith) in omega arith
 
 pub sum-spec : {M : Type 1} → statement M
 sum-spec =

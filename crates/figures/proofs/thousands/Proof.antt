@@ -4,7 +4,7 @@ use Prim.Native.Nat.{◌-◌, ◌≤◌}
 use native.Mathlib.Omega.{arith}
 use lib.ListN.{length}
 use borrow.Author.Rules.{rules}
-use Rattle.figures.specs.Loops.{Thousands, thousands-begin, thousands-more, thousands-fit, thousands-end}
+use Rattle.figures.specs.Loops.{Thousands, thousands_begin, thousands_more, thousands_fit, thousands_end}
 use Rattle.figures.proofs.thousands.Statement.{statement}
 use Rattle.figures.proofs.thousands.Tie as tie
 
@@ -15,7 +15,7 @@ abbrev decreases-loop : tie.decreases-loop
 decreases-loop t sums₀ i₀ i-end sums i = length t - i
 
 loop-holds : tie.Need-loop-init invariant-loop decreases-loop
-loop-holds c = (refl, (omega arith, thousands-begin c.args.t.now))
+loop-holds c = (refl, (omega arith, thousands_begin c.args.t.now))
 
 mul-sums : tie.Need-overflow-mul-sums invariant-loop decreases-loop
 mul-sums c = search rules
@@ -31,7 +31,7 @@ shared-slice-read-sums c = search rules
 
 add-sums : tie.Need-overflow-add-sums invariant-loop decreases-loop
 add-sums c = let l = c.before.before.loop in
-    let f = thousands-fit c.before.before.before.args.t.now l.i l.sums (omega arith) (omega (arith, c.before.before.before.requires.few)) l.invariant.1.1 in
+    let f = thousands_fit c.before.before.before.args.t.now l.i l.sums (omega arith) (omega (arith, c.before.before.before.requires.few)) l.invariant.1.1 in
     omega (arith, c.before.before.before.requires.total)
 
 mul-sums-3 : tie.Need-overflow-mul-sums-3 invariant-loop decreases-loop
@@ -48,10 +48,10 @@ loop-less c = search rules
 
 loop-again : tie.Need-loop-preserved invariant-loop decreases-loop
 loop-again c = let l = c.before.before.loop in
-    (l.invariant.0, (omega arith, thousands-more c.before.before.before.args.t.now l.i l.sums (omega arith) (omega (arith, c.before.before.before.requires.few)) l.invariant.1.1))
+    (l.invariant.0, (omega arith, thousands_more c.before.before.before.args.t.now l.i l.sums (omega arith) (omega (arith, c.before.before.before.requires.few)) l.invariant.1.1))
 
 returns : tie.Need-returns invariant-loop decreases-loop
-returns c = thousands-end c.before.before.args.t.now c.before.loop.i c.before.loop.sums (omega arith) c.before.loop.invariant.1.1
+returns c = thousands_end c.before.before.args.t.now c.before.loop.i c.before.loop.sums (omega arith) c.before.loop.invariant.1.1
 
 pub thousands-spec : {M : Type 1} → statement M
 thousands-spec =

@@ -1,6 +1,6 @@
 -- `flushing::release_all` meets its contract: the promises of the guide's flush and of the rows, put together by `releases`.
 use mathlib.Core.Path.{◌∙◌}
-use Rattle.flushing.specs.Released.{asks-flush, asks-fill, asks-note, releases}
+use Rattle.flushing.specs.Released.{asks_flush, asks_fill, asks_note, releases}
 use Rattle.flushing.proofs.release_all.Statement.{statement}
 use Rattle.flushing.proofs.release_all.Tie as tie
 
@@ -25,7 +25,7 @@ flush-requires c κs =
     let at-start-1 = c.before.before.before.before.before in
     let at-start = at-start-1.before in
     let a = at-start.args in
-    asks-flush a.g a.added a.spans.now a.order.now a.tally.now a.rows.now at-start.requires
+    asks_flush a.g a.added a.spans.now a.order.now a.tally.now a.rows.now at-start.requires
 
 sub-fill-rows : tie.Need-overflow-sub-fill-rows
 sub-fill-rows c =
@@ -39,7 +39,7 @@ fill-rows-requires c κs =
     let at-start-1 = at-flush.before.before.before.before.before in
     let at-start = at-start-1.before.before in
     let a = at-start.args in
-    asks-fill a.g a.added a.spans.now a.order.now a.tally.now a.rows.now at-flush.flush.result at-flush.flush.new.1.1.0
+    asks_fill a.g a.added a.spans.now a.order.now a.tally.now a.rows.now at-flush.flush.result at-flush.flush.new.1.1.0
     at-flush.flush.new.1.1.1.0 at-flush.flush.ensures at-start.requires
 
 note-latest-requires : tie.Need-note-latest-requires
@@ -50,7 +50,7 @@ note-latest-requires c κs =
     let at-start-1 = at-flush.before.before.before.before.before in
     let at-start = at-start-1.before.before in
     let a = at-start.args in
-    asks-note a.g a.added a.spans.now a.order.now a.tally.now a.rows.now at-flush.flush.result at-flush.flush.new.1.1.0
+    asks_note a.g a.added a.spans.now a.order.now a.tally.now a.rows.now at-flush.flush.result at-flush.flush.new.1.1.0
     at-flush.flush.new.1.1.1.0 at-flush.flush.ensures at-fill-rows.fill-rows.new.1.0 at-fill-rows.fill-rows.ensures
     at-start.requires
 

@@ -1,7 +1,7 @@
 -- `guide::flush` meets its contract. The invariant: after i turns i spans are released, and the order has room for what is still held.
 -- Assumes nothing.
-use Rattle.guide.specs.Flushed.{Flushing, flush-begins, flush-free, flush-turn, flush-ends}
-use Rattle.placing.specs.Done.{released-written}
+use Rattle.guide.specs.Flushed.{Flushing, flush_begins, flush_free, flush_turn, flush_ends}
+use Rattle.placing.specs.Done.{released_written}
 use Prim.Native.Nat.{◌-◌, ◌≤◌}
 use lib.ListN.{length}
 use mathlib.Core.Path.{◌≡◌, refl, ◌∙◌}
@@ -28,7 +28,7 @@ loop-holds : tie.Need-loop-init invariant-loop decreases-loop
 loop-holds c =
     let s = c.before.before.before in
     let a = s.args in
-    (omega arith, (refl, (refl, flush-begins a.g a.spans.now a.order.now a.tally.now s.requires.0 s.requires.1)))
+    (omega arith, (refl, (refl, flush_begins a.g a.spans.now a.order.now a.tally.now s.requires.0 s.requires.1)))
 
 release-one-requires : tie.Need-release-one-requires invariant-loop decreases-loop
 release-one-requires c κs =
@@ -37,7 +37,7 @@ release-one-requires c κs =
     let l = (turn c).before.loop in
     let f = l.inv.1.1.1 in (
       f.done.stands,
-      flush-free a.g a.spans.now a.order.now a.tally.now s.pre.0 s.pre.1 l.h l.order l.tally l.i f (turn c).loop-test.true,
+      flush_free a.g a.spans.now a.order.now a.tally.now s.pre.0 s.pre.1 l.h l.order l.tally l.i f (turn c).loop-test.true,
     )
 
 add-i : tie.Need-overflow-add-i invariant-loop decreases-loop
@@ -60,9 +60,9 @@ loop-again c =
         z.auto.1.1.0 ∙ l.inv.1.0,
         (
           z.auto.1.1.1.0 ∙ l.inv.1.1.0,
-          flush-turn a.g a.spans.now a.order.now a.tally.now s.pre.0 s.pre.1 l.h l.order l.tally l.i f
+          flush_turn a.g a.spans.now a.order.now a.tally.now s.pre.0 s.pre.1 l.h l.order l.tally l.i f
               z.result z.new.1.1.0 z.new.1.1.1.0 here.loop-test.taken z.ensures.0
-              (released-written l.h z.result z.ensures.1 f.done.stands.laid.lens-many),
+              (released_written l.h z.result z.ensures.1 f.done.stands.laid.lens_many),
         ),
       ),
     )
@@ -78,7 +78,7 @@ returns c =
     let l = c.before.loop in
     let s = start c.before in
     let a = s.args in
-    flush-ends a.g a.spans.now a.order.now a.tally.now s.pre.0 s.pre.1 l.h l.order l.tally l.i l.invariant.1.1.1 (omega arith)
+    flush_ends a.g a.spans.now a.order.now a.tally.now s.pre.0 s.pre.1 l.h l.order l.tally l.i l.invariant.1.1.1 (omega arith)
 
 pub flush-spec : {M : Type 1} → statement M
 flush-spec =

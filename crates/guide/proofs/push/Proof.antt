@@ -1,7 +1,7 @@
 -- `guide::push` meets its contract: the choice is that of `rules`, and each of its two cases is one law. Assumes nothing.
 use Rattle.entries.specs.Entries.{item_of}
-use Rattle.guide.specs.Pushes.{taken-fits, open-fits, taken-pushes, open-pushes}
-use Rattle.guide.specs.Ready.{near_of, code-later, code-two, code_free}
+use Rattle.guide.specs.Pushes.{taken_fits, open_fits, taken_pushes, open_pushes}
+use Rattle.guide.specs.Ready.{near_of, code_later, code_two, code_free}
 use borrow.Author.Rules.{rules}
 use Rattle.guide.proofs.push.Statement.{statement}
 use Rattle.guide.proofs.push.Tie as tie
@@ -47,9 +47,9 @@ place-existing-requires c κs =
     let sp = a.spans.now in
     let o = a.order.now in
     let t = a.tally.now in
-    let f = taken-fits a.g sp o t a.has a.span a.pos s.pre.0 x.choose.result x.choose.ensures m.0.0 m.1 in (
+    let f = taken_fits a.g sp o t a.has a.span a.pos s.pre.0 x.choose.result x.choose.ensures m.0.0 m.1 in (
       s.pre.0,
-      (code_free a.g sp o t s.pre.0 s.pre.1.0, (f.0, (f.1, code-later a.g sp o t s.pre.0 s.pre.1.0 m.0.0 f.0))),
+      (code_free a.g sp o t s.pre.0 s.pre.1.0, (f.0, (f.1, code_later a.g sp o t s.pre.0 s.pre.1.0 m.0.0 f.0))),
     )
 
 same_length : tie.Need-same-length
@@ -69,7 +69,7 @@ returns c =
     let x = at.before.before in
     let s = start x.before.before in
     let a = s.args in
-    taken-pushes a.g a.spans.now a.order.now a.tally.now a.has a.span a.pos s.pre.0 x.choose.result x.choose.ensures
+    taken_pushes a.g a.spans.now a.order.now a.tally.now a.has a.span a.pos s.pre.0 x.choose.result x.choose.ensures
     (item_of a.e) z.result.guide z.last.1.0 z.last.1.1.0 z.last.1.1.1.0 s.pre.1.0.low m.0.0 m.1 _ _ z.ensures.1.0 z.ensures.1.1 z.ensures.0
 
 enum-known-m-2 : tie.Need-enum-known-m-2
@@ -86,8 +86,8 @@ place-opened-requires c κs =
     let t = a.tally.now in (
       s.pre.0,
       (
-        code-two a.g sp o t s.pre.0 s.pre.1.0,
-        open-fits a.g sp o t a.has a.span a.pos s.pre.0 x.choose.result x.choose.ensures m.0.0 m.1,
+        code_two a.g sp o t s.pre.0 s.pre.1.0,
+        open_fits a.g sp o t a.has a.span a.pos s.pre.0 x.choose.result x.choose.ensures m.0.0 m.1,
       ),
     )
 
@@ -108,7 +108,7 @@ returns-2 c =
     let x = at.before.before in
     let s = start x.before.before in
     let a = s.args in
-    open-pushes a.g a.spans.now a.order.now a.tally.now a.has a.span a.pos s.pre.0 x.choose.result x.choose.ensures
+    open_pushes a.g a.spans.now a.order.now a.tally.now a.has a.span a.pos s.pre.0 x.choose.result x.choose.ensures
     (item_of a.e) z.result.guide z.last.1.0 z.last.1.1.0 z.last.1.1.1.0 s.pre.1.0.low m.0.0 m.1 _ _ z.ensures.1.0 z.ensures.1.1 z.ensures.0
 
 pub push_spec : {M : Type 1} → statement M

@@ -2,7 +2,7 @@
 use Prim.Native.Nat.{◌+◌, ◌-◌, ◌≤◌}
 use native.Mathlib.Omega.{arith}
 use borrow.Author.Rules.{rules}
-use Rattle.entries.specs.Stored.{capacity-fits}
+use Rattle.entries.specs.Stored.{capacity_fits}
 use Rattle.guide_vectors.proofs.show_order.Statement.{statement}
 use Rattle.guide_vectors.proofs.show_order.Tie as tie
 
@@ -22,7 +22,7 @@ load-requires : tie.Need-load-requires invariant-loop decreases-loop
 load-requires c κs =
     let room = c.before in
     let loop = room.before.before in
-    omega (arith, capacity-fits loop.before.before.args.order.now (loop.loop.k + 1) (omega (arith, room.capacity.ensures)))
+    omega (arith, capacity_fits loop.before.before.args.order.now (loop.loop.k + 1) (omega (arith, room.capacity.ensures)))
 
 packed-requires : tie.Need-packed-requires invariant-loop decreases-loop
 packed-requires c κs = search rules

@@ -1,6 +1,6 @@
 -- Each way out is a law: too long, a bad head, opening refused, or the calls run to their end. Assumes nothing.
 use mathlib.Core.Path.{refl, ◌∙◌}
-use Rattle.job.specs.Laws.{ran-long, ran-malformed, ran-refused, may-run, ran-all}
+use Rattle.job.specs.Laws.{ran_long, ran_malformed, ran_refused, may_run, ran_all}
 use borrow.Author.Rules.{rules}
 use Rattle.job.proofs.run.Statement.{statement}
 use Rattle.job.proofs.run.Tie as tie
@@ -43,7 +43,7 @@ unopened-requires c κs = search rules
 returns : tie.Need-returns
 returns c =
     let long = c.before in
-    ran-long (start long.before).args.job.now _ c.unopened.ensures _ _ long.if1.true
+    ran_long (start long.before).args.job.now _ c.unopened.ensures _ _ long.if1.true
 
 read-head-requires : tie.Need-read-head-requires
 read-head-requires c κs = search rules
@@ -85,7 +85,7 @@ returns-2 c =
     let read = read sized.before.before in
     let within = read.before.before in
     let start = start within.before in
-    ran-refused start.args.job.now within.if1.left _ _ _ _ _ _ read.read_head.ensures sized.head.given.1 _ _ _ _ _
+    ran_refused start.args.job.now within.if1.left _ _ _ _ _ _ read.read_head.ensures sized.head.given.1 _ _ _ _ _
     start.pre (opened.«open».ensures _) c.if2.true
 
 run-calls-requires : tie.Need-run-calls-requires
@@ -96,7 +96,7 @@ run-calls-requires c κs =
     let read = read sized.before.before in
     let within = read.before.before in
     let start = start within.before in
-    may-run start.args.job.now within.if1.left _ _ _ _ _ _ read.read_head.ensures sized.head.given.1 _ _ _ _ _
+    may_run start.args.job.now within.if1.left _ _ _ _ _ _ read.read_head.ensures sized.head.given.1 _ _ _ _ _
     start.pre (opened.«open».ensures _) passed.if2.left _ read.read_head.kept.1.0
 
 enum-known-head-2 : tie.Need-enum-known-head-2
@@ -153,7 +153,7 @@ returns-3 c =
     let read = read sized.before.before in
     let within = read.before.before in
     let start = start within.before in
-    ran-all start.args.job.now within.if1.left _ _ _ _ _ _ read.read_head.ensures sized.head.given.1 _ _ _ _ _
+    ran_all start.args.job.now within.if1.left _ _ _ _ _ _ read.read_head.ensures sized.head.given.1 _ _ _ _ _
     start.pre (opened.«open».ensures _) passed.if2.left _ _ _ _ ran.run-calls.ensures refl
 
 same-length-18 : tie.Need-same-length-18
@@ -164,7 +164,7 @@ returns-4 c =
     let told = c.before.before in
     let read = read told.before.before in
     let within = read.before.before in
-    ran-malformed (start within.before).args.job.now within.if1.left _ _ _ _ read.read_head.ensures read.read_head.kept.1.0 told.head2.given.1
+    ran_malformed (start within.before).args.job.now within.if1.left _ _ _ _ read.read_head.ensures read.read_head.kept.1.0 told.head2.given.1
     _ c.unopened2.ensures _
 
 pub run_spec : {M : Type 1} → statement M

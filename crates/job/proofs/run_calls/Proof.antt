@@ -4,7 +4,7 @@ use Prim.Native.Nat.{◌-◌}
 use native.Mathlib.Omega.{arith}
 use lib.ListN.{length}
 use Rattle.session.specs.Storage.{storage}
-use Rattle.job.specs.Laws.{Running, running-begins, running-may, runs_on, falls, runs-ended, Lengths, lengths-refl, lengths-trans}
+use Rattle.job.specs.Laws.{Running, running_begins, running_may, runs_on, falls, runs_ended, Lengths, lengths_refl, lengths_trans}
 use borrow.Author.Rules.{rules}
 use Rattle.job.proofs.run_calls.Statement.{statement}
 use Rattle.job.proofs.run_calls.Tie as tie
@@ -40,12 +40,12 @@ called c =
     after-tally.before.before.before.before.before
 
 loop-holds : tie.Need-loop-init invariant-loop decreases-loop
-loop-holds c = (lengths-refl _ _, running-begins (start c).requires _)
+loop-holds c = (lengths_refl _ _, running_begins (start c).requires _)
 
 run-call-requires : tie.Need-run-call-requires invariant-loop decreases-loop
 run-call-requires c κs =
     let turn = turn c in
-    running-may (start turn.before).pre turn.loop.inv.1 _ turn.loop.inv.0.into
+    running_may (start turn.before).pre turn.loop.inv.1 _ turn.loop.inv.0.into
 
 enum-known-step : tie.Need-enum-known-step invariant-loop decreases-loop
 enum-known-step c = search rules
@@ -63,7 +63,7 @@ loop-again c =
     let called = called told.before.before in
     let turn = turn called.before in
     let k = called.run_call.kept.1 in (
-      lengths-trans turn.loop.inv.0
+      lengths_trans turn.loop.inv.0
           (record {
             spans = k.0;
             order = k.1.0;
@@ -131,7 +131,7 @@ returns c =
     let told = c.before in
     let called = called told.before.before in
     let turn = turn called.before in
-    runs-ended (start turn.before).pre turn.loop.inv.1 called.run_call.ensures _ told.step2.given.1
+    runs_ended (start turn.before).pre turn.loop.inv.1 called.run_call.ensures _ told.step2.given.1
 
 pub run-calls-spec : {M : Type 1} → statement M
 run-calls-spec =

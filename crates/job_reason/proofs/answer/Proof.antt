@@ -1,7 +1,7 @@
 -- What the session answers, or the two lines of a refusal. Assumes nothing.
 use mathlib.Core.Path.{◌∙◌, subst}
 use native.Mathlib.Omega.{arith}
-use Rattle.rules.specs.Reason.{reason-lines}
+use Rattle.rules.specs.Reason.{reason_lines}
 use Rattle.job_reason.specs.declared.JobReason.{JobReason}
 use Rattle.job_reason.specs.Explains.{Small}
 use Rattle.job_reason.specs.Laws.{answered}
@@ -51,7 +51,7 @@ same-length-2 : tie.Need-same-length-2
 same-length-2 c = search rules
 
 returns-2 : tie.Need-returns-2
-unfolding reason-lines
+unfolding reason_lines
 returns-2 c =
     let text = c.before.before in
     let refused = refused text.before in

@@ -2,7 +2,7 @@
 use mathlib.Core.Logic.{inl, inr}
 use mathlib.Core.Path.{sym, subst}
 use Rattle.jobturn.specs.declared.End.{End}
-use Rattle.job_reason.specs.Laws.{Asked, may-explain, explains-stopped, explains-refused}
+use Rattle.job_reason.specs.Laws.{Asked, may_explain, explains_stopped, explains_refused}
 use borrow.Author.Rules.{rules}
 use Rattle.job_reason.proofs.explain_end.Statement.{statement}
 use Rattle.job_reason.proofs.explain_end.Tie as tie
@@ -22,16 +22,16 @@ enum-known-end : tie.Need-enum-known-end
 enum-known-end c = search rules
 
 returns : tie.Need-returns
-returns c = record { tells = λ h. explains-refused h c.before.before.end.given.1 c.if1.true _ }
+returns c = record { tells = λ h. explains_refused h c.before.before.end.given.1 c.if1.true _ }
 
 enum_told : tie.Need-enum-told
 enum_told c = search rules
 
 explain-requires : tie.Need-explain-requires
-explain-requires c κs = may-explain (start c).requires.ran (asked c)
+explain-requires c κs = may_explain (start c).requires.ran (asked c)
 
 returns-2 : tie.Need-returns-2
-returns-2 c = record { tells = λ h. explains-stopped h (asked c.before) c.explain.ensures }
+returns-2 c = record { tells = λ h. explains_stopped h (asked c.before) c.explain.ensures }
 
 pub explain-end-spec : {M : Type 1} → statement M
 explain-end-spec = tie.close (tie.spec enum-known-end returns enum_told explain-requires returns-2)

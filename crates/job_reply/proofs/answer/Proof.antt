@@ -1,7 +1,7 @@
 -- The listing, or the two lines of a refusal. Assumes nothing.
 use native.Mathlib.Omega.{arith}
-use Rattle.writer.specs.Wrote.{wrote-in}
-use Rattle.job_reply.specs.Laws.{answer-listed, answer-refused}
+use Rattle.writer.specs.Wrote.{wrote_in}
+use Rattle.job_reply.specs.Laws.{answer_listed, answer_refused}
 use borrow.Author.Rules.{rules}
 use Rattle.job_reply.proofs.answer.Statement.{statement}
 use Rattle.job_reply.proofs.answer.Tie as tie
@@ -35,7 +35,7 @@ returns : tie.Need-returns
 returns c =
     let told = c.before in
     let replied = replied told.before.before in
-    answer-listed replied.reply-to.ensures (start replied).pre _ told.r.given.1
+    answer_listed replied.reply-to.ensures (start replied).pre _ told.r.given.1
 
 same-length-2 : tie.Need-same-length-2
 same-length-2 c = search rules
@@ -45,8 +45,8 @@ returns-2 c =
     let text = c.before.before in
     let told = text.before.before.before in
     let replied = replied told.before.before in
-    answer-refused replied.reply-to.ensures (start replied).pre _ _ told.r2.given.1 _ _
-    (omega (arith, wrote-in text.put-rejection.ensures, text.put-rejection.auto.0, replied.reply-to.kept.1.0, (start replied).pre)) text.put-rejection.ensures
+    answer_refused replied.reply-to.ensures (start replied).pre _ _ told.r2.given.1 _ _
+    (omega (arith, wrote_in text.put-rejection.ensures, text.put-rejection.auto.0, replied.reply-to.kept.1.0, (start replied).pre)) text.put-rejection.ensures
 
 pub answer-spec : {M : Type 1} → statement M
 answer-spec =

@@ -3,9 +3,9 @@ use mathlib.Core.Path.{◌≡◌, ◌∙◌}
 use Prim.Native.Nat.{ℕ}
 use native.Mathlib.Omega.{arith}
 use lib.ListN.{length, length-replicate, replicate}
-use Rattle.rules.specs.Limits.{program-listing-bytes, job-places}
+use Rattle.rules.specs.Limits.{program_listing_bytes, job_places}
 use Rattle.entries.specs.Entries.{extent}
-use Rattle.job_reply.specs.Laws.{may-report, n-low, replied-long, replied-listed, replied-refused}
+use Rattle.job_reply.specs.Laws.{may_report, n_low, replied_long, replied_listed, replied_refused}
 use borrow.Author.Rules.{rules}
 use Rattle.job_reply.proofs.reply_to.Statement.{statement}
 use Rattle.job_reply.proofs.reply_to.Tie as tie
@@ -26,11 +26,11 @@ abbrev told : tie.After-page → tie.After-end
 told c = c.before.before.before.before
 
 -- the lengths of the storage that was made
-page-long : length (replicate {A = ℕ} program-listing-bytes 0) ≡ program-listing-bytes
-page-long = length-replicate {A = ℕ} program-listing-bytes 0
+page-long : length (replicate {A = ℕ} program_listing_bytes 0) ≡ program_listing_bytes
+page-long = length-replicate {A = ℕ} program_listing_bytes 0
 
-order-long : length (replicate {A = ℕ} (extent job-places) 0) ≡ extent job-places
-order-long = length-replicate {A = ℕ} (extent job-places) 0
+order_long : length (replicate {A = ℕ} (extent job_places) 0) ≡ extent job_places
+order_long = length-replicate {A = ℕ} (extent job_places) 0
 
 slice-aggregate-run : tie.Need-slice-aggregate-run
 slice-aggregate-run c = search rules
@@ -78,7 +78,7 @@ report-requires : tie.Need-report-requires
 report-requires c κs =
     let told = told c in
     let ran = ran told.before.before in
-    may-report ran.run.ensures told.end.given.1 _ page-long (ran.run.kept.1.0 ∙ order-long)
+    may_report ran.run.ensures told.end.given.1 _ page-long (ran.run.kept.1.0 ∙ order_long)
 
 returns : tie.Need-returns
 returns c =
@@ -86,7 +86,7 @@ returns c =
     let told = told reported.before in
     let ran = ran told.before.before in
     let start = start ran in
-    replied-long ran.run.ensures told.end.given.1 _ _ _ (reported.report.auto.1.1.0 ∙ page-long)
+    replied_long ran.run.ensures told.end.given.1 _ _ _ (reported.report.auto.1.1.0 ∙ page-long)
     reported.report.ensures start.args.listing.now c.if1.true
 
 slice-aggregate-copy : tie.Need-slice-aggregate-copy
@@ -99,7 +99,7 @@ copy-requires c κs =
     let told = told reported.before in
     let ran = ran told.before.before in
     let long = reported.report.auto.1.1.0 ∙ page-long in
-    let low = n-low ran.run.ensures told.end.given.1 _ _ _ long reported.report.ensures in
+    let low = n_low ran.run.ensures told.end.given.1 _ _ _ long reported.report.ensures in
     (omega (arith, fits.if1.false), omega (arith, long, low))
 
 enum-known-end-2 : tie.Need-enum-known-end-2
@@ -116,14 +116,14 @@ returns-2 c =
     let told = told reported.before in
     let ran = ran told.before.before in
     let start = start ran in
-    replied-listed ran.run.ensures told.end.given.1 _ _ _ (reported.report.auto.1.1.0 ∙ page-long)
+    replied_listed ran.run.ensures told.end.given.1 _ _ _ (reported.report.auto.1.1.0 ∙ page-long)
     reported.report.ensures start.args.listing.now _ fits.if1.false copied.copy.ensures copied.copy.auto.0
 
 returns-3 : tie.Need-returns-3
 returns-3 c =
     let told = c.before in
     let ran = ran told.before.before in
-    replied-refused (start ran).args.text.now (start ran).args.listing.now _ _ _ ran.run.ensures told.end2.given.1
+    replied_refused (start ran).args.text.now (start ran).args.listing.now _ _ _ ran.run.ensures told.end2.given.1
 
 pub reply-to-spec : {M : Type 1} → statement M
 reply-to-spec =

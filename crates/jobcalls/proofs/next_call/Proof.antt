@@ -1,7 +1,7 @@
 -- A call is a line, or an `in=` line with the `out=` line after it and perhaps a lane line before it. Assumes nothing.
 use native.Mathlib.Omega.{arith}
-use Rattle.jobcalls.specs.Laws.{told-as, a-set, inputs-half, with-inputs, no-inputs, with-lane, a-flush, a-final, no_start}
-use Rattle.jobcalls.proofs.Others.{no-start-of, no-inputs-of}
+use Rattle.jobcalls.specs.Laws.{told_as, a_set, inputs_half, with_inputs, no_inputs, with_lane, a_flush, a_final, no_start}
+use Rattle.jobcalls.proofs.Others.{no_start_of, no_inputs_of}
 use borrow.Author.Rules.{rules}
 use Rattle.jobcalls.proofs.next_call.Statement.{statement}
 use Rattle.jobcalls.proofs.next_call.Tie as tie
@@ -45,7 +45,7 @@ returns c =
     let last = second c.before in
     let told = labelled last in
     let read = first told.before.before in
-    no-inputs _ (told-as read.line_at_lem.ensures told.l2.given.1) (start read).args.line last.line-at2.ensures (no-inputs-of last.line-at2.result.line c.match2.keys2)
+    no_inputs _ (told_as read.line_at_lem.ensures told.l2.given.1) (start read).args.line last.line-at2.ensures (no_inputs_of last.line-at2.result.line c.match2.keys2)
 
 add-read-outputs : tie.Need-overflow-add-read-outputs
 add-read-outputs c = search rules
@@ -56,7 +56,7 @@ read-outputs-requires c κs =
     let last = second told.before.before in
     let read = first (labelled last).before.before in (
       last.line-at2.ensures.within,
-      (inputs-half _ (told-as last.line-at2.ensures told.m.given.1), omega (arith, (start read).pre.1.0, read.line_at_lem.kept.1.1.0, last.line-at2.kept.1.1.0)),
+      (inputs_half _ (told_as last.line-at2.ensures told.m.given.1), omega (arith, (start read).pre.1.0, read.line_at_lem.kept.1.1.0, last.line-at2.kept.1.1.0)),
     )
 
 enum-known-l-3 : tie.Need-enum-known-l-3
@@ -69,7 +69,7 @@ read-outputs-requires-2 : tie.Need-read-outputs-requires-2
 read-outputs-requires-2 c κs =
     let told = c.before.before in
     let read = first told.before.before in
-    (read.line_at_lem.ensures.within, (inputs-half _ (told-as read.line_at_lem.ensures told.l3.given.1), search rules))
+    (read.line_at_lem.ensures.within, (inputs_half _ (told_as read.line_at_lem.ensures told.l3.given.1), search rules))
 
 enum_told : tie.Need-enum-told
 enum_told c = search rules
@@ -84,7 +84,7 @@ returns-2 : tie.Need-returns-2
 returns-2 c =
     let told = c.before in
     let read = first told.before.before in
-    a-set (start read).args.line _ (told-as read.line_at_lem.ensures told.l.given.1)
+    a_set (start read).args.line _ (told_as read.line_at_lem.ensures told.l.given.1)
 
 same-length-3 : tie.Need-same-length-3
 same-length-3 c = search rules
@@ -97,7 +97,7 @@ returns-3 c =
     let told = labelled last in
     let read = first told.before.before in
     ended.read-outputs.ensures _ _ _
-    (with-lane _ (told-as read.line_at_lem.ensures told.l2.given.1) (start read).args.line _ (told-as last.line-at2.ensures inputs.m.given.1))
+    (with_lane _ (told_as read.line_at_lem.ensures told.l2.given.1) (start read).args.line _ (told_as last.line-at2.ensures inputs.m.given.1))
 
 same-length-4 : tie.Need-same-length-4
 same-length-4 c = search rules
@@ -107,7 +107,7 @@ returns-4 c =
     let ended = c.before.before in
     let inputs = ended.before.before.before in
     let read = first inputs.before.before in
-    ended.read-outputs2.ensures _ _ _ (with-inputs _ (told-as read.line_at_lem.ensures inputs.l3.given.1) (start read).args.line)
+    ended.read-outputs2.ensures _ _ _ (with_inputs _ (told_as read.line_at_lem.ensures inputs.l3.given.1) (start read).args.line)
 
 same-length-5 : tie.Need-same-length-5
 same-length-5 c = search rules
@@ -115,7 +115,7 @@ same-length-5 c = search rules
 returns-5 : tie.Need-returns-5
 returns-5 c =
     let read = first c.before.before in
-    a-flush (start read).args.line (told-as read.line_at_lem.ensures c.enum_told.given.1)
+    a_flush (start read).args.line (told_as read.line_at_lem.ensures c.enum_told.given.1)
 
 same-length-6 : tie.Need-same-length-6
 same-length-6 c = search rules
@@ -123,7 +123,7 @@ same-length-6 c = search rules
 returns-6 : tie.Need-returns-6
 returns-6 c =
     let read = first c.before.before in
-    a-final (start read).args.line (told-as read.line_at_lem.ensures c.enum-told2.given.1)
+    a_final (start read).args.line (told_as read.line_at_lem.ensures c.enum-told2.given.1)
 
 same-length-7 : tie.Need-same-length-7
 same-length-7 c = search rules
@@ -131,7 +131,7 @@ same-length-7 c = search rules
 returns-7 : tie.Need-returns-7
 returns-7 c =
     let read = first c.before in
-    no_start (start read).args.line (no-start-of read.line_at_lem.result.line c.match.keys6) read.line_at_lem.ensures
+    no_start (start read).args.line (no_start_of read.line_at_lem.result.line c.match.keys6) read.line_at_lem.ensures
 
 pub next-call-spec : {M : Type 1} → statement M
 next-call-spec =

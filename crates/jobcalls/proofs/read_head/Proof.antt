@@ -1,6 +1,6 @@
 -- Line 1 has P and line 2 has V. Assumes nothing.
-use Rattle.jobcalls.specs.Laws.{told-as, no-line-1, no-line-2, the-head}
-use Rattle.jobcalls.proofs.Others.{no-parallelism-of, no-places-of}
+use Rattle.jobcalls.specs.Laws.{told_as, no_line_1, no_line_2, the_head}
+use Rattle.jobcalls.proofs.Others.{no_parallelism_of, no_places_of}
 use borrow.Author.Rules.{rules}
 use Rattle.jobcalls.proofs.read_head.Statement.{statement}
 use Rattle.jobcalls.proofs.read_head.Tie as tie
@@ -25,7 +25,7 @@ same_length : tie.Need-same-length
 same_length c = search rules
 
 returns : tie.Need-returns
-returns c = let read = first c.before in no-line-1 (no-parallelism-of read.line_at_lem.result.line c.match.keys2) read.line_at_lem.ensures
+returns c = let read = first c.before in no_line_1 (no_parallelism_of read.line_at_lem.result.line c.match.keys2) read.line_at_lem.ensures
 
 line-at-requires-2 : tie.Need-line-at-requires-2
 line-at-requires-2 c κs = search rules
@@ -41,7 +41,7 @@ returns-2 c =
     let last = second c.before in
     let told = sized last in
     let read = first told.before.before in
-    no-line-2 _ (told-as read.line_at_lem.ensures told.l.given.1) (no-places-of last.line-at2.result.line c.match2.keys2) last.line-at2.ensures
+    no_line_2 _ (told_as read.line_at_lem.ensures told.l.given.1) (no_places_of last.line-at2.result.line c.match2.keys2) last.line-at2.ensures
 
 same-length-3 : tie.Need-same-length-3
 same-length-3 c = search rules
@@ -52,7 +52,7 @@ returns-3 c =
     let last = second ended.before.before in
     let told = sized last in
     let read = first told.before.before in
-    the-head _ (told-as read.line_at_lem.ensures told.l.given.1) _ (told-as last.line-at2.ensures ended.m.given.1)
+    the_head _ (told_as read.line_at_lem.ensures told.l.given.1) _ (told_as last.line-at2.ensures ended.m.given.1)
 
 pub read-head-spec : {M : Type 1} → statement M
 read-head-spec =

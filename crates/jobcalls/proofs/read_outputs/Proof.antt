@@ -1,6 +1,6 @@
 -- The `out=` line behind the inputs that were read and a free number. Assumes nothing.
-use Rattle.jobcalls.specs.Laws.{told-as, an-add, no-outputs}
-use Rattle.jobcalls.proofs.Others.{no-outputs-of}
+use Rattle.jobcalls.specs.Laws.{told_as, an_add, no_outputs}
+use Rattle.jobcalls.proofs.Others.{no_outputs_of}
 use borrow.Author.Rules.{rules}
 use Rattle.jobcalls.proofs.read_outputs.Statement.{statement}
 use Rattle.jobcalls.proofs.read_outputs.Tie as tie
@@ -28,7 +28,7 @@ returns : tie.Need-returns
 returns c =
     let read = read c.before in
     let start = start read in
-    no-outputs start.args.line start.args.lane _ start.pre.1.0 start.pre.0 read.line_at_lem.ensures (no-outputs-of read.line_at_lem.result.line c.match.keys2)
+    no_outputs start.args.line start.args.lane _ start.pre.1.0 start.pre.0 read.line_at_lem.ensures (no_outputs_of read.line_at_lem.result.line c.match.keys2)
 
 same-length-2 : tie.Need-same-length-2
 same-length-2 c = search rules
@@ -38,7 +38,7 @@ returns-2 c =
     let told = c.before in
     let read = read told.before.before in
     let start = start read in
-    an-add start.args.line start.args.lane _ start.pre.1.0 start.pre.0 _ (told-as read.line_at_lem.ensures told.l.given.1)
+    an_add start.args.line start.args.lane _ start.pre.1.0 start.pre.0 _ (told_as read.line_at_lem.ensures told.l.given.1)
 
 pub read-outputs-spec : {M : Type 1} → statement M
 read-outputs-spec = tie.close (tie.spec add-line-at line-at-requires enum-known-l same_length returns same-length-2 returns-2)

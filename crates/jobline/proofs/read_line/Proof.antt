@@ -4,8 +4,8 @@ use native.Mathlib.Omega.{arith}
 use lib.ListN.{length, length-take, length-drop}
 use Rattle.rules.specs.Job as rule
 use Rattle.jobline.specs.Lines.{NoAdd}
-use Rattle.jobline.specs.Keys.{Numbered, Itemized, lane-key, inputs-line, outputs-line}
-use Rattle.jobline.specs.Reads.{value_line, no_value, plain, list-line, no-list}
+use Rattle.jobline.specs.Keys.{Numbered, Itemized, lane_key, inputs_line, outputs_line}
+use Rattle.jobline.specs.Reads.{value_line, no_value, plain, list_line, no_list}
 use Rattle.jobline.specs.declared.Line.TheVariants as line
 use borrow.Author.Rules.{rules}
 use Rattle.jobline.proofs.read_line.Statement.{statement}
@@ -25,23 +25,23 @@ abbrev start-3 : tie.After-starts3 → tie.Start
 start-3 c = start (first (second c).before).before
 
 -- what they tell
-by-inputs : (c : tie.Then1) → Itemized (length rule.key_in) rule.in-line (start c.before).args.s.now
-by-inputs c = inputs-line _ (sym c.before.starts.ensures ∙ c.if1.true)
+by-inputs : (c : tie.Then1) → Itemized (length rule.key_in) rule.in_line (start c.before).args.s.now
+by-inputs c = inputs_line _ (sym c.before.starts.ensures ∙ c.if1.true)
 
-by-outputs : (c : tie.Then2) → Itemized (length rule.key-out) rule.out_line (start (first c.before).before).args.s.now
-by-outputs c = outputs-line _ (sym c.before.starts2.ensures ∙ c.if2.true)
+by-outputs : (c : tie.Then2) → Itemized (length rule.key_out) rule.out_line (start (first c.before).before).args.s.now
+by-outputs c = outputs_line _ (sym c.before.starts2.ensures ∙ c.if2.true)
 
-by-lane : (c : tie.Then3) → Numbered (length rule.key-lane) rule.lane-line (start-3 c.before).args.s.now
-by-lane c = lane-key _ (sym c.before.starts3.ensures ∙ c.if3.true)
+by-lane : (c : tie.Then3) → Numbered (length rule.key_lane) rule.lane-line (start-3 c.before).args.s.now
+by-lane c = lane_key _ (sym c.before.starts3.ensures ∙ c.if3.true)
 
 no_add : (c : tie.Else3) → NoAdd (start-3 c.before).args.s.now
 no_add c =
     let q = second c.before in
     let p = first q.before in
     record {
-      no-lane = sym c.before.starts3.ensures ∙ c.if3.false;
-      no-in = sym p.before.starts.ensures ∙ p.if1.left;
-      no-out = sym q.before.starts2.ensures ∙ q.if2.left;
+      no_lane = sym c.before.starts3.ensures ∙ c.if3.false;
+      no_in = sym p.before.starts.ensures ∙ p.if1.left;
+      no_out = sym q.before.starts2.ensures ∙ q.if2.left;
     }
 
 slice-aggregate-starts : tie.Need-slice-aggregate-starts
@@ -78,7 +78,7 @@ returns c =
     let read = c.before.before.before.before in
     let test = read.before.before.before in
     let start = start test.before in
-    no-list _ _ _ start.pre (by-inputs test) (omega arith) read.read-list.ensures c.enum_told.given.1
+    no_list _ _ _ start.pre (by-inputs test) (omega arith) read.read-list.ensures c.enum_told.given.1
 
 same-length-2 : tie.Need-same-length-2
 same-length-2 c = search rules
@@ -89,7 +89,7 @@ returns-2 c =
     let read = told.before.before.before.before in
     let test = read.before.before.before in
     let start = start test.before in
-    list-line _ _ _ start.pre (by-inputs test) (omega arith) read.read-list.ensures (line.Inputs _) _ told.x.given.1 refl refl
+    list_line _ _ _ start.pre (by-inputs test) (omega arith) read.read-list.ensures (line.Inputs _) _ told.x.given.1 refl refl
 
 slice-aggregate-starts-2 : tie.Need-slice-aggregate-starts-2
 slice-aggregate-starts-2 c = search rules
@@ -125,7 +125,7 @@ returns-3 c =
     let read = c.before.before.before.before in
     let test = read.before.before.before in
     let start = start (first test.before).before in
-    no-list _ _ _ start.pre (by-outputs test) (omega arith) read.read-list2.ensures c.enum-told2.given.1
+    no_list _ _ _ start.pre (by-outputs test) (omega arith) read.read-list2.ensures c.enum-told2.given.1
 
 same-length-4 : tie.Need-same-length-4
 same-length-4 c = search rules
@@ -136,7 +136,7 @@ returns-4 c =
     let read = told.before.before.before.before in
     let test = read.before.before.before in
     let start = start (first test.before).before in
-    list-line _ _ _ start.pre (by-outputs test) (omega arith) read.read-list2.ensures (line.Outputs _) _ told.x2.given.1 refl refl
+    list_line _ _ _ start.pre (by-outputs test) (omega arith) read.read-list2.ensures (line.Outputs _) _ told.x2.given.1 refl refl
 
 slice-aggregate-starts-3 : tie.Need-slice-aggregate-starts-3
 slice-aggregate-starts-3 c = search rules

@@ -5,10 +5,10 @@ use mathlib.Core.Path.{◌≡◌, refl, sym, ◌∙◌}
 use Prim.Native.Nat.{ℕ}
 use lib.ListN.{length}
 use Rattle.rules.specs.Job as rule
-use Rattle.rules.specs.Job.{key-parallelism, key-places, key_set}
+use Rattle.rules.specs.Job.{key_parallelism, key_places, key_set}
 use Rattle.jobline.specs.Lines.{begins, NoAdd}
-use Rattle.jobline.specs.Keys.{Numbered, parallelism-key, places-key, set_key, flush-key, final-key, no_key, not-whole}
-use Rattle.jobline.specs.Reads.{value_line, no_value, plain-line}
+use Rattle.jobline.specs.Keys.{Numbered, parallelism_key, places_key, set_key, flush_key, final_key, no_key, not_whole}
+use Rattle.jobline.specs.Reads.{value_line, no_value, plain_line}
 use Rattle.jobline.specs.declared.Line.TheVariants as line
 use borrow.Author.Rules.{rules}
 use Rattle.jobline.proofs.read_plain.Statement.{statement}
@@ -30,11 +30,11 @@ abbrev of-3 : tie.Else3 → List ℕ
 of-3 c = text (first (second c.before).before).before
 
 -- what they tell
-by-parallelism : (c : tie.Then1) → Numbered (length key-parallelism) rule.parallelism-line (text c.before)
-by-parallelism c = parallelism-key _ (sym c.before.starts.ensures ∙ c.if1.true)
+by-parallelism : (c : tie.Then1) → Numbered (length key_parallelism) rule.parallelism_line (text c.before)
+by-parallelism c = parallelism_key _ (sym c.before.starts.ensures ∙ c.if1.true)
 
-by-places : (c : tie.Then2) → Numbered (length key-places) rule.places-line (text (first c.before).before)
-by-places c = let p = first c.before in places-key _ (sym p.before.starts.ensures ∙ p.if1.left) (sym c.before.starts2.ensures ∙ c.if2.true)
+by-places : (c : tie.Then2) → Numbered (length key_places) rule.places-line (text (first c.before).before)
+by-places c = let p = first c.before in places_key _ (sym p.before.starts.ensures ∙ p.if1.left) (sym c.before.starts2.ensures ∙ c.if2.true)
 
 by-set : (c : tie.Then3) → Numbered (length key_set) rule.set_line (text (first (second c.before).before).before)
 by-set c =
@@ -42,10 +42,10 @@ by-set c =
     let p = first q.before in
     set_key _ (sym p.before.starts.ensures ∙ p.if1.left) (sym q.before.starts2.ensures ∙ q.if2.left) (sym c.before.starts3.ensures ∙ c.if3.true)
 
-no-parallelism : (c : tie.Else3) → begins key-parallelism (of-3 c) ≡ false
+no-parallelism : (c : tie.Else3) → begins key_parallelism (of-3 c) ≡ false
 no-parallelism c = let p = first (second c.before).before in sym p.before.starts.ensures ∙ p.if1.left
 
-no-places : (c : tie.Else3) → begins key-places (of-3 c) ≡ false
+no-places : (c : tie.Else3) → begins key_places (of-3 c) ≡ false
 no-places c = let q = second c.before in sym q.before.starts2.ensures ∙ q.if2.left
 
 no-set : (c : tie.Else3) → begins key_set (of-3 c) ≡ false
@@ -168,7 +168,7 @@ starts-requires-4 c κs = search rules
 returns-7 : tie.Need-returns-7
 returns-7 c =
     let seven = c.before.before.before in
-    plain-line refl (λ r. refl) (flush-key _ (no-parallelism seven.before) (no-places seven.before) (no-set seven.before) (no_add seven.before)
+    plain_line refl (λ r. refl) (flush_key _ (no-parallelism seven.before) (no-places seven.before) (no-set seven.before) (no_add seven.before)
     seven.if4.true (sym c.before.starts4.ensures ∙ c.if5.true))
 
 slice-aggregate-starts-5 : tie.Need-slice-aggregate-starts-5
@@ -181,19 +181,19 @@ returns-8 : tie.Need-returns-8
 returns-8 c =
     let other = c.before.before.before in
     let seven = other.before.before.before in
-    plain-line refl (λ r. refl) (final-key _ (no-parallelism seven.before) (no-places seven.before) (no-set seven.before) (no_add seven.before)
+    plain_line refl (λ r. refl) (final_key _ (no-parallelism seven.before) (no-places seven.before) (no-set seven.before) (no_add seven.before)
     seven.if4.true (sym other.before.starts4.ensures ∙ other.if5.false) (sym c.before.starts5.ensures ∙ c.if6.true))
 
 returns-9 : tie.Need-returns-9
 returns-9 c =
     let other = c.before.before.before in
     let seven = other.before.before.before in
-    plain-line refl (λ r. refl) (no_key _ (no-parallelism seven.before) (no-places seven.before) (no-set seven.before) (no_add seven.before)
+    plain_line refl (λ r. refl) (no_key _ (no-parallelism seven.before) (no-places seven.before) (no-set seven.before) (no_add seven.before)
     seven.if4.true (sym other.before.starts4.ensures ∙ other.if5.false) (sym c.before.starts5.ensures ∙ c.if6.false))
 
 returns-10 : tie.Need-returns-10
 returns-10 c =
-    plain-line refl (λ r. refl) (not-whole _ (no-parallelism c.before) (no-places c.before) (no-set c.before) (no_add c.before) c.if4.false)
+    plain_line refl (λ r. refl) (not_whole _ (no-parallelism c.before) (no-places c.before) (no-set c.before) (no_add c.before) c.if4.false)
 
 pub read-plain-spec : {M : Type 1} → statement M
 read-plain-spec =

@@ -3,7 +3,7 @@ use Prim.Native.Nat.{◌≤◌, ◌-◌}
 use mathlib.Core.Path.{◌≡◌, sym, ◌∙◌}
 use lib.ListN.{length, drop}
 use Rattle.jobline.specs.Lines.{begins}
-use Rattle.jobline.specs.Keys.{begins-on, begins-not, begins-short, begins-end}
+use Rattle.jobline.specs.Keys.{begins_on, begins_not, begins_short, begins_end}
 use borrow.Author.Rules.{rules}
 use Rattle.jobline.proofs.starts.Statement.{statement}
 use Rattle.jobline.proofs.starts.Tie as tie
@@ -21,7 +21,7 @@ returns : tie.Need-returns invariant-loop decreases-loop
 returns c =
     let at-loop = c.before.before in
     let start = at-loop.before in
-    sym (at-loop.loop.invariant.1 ∙ begins-short start.args.key.now start.args.s.now at-loop.loop.i c.before.loop-test.true c.if1.true)
+    sym (at-loop.loop.invariant.1 ∙ begins_short start.args.key.now start.args.s.now at-loop.loop.i c.before.loop-test.true c.if1.true)
 
 shared-slice-read-if2 : tie.Need-shared-slice-read-if2 invariant-loop decreases-loop
 shared-slice-read-if2 c = search rules
@@ -35,7 +35,7 @@ returns-2 c =
     let in-loop = else1.before in
     let at-loop = in-loop.before in
     let start = at-loop.before in
-    sym (at-loop.loop.invariant.1 ∙ begins-not start.args.key.now start.args.s.now at-loop.loop.i in-loop.loop-test.true else1.if1.false c.if2.true)
+    sym (at-loop.loop.invariant.1 ∙ begins_not start.args.key.now start.args.s.now at-loop.loop.i in-loop.loop-test.true else1.if1.false c.if2.true)
 
 add-i : tie.Need-overflow-add-i invariant-loop decreases-loop
 add-i c = search rules
@@ -49,10 +49,10 @@ loop-again c =
     let in-loop = else1.before in
     let at-loop = in-loop.before in
     let start = at-loop.before in
-    (search rules, at-loop.loop.invariant.1 ∙ begins-on start.args.key.now start.args.s.now at-loop.loop.i in-loop.loop-test.true else1.if1.false c.if2.false)
+    (search rules, at-loop.loop.invariant.1 ∙ begins_on start.args.key.now start.args.s.now at-loop.loop.i in-loop.loop-test.true else1.if1.false c.if2.false)
 
 returns-3 : tie.Need-returns-3 invariant-loop decreases-loop
-returns-3 c = sym (c.before.loop.invariant.1 ∙ begins-end c.before.before.args.key.now c.before.before.args.s.now c.before.loop.i c.loop-test.false)
+returns-3 c = sym (c.before.loop.invariant.1 ∙ begins_end c.before.before.args.key.now c.before.before.args.s.now c.before.loop.i c.loop-test.false)
 
 pub starts-spec : {M : Type 1} → statement M
 starts-spec =

@@ -1,6 +1,6 @@
 -- The reading in the host's numbers, which fit by the theorem about every job's needs. Assumes nothing.
 use native.Mathlib.Omega.{arith}
-use Rattle.jobneeds.specs.Laws.{needs-few, numbers-are, result_fits, refusal_is}
+use Rattle.jobneeds.specs.Laws.{needs_few, numbers_are, result_fits, refusal_is}
 use borrow.Author.Rules.{rules}
 use Rattle.jobneeds.proofs.job_needs.Statement.{statement}
 use Rattle.jobneeds.proofs.job_needs.Tie as tie
@@ -19,7 +19,7 @@ most-spans-requires : tie.Need-most-spans-requires
 most-spans-requires c κs =
     let told = c.before in
     let read = told.before.before in
-    needs-few (start read).args.job.now read.read-needs.ensures told.read.given.1
+    needs_few (start read).args.job.now read.read-needs.ensures told.read.given.1
 
 enum-known-read-2 : tie.Need-enum-known-read-2
 enum-known-read-2 c = search rules
@@ -42,7 +42,7 @@ returns c =
     let told = ceiling.before.before in
     let read = told.before.before in
     let args = (start read).args in
-    numbers-are args.job.now read.read-needs.ensures told.read.given.1 args.needs.now ceiling.most-spans.ensures
+    numbers_are args.job.now read.read-needs.ensures told.read.given.1 args.needs.now ceiling.most_spans.ensures
 
 returns-2 : tie.Need-returns-2
 returns-2 c =

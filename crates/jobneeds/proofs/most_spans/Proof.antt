@@ -1,7 +1,7 @@
 -- The sum is the definition's. Assumes nothing.
 use mathlib.Core.Path.{refl}
 use borrow.Author.Rules.{rules}
-use Rattle.rules.specs.Needs.{most-spans}
+use Rattle.rules.specs.Needs.{most_spans}
 use Rattle.jobneeds.proofs.most_spans.Statement.{statement}
 use Rattle.jobneeds.proofs.most_spans.Tie as tie
 
@@ -18,7 +18,7 @@ add-result-2 : tie.Need-overflow-add-result-2
 add-result-2 c = search rules
 
 returns : tie.Need-returns
-unfolding most-spans
+unfolding most_spans
 returns c = refl
 
 pub most-spans-spec : {M : Type 1} → statement M

@@ -4,7 +4,7 @@ use Prim.Native.Nat.{◌-◌}
 use native.Mathlib.Omega.{arith}
 use lib.ListN.{length}
 use Rattle.jobcalls.specs.Laws.{read_as}
-use Rattle.jobneeds.specs.Laws.{Counting, counting-begins, line_after, may-count, falls, counts-on, reads_all, reads-surplus, reads-malformed}
+use Rattle.jobneeds.specs.Laws.{Counting, counting_begins, line_after, may_count, falls, counts_on, reads_all, reads_surplus, reads_malformed}
 use borrow.Author.Rules.{rules}
 use Rattle.jobneeds.proofs.read_calls.Statement.{statement}
 use Rattle.jobneeds.proofs.read_calls.Tie as tie
@@ -26,14 +26,14 @@ abbrev read : tie.After-slice-known2 invariant-loop decreases-loop → tie.After
 read c = c.before.before
 
 loop-holds : tie.Need-loop-init invariant-loop decreases-loop
-loop-holds c = (refl, counting-begins c.before.before.requires)
+loop-holds c = (refl, counting_begins c.before.before.requires)
 
 next-call-requires : tie.Need-next-call-requires invariant-loop decreases-loop
 next-call-requires c κs =
     let turn = c.before in
     let pre = (start turn).requires in
     let counting = turn.loop.invariant.1 in
-    (counting.inside, (omega (arith, pre.room-is, pre.short, turn.loop.invariant.0), omega (arith, counting.low, counting.inside, pre.short)))
+    (counting.inside, (omega (arith, pre.room_is, pre.short, turn.loop.invariant.0), omega (arith, counting.low, counting.inside, pre.short)))
 
 enum-known-read : tie.Need-enum-known-read invariant-loop decreases-loop
 enum-known-read c = search rules
@@ -43,7 +43,7 @@ count-requires c κs =
     let told = c.before in
     let read = read told.before.before in
     let turn = turn read in
-    may-count (start turn).pre turn.loop.inv.1 _ _ _ (read_as read.next-call.ensures told.read.given.1) (read.next-call.kept.1.1.1.0 ∙ turn.loop.inv.0)
+    may_count (start turn).pre turn.loop.inv.1 _ _ _ (read_as read.next-call.ensures told.read.given.1) (read.next-call.kept.1.1.1.0 ∙ turn.loop.inv.0)
 
 add-line : tie.Need-overflow-add-line invariant-loop decreases-loop
 add-line c =
@@ -65,7 +65,7 @@ loop-again c =
     let read = read told.before.before in
     let turn = turn read in
     let same = read.next-call.kept.1.1.1.0 ∙ turn.loop.inv.0 in
-    (same, counts-on (start turn).pre turn.loop.inv.1 _ _ _ (read_as read.next-call.ensures told.read.given.1) same c.count.ensures)
+    (same, counts_on (start turn).pre turn.loop.inv.1 _ _ _ (read_as read.next-call.ensures told.read.given.1) same c.count.ensures)
 
 enum-known-read-2 : tie.Need-enum-known-read-2 invariant-loop decreases-loop
 enum-known-read-2 c = search rules
@@ -99,7 +99,7 @@ returns-2 c =
     let told = c.before.before in
     let read = read told.before.before in
     let turn = turn read in
-    reads-surplus (start turn).pre turn.loop.inv.1 _ _ (read_as read.next-call.ensures told.read2.given.1) c.if1.false
+    reads_surplus (start turn).pre turn.loop.inv.1 _ _ (read_as read.next-call.ensures told.read2.given.1) c.if1.false
 
 enum-known-read-3 : tie.Need-enum-known-read-3 invariant-loop decreases-loop
 enum-known-read-3 c = search rules
@@ -114,7 +114,7 @@ returns-3 c =
     let told = c.before in
     let read = read told.before.before in
     let turn = turn read in
-    reads-malformed (start turn).pre turn.loop.inv.1 _ (read_as read.next-call.ensures told.read3.given.1)
+    reads_malformed (start turn).pre turn.loop.inv.1 _ (read_as read.next-call.ensures told.read3.given.1)
 
 pub read-calls-spec : {M : Type 1} → statement M
 read-calls-spec =

@@ -1,11 +1,11 @@
 -- Each way out is a law: too long, a bad head, or the calls read to their end. Assumes nothing.
-use Rattle.jobneeds.specs.Laws.{told-long, told-malformed, may_read, told-read}
+use Rattle.jobneeds.specs.Laws.{told_long, told_malformed, may_read, told_read}
 use borrow.Author.Rules.{rules}
 use Rattle.jobneeds.proofs.read_needs.Statement.{statement}
 use Rattle.jobneeds.proofs.read_needs.Tie as tie
 
 returns : tie.Need-returns
-returns c = told-long c.before.before.args.job.now c.if1.true
+returns c = told_long c.before.before.args.job.now c.if1.true
 
 slice-aggregate-read-head : tie.Need-slice-aggregate-read-head
 slice-aggregate-read-head c = search rules
@@ -34,14 +34,14 @@ returns-2 c =
     let sized = c.before.before.before.before in
     let read = sized.before.before.before in
     let short = read.before.before in
-    told-read short.if1.false read.read_head.ensures _ _ _ sized.head.given.1 c.before.read-calls.result c.before.read-calls.ensures
+    told_read short.if1.false read.read_head.ensures _ _ _ sized.head.given.1 c.before.read-calls.result c.before.read-calls.ensures
 
 returns-3 : tie.Need-returns-3
 returns-3 c =
     let told = c.before in
     let read = told.before.before.before in
     let short = read.before.before in
-    told-malformed short.if1.false read.read_head.ensures _ told.head2.given.1
+    told_malformed short.if1.false read.read_head.ensures _ told.head2.given.1
 
 pub read-needs-spec : {M : Type 1} → statement M
 read-needs-spec =

@@ -4,13 +4,13 @@ use native.Mathlib.Omega.{arith}
 use Prim.Native.Nat.{◌≤◌, ◌<◌, ◌-◌, ◌^◌}
 use mathlib.Core.Path.{◌≡◌}
 use lib.ListN.{length, drop}
-use Rattle.rules.specs.Job.{digits_from, in-64-bits}
+use Rattle.rules.specs.Job.{digits_from, in_64_bits}
 use Rattle.jobtext.specs.Numbers.{low_byte, high_byte, too_large, one_more, all_read}
 use Rattle.jobtext.proofs.digits.Statement.{statement}
 use Rattle.jobtext.proofs.digits.Tie as tie
 
 abbrev invariant-loop : tie.invariant-loop
-invariant-loop s x₀ i₀ x i = (i ≤ length s) × (x < 2 ^ 64) × (in-64-bits (digits_from x (drop i s)) ≡ in-64-bits (digits_from 0 s))
+invariant-loop s x₀ i₀ x i = (i ≤ length s) × (x < 2 ^ 64) × (in_64_bits (digits_from x (drop i s)) ≡ in_64_bits (digits_from 0 s))
 
 abbrev decreases-loop : tie.decreases-loop
 decreases-loop s x₀ i₀ x i = length s - i

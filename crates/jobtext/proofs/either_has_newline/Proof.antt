@@ -1,7 +1,7 @@
 -- Assumes nothing.
 use borrow.Author.Rules.{rules}
-use Rattle.jobtext.specs.Text.{low-bytes}
-use Rattle.jobtext.specs.Words.{either-marked}
+use Rattle.jobtext.specs.Text.{low_bytes}
+use Rattle.jobtext.specs.Words.{either_marked}
 use Rattle.jobtext.proofs.either_has_newline.Statement.{statement}
 use Rattle.jobtext.proofs.either_has_newline.Tie as tie
 
@@ -15,7 +15,7 @@ returns : tie.Need-returns
 returns c =
     let first = c.before in
     let a = first.before.args in
-    either-marked first.newlines.result c.newlines2.result (low-bytes 8 a.v) (low-bytes 8 a.w) first.newlines.ensures c.newlines2.ensures
+    either_marked first.newlines.result c.newlines2.result (low_bytes 8 a.v) (low_bytes 8 a.w) first.newlines.ensures c.newlines2.ensures
 
 pub either-has-newline-spec : {M : Type 1} → statement M
 either-has-newline-spec = tie.close (tie.spec newlines-requires newlines-requires-2 returns)

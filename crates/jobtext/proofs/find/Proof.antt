@@ -3,7 +3,7 @@ use Prim.Native.Nat.{◌≤◌, ◌-◌, ◌+◌}
 use mathlib.Core.Path.{◌≡◌, ap}
 use lib.ListN.{length, drop, drop_of_length-le}
 use Rattle.jobtext.specs.Text.{before}
-use Rattle.jobtext.specs.Pieces.{before-stop, before_on, before-end}
+use Rattle.jobtext.specs.Pieces.{before_stop, before_on, before_end}
 use borrow.Author.Rules.{rules}
 use native.Mathlib.Omega.{arith}
 use Rattle.jobtext.proofs.find.Statement.{statement}
@@ -26,7 +26,7 @@ returns c =
     let in-loop = c.before.before in
     let at-loop = in-loop.before in
     let start = at-loop.before in
-    omega (arith, at-loop.loop.invariant.1, before-stop start.args.b start.args.s.now at-loop.loop.i in-loop.loop-test.true c.if1.true)
+    omega (arith, at-loop.loop.invariant.1, before_stop start.args.b start.args.s.now at-loop.loop.i in-loop.loop-test.true c.if1.true)
 
 add-i : tie.Need-overflow-add-i invariant-loop decreases-loop
 add-i c = search rules
@@ -43,7 +43,7 @@ loop-again c =
 
 returns-2 : tie.Need-returns-2 invariant-loop decreases-loop
 returns-2 c =
-    omega (arith, c.before.loop.invariant.1, ap (before c.before.before.args.b) (drop_of_length-le c.before.before.args.s.now c.loop-test.false), before-end c.before.before.args.b)
+    omega (arith, c.before.loop.invariant.1, ap (before c.before.before.args.b) (drop_of_length-le c.before.before.args.s.now c.loop-test.false), before_end c.before.before.args.b)
 
 pub find_spec : {M : Type 1} → statement M
 find_spec =

@@ -3,7 +3,7 @@ use Prim.Native.Nat.{◌+◌, ◌-◌, ◌≤◌}
 use mathlib.Core.Path.{◌≡◌, sym, ap, ◌∙◌}
 use lib.ListN.{length, take, drop}
 use Rattle.jobtext.specs.Text.{before, GoesOn}
-use Rattle.jobtext.specs.Pieces.{goes-on-from, ends-here, past-none}
+use Rattle.jobtext.specs.Pieces.{goes_on_from, ends_here, past_none}
 use borrow.Author.Rules.{rules}
 use native.Mathlib.Omega.{arith}
 use Rattle.jobtext.proofs.line_end.Statement.{statement}
@@ -49,7 +49,7 @@ returns c =
     let tested = c.before in
     let at-loop = to-loop tested in
     let start = at-loop.before.before in
-    ends-here start.args.s.now start.args.from at-loop.loop.i 8 at-loop.loop.inv (inside tested) tested.newline-in.result (says tested) c.if1.true
+    ends_here start.args.s.now start.args.from at-loop.loop.i 8 at-loop.loop.inv (inside tested) tested.newline-in.result (says tested) c.if1.true
 
 add-pass-pairs : tie.Need-overflow-add-pass-pairs invariant-loop decreases-loop
 add-pass-pairs c = search rules
@@ -68,8 +68,8 @@ loop-again c =
     let tested = not_in.before in
     let at-loop = to-loop tested in
     let start = at-loop.before.before in
-    let past = past-none start.args.s.now start.args.from at-loop.loop.i 8 at-loop.loop.inv (inside tested) tested.newline-in.result (says tested) not_in.if1.false in
-    goes-on-from past c.pass-pairs.ensures.goes_on
+    let past = past_none start.args.s.now start.args.from at-loop.loop.i 8 at-loop.loop.inv (inside tested) tested.newline-in.result (says tested) not_in.if1.false in
+    goes_on_from past c.pass-pairs.ensures.goes_on
 
 find-requires : tie.Need-find-requires invariant-loop decreases-loop
 find-requires c κs = search rules

@@ -4,8 +4,8 @@ use mathlib.Core.Logic.{inl, inr}
 use mathlib.Core.Path.{◌≡◌, sym, ap, ◌∙◌}
 use lib.ListN.{length, take, drop}
 use Rattle.rules.specs.Model.{member}
-use Rattle.jobtext.specs.Text.{low-bytes, GoesOn}
-use Rattle.jobtext.specs.Pieces.{goes-past}
+use Rattle.jobtext.specs.Text.{low_bytes, GoesOn}
+use Rattle.jobtext.specs.Pieces.{goes_past}
 use Rattle.jobtext.specs.Words.{beside}
 use borrow.Author.Rules.{rules}
 use native.Mathlib.Omega.{arith}
@@ -54,10 +54,10 @@ says c =
     let v = (to-first c).word_at in
     let w = (to-second c).word-at2 in
     c.either-has-newline.ensures
-    ∙ ap (member 10) (beside at-loop.before.before.args.s.now at-loop.loop.i 8 8 (low-bytes 8 v.result) (low-bytes 8 w.result) v.ensures w.ensures)
+    ∙ ap (member 10) (beside at-loop.before.before.args.s.now at-loop.loop.i 8 8 (low_bytes 8 v.result) (low_bytes 8 w.result) v.ensures w.ensures)
 
 returns : tie.Need-returns invariant-loop decreases-loop
-returns c = record { goes_on = (to-loop c.before).loop.inv; no-further = inl (sym (says c.before) ∙ c.if1.true) }
+returns c = record { goes_on = (to-loop c.before).loop.inv; no_further = inl (sym (says c.before) ∙ c.if1.true) }
 
 add-i : tie.Need-overflow-add-i invariant-loop decreases-loop
 add-i c = search rules
@@ -70,13 +70,13 @@ loop-again c =
     let tested = c.before in
     let at-loop = to-loop tested in
     let start = at-loop.before.before in
-    goes-past start.args.s.now start.args.from at-loop.loop.i 16 at-loop.loop.inv
+    goes_past start.args.s.now start.args.from at-loop.loop.i 16 at-loop.loop.inv
     (omega (arith, at-loop.loop.inv.within, (to-first tested).before.loop-test.true)) (sym (says tested) ∙ c.if1.false)
 
 returns-2 : tie.Need-returns-2 invariant-loop decreases-loop
 returns-2 c =
     let at-loop = c.before in
-    record { goes_on = at-loop.loop.invariant; no-further = inr (omega (arith, at-loop.loop.invariant.within, c.loop-test.false)) }
+    record { goes_on = at-loop.loop.invariant; no_further = inr (omega (arith, at-loop.loop.invariant.within, c.loop-test.false)) }
 
 pub pass-pairs-spec : {M : Type 1} → statement M
 pass-pairs-spec =

@@ -2,7 +2,7 @@
 use mathlib.Core.Path.{sym, ap, ◌∙◌}
 use Prim.Native.Nat.{◌+◌, ◌-◌}
 use lib.ListN.{length}
-use Rattle.jobtext.specs.Lists.{Reading, reading_begins, says_none, end-in, says-bad, not-empty, says_all, reads_on}
+use Rattle.jobtext.specs.Lists.{Reading, reading_begins, says_none, end_in, says_bad, not_empty, says_all, reads_on}
 use Rattle.jobtext.specs.Text.{value_of}
 use borrow.Author.Rules.{rules}
 use native.Mathlib.Omega.{arith}
@@ -52,7 +52,7 @@ part-read-number-start : tie.Need-slice-bounds-read-number-start invariant-loop 
 part-read-number-start c = search rules
 
 part-read-number-end : tie.Need-slice-bounds-read-number-end invariant-loop decreases-loop
-part-read-number-end c = end-in c.before.before.loop.invariant (to_start c).requires c.find.result c.find.ensures
+part-read-number-end c = end_in c.before.before.loop.invariant (to_start c).requires c.find.result c.find.ensures
 
 read-number-requires : tie.Need-read-number-requires invariant-loop decreases-loop
 read-number-requires c κs = search rules
@@ -72,7 +72,7 @@ returns-2 c =
     let after-find = after-read-number.before.before in
     let at-loop = after-find.before.before in
     let start = at-loop.before.before.before.before in
-    says-bad at-loop.loop.invariant start.requires after-find.find.result after-find.find.ensures (ap value_of (sym c.enum_told.given.1) ∙ after-read-number.read_number.ensures)
+    says_bad at-loop.loop.invariant start.requires after-find.find.result after-find.find.ensures (ap value_of (sym c.enum_told.given.1) ∙ after-read-number.read_number.ensures)
 
 add-into : tie.Need-overflow-add-into invariant-loop decreases-loop
 add-into c = search rules
@@ -100,7 +100,7 @@ returns-3 c =
     (ap value_of (sym after-x.x.given.1) ∙ after-read-number.read_number.ensures) c.if2.true
 
 add_at : tie.Need-overflow-add-at invariant-loop decreases-loop
-add_at c = omega (arith, end-in (to-at-loop c).loop.invariant (to-start-2 c).requires (to-find c).find.result (to-find c).find.ensures, (to-start-2 c).well-formed.0.0, c.if2.false)
+add_at c = omega (arith, end_in (to-at-loop c).loop.invariant (to-start-2 c).requires (to-find c).find.result (to-find c).find.ensures, (to-start-2 c).well_formed.0.0, c.if2.false)
 
 loop-less : tie.Need-loop-smaller invariant-loop decreases-loop
 loop-less c =
@@ -108,9 +108,9 @@ loop-less c =
     let after-read-number = after-x.before.before in
     omega (
       arith,
-      not-empty (to-at-loop c).loop.invariant (to-start-2 c).requires (to-find c).find.result (to-find c).find.ensures _
+      not_empty (to-at-loop c).loop.invariant (to-start-2 c).requires (to-find c).find.result (to-find c).find.ensures _
           (ap value_of (sym after-x.x.given.1) ∙ after-read-number.read_number.ensures),
-      end-in (to-at-loop c).loop.invariant (to-start-2 c).requires (to-find c).find.result (to-find c).find.ensures,
+      end_in (to-at-loop c).loop.invariant (to-start-2 c).requires (to-find c).find.result (to-find c).find.ensures,
     )
 
 loop-again : tie.Need-loop-preserved invariant-loop decreases-loop

@@ -1,7 +1,7 @@
 -- The two bytes are those that stand there. Assumes nothing.
 use mathlib.Core.Path.{sym, ◌∙◌}
 use borrow.Author.Rules.{rules}
-use Rattle.jobtext.specs.Words.{two-taken}
+use Rattle.jobtext.specs.Words.{two_taken}
 use Rattle.jobtext.proofs.u16_at.Statement.{statement}
 use Rattle.jobtext.proofs.u16_at.Tie as tie
 
@@ -20,7 +20,7 @@ u16-of-requires c κs = search rules
 returns : tie.Need-returns
 returns c =
     let start = c.before.before.before.before in
-    c.u16-of.ensures ∙ sym (two-taken start.args.s.now start.args.i start.requires)
+    c.u16-of.ensures ∙ sym (two_taken start.args.s.now start.args.i start.requires)
 
 pub u16-at-spec : {M : Type 1} → statement M
 u16-at-spec = tie.close (tie.spec shared-slice-read-u16-of add-u16-of shared-slice-read-u16-of-2 u16-of-requires returns)

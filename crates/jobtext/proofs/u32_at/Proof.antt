@@ -1,6 +1,6 @@
 -- Both halves stand side by side. Assumes nothing.
 use borrow.Author.Rules.{rules}
-use Rattle.jobtext.specs.Words.{read-on}
+use Rattle.jobtext.specs.Words.{read_on}
 use Rattle.jobtext.proofs.u32_at.Statement.{statement}
 use Rattle.jobtext.proofs.u32_at.Tie as tie
 
@@ -29,7 +29,7 @@ returns : tie.Need-returns
 returns c =
     let low = c.before in
     let start = low.before.before in
-    read-on start.args.s.now start.args.i 2 2 low.u16-at.result c.u16-at2.result (search rules) low.u16-at.ensures c.u16-at2.ensures
+    read_on start.args.s.now start.args.i 2 2 low.u16-at.result c.u16-at2.result (search rules) low.u16-at.ensures c.u16-at2.ensures
 
 pub u32-at-spec : {M : Type 1} → statement M
 u32-at-spec =

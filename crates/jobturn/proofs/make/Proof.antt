@@ -1,6 +1,6 @@
 -- `jobturn::make` meets its contract: no numbers are a flush, others the one call that the loop over encoded calls makes. Assumes nothing.
 use native.Mathlib.Omega.{arith}
-use Rattle.jobturn.specs.Putting.{made-flush, made-call}
+use Rattle.jobturn.specs.Putting.{made_flush, made_call}
 use Rattle.jobturn.proofs.make.Statement.{statement}
 use Rattle.jobturn.proofs.make.Tie as tie
 
@@ -62,7 +62,7 @@ same-length-8 : tie.Need-same-length-8
 same-length-8 c = (flushed c).flush.auto.1.1.1.1.1.1.1.1.0
 
 returns : tie.Need-returns
-returns c = let made = flushed c in made-flush (to-flush made.before).if1.true made.flush.ensures
+returns c = let made = flushed c in made_flush (to-flush made.before).if1.true made.flush.ensures
 
 make-one-requires : tie.Need-make-one-requires
 make-one-requires c κs = let t = to-call c in let pre = (to_start t.before).requires in (pre.0, pre.1 (omega (arith, t.if1.left)))
@@ -92,7 +92,7 @@ same-length-16 : tie.Need-same-length-16
 same-length-16 c = (called c).make-one.auto.1.1.1.1.1.1.1.1.0
 
 returns-2 : tie.Need-returns-2
-returns-2 c = let made = called c in made-call (to-call made.before).if1.false made.make-one.ensures
+returns-2 c = let made = called c in made_call (to-call made.before).if1.false made.make-one.ensures
 
 pub make_spec : {M : Type 1} → statement M
 make_spec =

@@ -2,8 +2,8 @@
 use native.Mathlib.Omega.{arith}
 use mathlib.Core.Path.{ap}
 use borrow.Author.Rules.{rules}
-use Rattle.jobcalls.specs.Told.{taken-by}
-use Rattle.jobturn.specs.Putting.{puts-set, puts-add, puts-flush}
+use Rattle.jobcalls.specs.Told.{taken_by}
+use Rattle.jobturn.specs.Putting.{puts_set, puts_add, puts_flush}
 use Rattle.jobturn.proofs.put.Statement.{statement}
 use Rattle.jobturn.proofs.put.Tie as tie
 
@@ -24,7 +24,7 @@ enum-known-call-2 : tie.Need-enum-known-call-2
 enum-known-call-2 c = search rules
 
 put-add-requires : tie.Need-put-add-requires
-put-add-requires c κs = let told = told_add c in omega (arith, told.before.before.before.pre, ap taken-by told.call2.given.1)
+put-add-requires c κs = let told = told_add c in omega (arith, told.before.before.before.pre, ap taken_by told.call2.given.1)
 
 enum_told : tie.Need-enum-told
 enum_told c = search rules
@@ -36,7 +36,7 @@ returns : tie.Need-returns
 returns c =
     let made = c.before.before in
     let told = told-set made.before in
-    puts-set told.call.given.1 made.put-set.ensures.0 made.put-set.ensures.1
+    puts_set told.call.given.1 made.put_set.ensures.0 made.put_set.ensures.1
 
 same-length-2 : tie.Need-same-length-2
 same-length-2 c = search rules
@@ -45,10 +45,10 @@ returns-2 : tie.Need-returns-2
 returns-2 c =
     let made = c.before.before in
     let told = told_add made.before in
-    puts-add told.call2.given.1 made.put-add.ensures.0 made.put-add.ensures.1
+    puts_add told.call2.given.1 made.put_add.ensures.0 made.put_add.ensures.1
 
 returns-3 : tie.Need-returns-3
-returns-3 c = puts-flush _ c.enum_told.given.1
+returns-3 c = puts_flush _ c.enum_told.given.1
 
 pub put_spec : {M : Type 1} → statement M
 put_spec =

@@ -7,28 +7,28 @@ use lib.ListN.{length, take, drop, length-drop, drop_of_length-le}
 use lib.Seq.{length-take-le, take_all, drop_at}
 use borrow.Rule.Slice.PartMut.{put_mid, post_of}
 use borrow.Author.Rules.{rules}
-use Rattle.encoding.specs.Put.{before-inputs}
+use Rattle.encoding.specs.Put.{before_inputs}
 use Rattle.jobcalls.specs.Told.{NextCall}
 use Rattle.jobcalls.specs.declared.Next.{Next}
 use Rattle.jobturn.proofs.read_call.Statement.{statement}
 use Rattle.jobturn.proofs.read_call.Tie as tie
 
 -- the numbers behind the first few, lent and given back as ys
-module _ (xs : List ℕ) (h : before-inputs ≤ length xs) where
+module _ (xs : List ℕ) (h : before_inputs ≤ length xs) where
   abbrev rest : ℕ
-  rest = length xs - before-inputs
+  rest = length xs - before_inputs
 
-  behind : take rest (drop before-inputs xs) ≡ drop before-inputs xs
-  behind = take_all rest (drop before-inputs xs) (omega (arith, length-drop before-inputs xs))
+  behind : take rest (drop before_inputs xs) ≡ drop before_inputs xs
+  behind = take_all rest (drop before_inputs xs) (omega (arith, length-drop before_inputs xs))
 
-  back : (ys : List ℕ) → drop before-inputs (put_mid before-inputs rest xs ys) ≡ ys
+  back : (ys : List ℕ) → drop before_inputs (put_mid before_inputs rest xs ys) ≡ ys
   back ys =
-      drop_at (take before-inputs xs) (ys ++ post_of before-inputs rest xs) before-inputs (length-take-le before-inputs xs h)
-      ∙ ap (λ (l : List ℕ). ys ++ l) (drop_of_length-le (drop before-inputs xs) {i = rest} (omega (arith, length-drop before-inputs xs)))
+      drop_at (take before_inputs xs) (ys ++ post_of before_inputs rest xs) before_inputs (length-take-le before_inputs xs h)
+      ∙ ap (λ (l : List ℕ). ys ++ l) (drop_of_length-le (drop before_inputs xs) {i = rest} (omega (arith, length-drop before_inputs xs)))
       ∙ append-nil ys
 
-  read_behind : {job ys : List ℕ} {at n : ℕ} {r : Next} → NextCall job at n (take rest (drop before-inputs xs)) ys r
-      → NextCall job at n (drop before-inputs xs) (drop before-inputs (put_mid before-inputs rest xs ys)) r
+  read_behind : {job ys : List ℕ} {at n : ℕ} {r : Next} → NextCall job at n (take rest (drop before_inputs xs)) ys r
+      → NextCall job at n (drop before_inputs xs) (drop before_inputs (put_mid before_inputs rest xs ys)) r
   read_behind {job} {ys} {at} {n} {r} c = rw (back ys) (subst (λ (l : List ℕ). NextCall job at n l ys r) behind c)
 
 -- places: the start, and the call read
@@ -54,7 +54,7 @@ next-call-requires : tie.Need-next-call-requires
 next-call-requires c κs =
     let start = c.before.before.before in
     let few = start.requires.1.0 in
-    (start.requires.0, (rw (behind start.args.into.now (omega arith), length-drop before-inputs start.args.into.now) (omega arith), start.requires.1.1))
+    (start.requires.0, (rw (behind start.args.into.now (omega arith), length-drop before_inputs start.args.into.now) (omega arith), start.requires.1.1))
 
 same_length : tie.Need-same-length
 same_length c = search rules

@@ -2,10 +2,10 @@
 use native.Mathlib.Omega.{arith}
 use mathlib.Core.Path.{◌∙◌}
 use lib.ListN.{length-take, length-drop}
-use Rattle.encoding.specs.Put.{before-inputs}
+use Rattle.encoding.specs.Put.{before_inputs}
 use Rattle.jobcalls.specs.Laws.{read_as}
-use Rattle.jobturn.specs.Putting.{puts_one, puts-made}
-use Rattle.jobturn.specs.Laws.{near, numbers-read, numbers-put, turn-malformed, turn-call, turn-final}
+use Rattle.jobturn.specs.Putting.{puts_one, puts_made}
+use Rattle.jobturn.specs.Laws.{near, numbers_read, numbers_put, turn_malformed, turn_call, turn_final}
 use borrow.Author.Rules.{rules}
 use Rattle.jobturn.proofs.run_call.Statement.{statement}
 use Rattle.jobturn.proofs.run_call.Tie as tie
@@ -23,8 +23,8 @@ read c = c.before.before
 abbrev told-call : tie.After-put-arg → tie.After-read
 told-call c = c.before.before
 
-abbrev put-down : tie.After-make-arg8 → tie.After-put
-put-down c =
+abbrev put_down : tie.After-make-arg8 → tie.After-put
+put_down c =
     let after-make-arg3 = c.before.before.before.before.before in
     after-make-arg3.before.before.before.before.before
 
@@ -58,23 +58,23 @@ put-requires c κs =
     let told = told-call c in
     let read = read told.before.before in
     let call = read_as read.read-call.ensures told.read.given.1 in
-    omega (arith, call.into.0, length-drop before-inputs read.read-call.last.1.1.1.0, (start read).pre.half, read.read-call.kept.1.1.1.0)
+    omega (arith, call.into.0, length-drop before_inputs read.read-call.last.1.1.1.0, (start read).pre.half, read.read-call.kept.1.1.1.0)
 
 slice-reshare-prefix-make : tie.Need-slice-reshare-prefix-make
-slice-reshare-prefix-make c = (put-down c).put.ensures.within
+slice-reshare-prefix-make c = (put_down c).put.ensures.within
 
 slice-aggregate-make : tie.Need-slice-aggregate-make
-slice-aggregate-make c = simp length-take (omega (arith, (put-down c.before).put.ensures.within))
+slice-aggregate-make c = simp length-take (omega (arith, (put_down c.before).put.ensures.within))
 
 make-requires : tie.Need-make-requires
 make-requires c κs =
-    let put = put-down c.before in
+    let put = put_down c.before in
     let read = read (told-call put.before).before.before in
     ((start read).pre.asks, puts_one put.put.ensures)
 
 after-call-requires : tie.Need-after-call-requires
 after-call-requires c κs =
-    let told = told-call (put-down (made c).before.before).before in
+    let told = told-call (put_down (made c).before.before).before in
     let read = read told.before.before in
     omega (arith, near (read_as read.read-call.ensures told.read.given.1), (start read).pre.low)
 
@@ -116,17 +116,17 @@ same-length-8 c = (made c.before.before).make.auto.1.1.1.1.1.1.1.1.0
 
 same-length-9 : tie.Need-same-length-9
 same-length-9 c =
-    let put = put-down (made c.before.before).before.before in
+    let put = put_down (made c.before.before).before.before in
     put.put.kept.0 ∙ (read (told-call put.before).before.before).read-call.auto.1.1.1.0
 
 returns : tie.Need-returns
 returns c =
     let made = made c.before.before in
-    let put = put-down made.before.before in
+    let put = put_down made.before.before in
     let told = told-call put.before in
     let read = read told.before.before in
     let call = read_as read.read-call.ensures told.read.given.1 in
-    turn-call _ _ (numbers-put call read.read-call.kept.1.1.1.0 put.put.kept.0 put.put.ensures) _ _ _ call (puts-made put.put.ensures made.make.ensures)
+    turn_call _ _ (numbers_put call read.read-call.kept.1.1.1.0 put.put.kept.0 put.put.ensures) _ _ _ call (puts_made put.put.ensures made.make.ensures)
     (start read).pre.asks c.before.after_call.ensures
 
 same-length-10 : tie.Need-same-length-10
@@ -162,7 +162,7 @@ returns-2 c =
     let told = told-final (finished c).before in
     let read = read told.before.before in
     let call = read_as read.read-call.ensures told.read2.given.1 in
-    turn-final _ _ (numbers-read call read.read-call.kept.1.1.1.0) _ _ call made.concludes (start read).pre.asks made.follows
+    turn_final _ _ (numbers_read call read.read-call.kept.1.1.1.0) _ _ call made.concludes (start read).pre.asks made.follows
 
 same-length-19 : tie.Need-same-length-19
 same-length-19 c =
@@ -174,7 +174,7 @@ returns-3 c =
     let told = c.before in
     let read = read told.before.before in
     let call = read_as read.read-call.ensures told.read3.given.1 in
-    turn-malformed _ _ (numbers-read call read.read-call.kept.1.1.1.0) _ call
+    turn_malformed _ _ (numbers_read call read.read-call.kept.1.1.1.0) _ call
 
 pub run-call-spec : {M : Type 1} → statement M
 run-call-spec =

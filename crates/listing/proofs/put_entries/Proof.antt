@@ -4,7 +4,7 @@ use Prim.Native.Nat.{◌-◌}
 use native.Mathlib.Omega.{arith}
 use Rattle.entries.specs.Entries.{entry_at}
 use Rattle.records.specs.Filling.{written_at}
-use Rattle.listing.specs.Lines.{Writing, writing_begins, writes-on, written_all}
+use Rattle.listing.specs.Lines.{Writing, writing_begins, writes_on, written_all}
 use borrow.Author.Rules.{rules}
 use Rattle.listing.proofs.put_entries.Statement.{statement}
 use Rattle.listing.proofs.put_entries.Tie as tie
@@ -52,7 +52,7 @@ loop-again c =
     let w : read.written_of.result ≡ written_at (start turn.before).args.rows.now (entry_at o turn.before.loop.i).added =
     rw read.before.load.ensures at read.written_of.ensures
     in
-    writes-on turn.before.loop.invariant turn.loop-test.true put.put-entry.auto.0 (rw (read.before.load.ensures, w) at put.put-entry.ensures.0) put.put-entry.ensures.1
+    writes_on turn.before.loop.invariant turn.loop-test.true put.put-entry.auto.0 (rw (read.before.load.ensures, w) at put.put-entry.ensures.0) put.put-entry.ensures.1
 
 same_length : tie.Need-same-length invariant-loop decreases-loop
 same_length c = c.before.loop.invariant.same

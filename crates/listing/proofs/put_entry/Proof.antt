@@ -2,9 +2,9 @@
 use mathlib.Core.Path.{◌∙◌}
 use Prim.Native.Nat.{◌+◌, ◌≤◌}
 use native.Mathlib.Omega.{arith}
-use Rattle.rules.specs.Listing.{word-order, word-added, word-accepted, word-parallelism, word-written, word_lane}
-use Rattle.writer.specs.Lines.{field-few, line-few32}
-use Rattle.listing.specs.Lines.{wrote-entry}
+use Rattle.rules.specs.Listing.{word_order, word_added, word_accepted, word_parallelism, word_written, word_lane}
+use Rattle.writer.specs.Lines.{field_few, line_few32}
+use Rattle.listing.specs.Lines.{wrote_entry}
 use borrow.Author.Rules.{rules}
 use Rattle.listing.proofs.put_entry.Statement.{statement}
 use Rattle.listing.proofs.put_entry.Tie as tie
@@ -30,28 +30,28 @@ five c = c.before.before.before.before.before
 
 -- how far the fields reach
 upto-1 : (c : tie.After-put-field) → c.put-field.result ≤ (start c).args.at + 16
-upto-1 c = omega (arith, c.put-field.ensures.next, field-few word-order (start c).args.index (start c).requires.0)
+upto-1 c = omega (arith, c.put-field.ensures.next, field_few word_order (start c).args.index (start c).requires.0)
 
 upto-2 : (c : tie.After-put-field2) → c.put-field2.result ≤ (start (one c.before)).args.at + 33
 upto-2 c =
     let known = c.before.struct_known.given.1.0.fits in
-    omega (arith, c.put-field2.ensures.next, upto-1 (one c.before), field-few word-added (start (one c.before)).args.e.added known)
+    omega (arith, c.put-field2.ensures.next, upto-1 (one c.before), field_few word_added (start (one c.before)).args.e.added known)
 
 upto-3 : (c : tie.After-put-field3) → c.put-field3.result ≤ (start (one (two c.before).before)).args.at + 53
 upto-3 c =
     let known = c.before.struct-known2.given.1.1.0.fits in
-    omega (arith, c.put-field3.ensures.next, upto-2 (two c.before), field-few word-accepted (start (one (two c.before).before)).args.e.accepted known)
+    omega (arith, c.put-field3.ensures.next, upto-2 (two c.before), field_few word_accepted (start (one (two c.before).before)).args.e.accepted known)
 
 upto-4 : (c : tie.After-put-field4) → c.put-field4.result ≤ (start (one (two (three c.before).before).before)).args.at + 76
 upto-4 c =
     let known = c.before.struct-known3.given.1.1.1.0.fits in
     let first = one (two (three c.before).before).before in
-    omega (arith, c.put-field4.ensures.next, upto-3 (three c.before), field-few word-parallelism (start first).args.e.parallelism (omega (arith, known)))
+    omega (arith, c.put-field4.ensures.next, upto-3 (three c.before), field_few word_parallelism (start first).args.e.parallelism (omega (arith, known)))
 
 upto-5 : (c : tie.After-put-field5) → c.put-field5.result ≤ (start (one (two (three (four c.before).before).before).before)).args.at + 95
 upto-5 c =
     let first = one (two (three (four c.before).before).before).before in
-    omega (arith, c.put-field5.ensures.next, upto-4 (four c.before), field-few word-written (start first).args.written (start first).fits.written.fits)
+    omega (arith, c.put-field5.ensures.next, upto-4 (four c.before), field_few word_written (start first).args.written (start first).fits.written.fits)
 
 slice-aggregate-put-field : tie.Need-slice-aggregate-put-field
 slice-aggregate-put-field c = search rules
@@ -59,7 +59,7 @@ slice-aggregate-put-field c = search rules
 put-field-requires : tie.Need-put-field-requires
 put-field-requires c κs =
     let start = c.before.before.before in
-    omega (arith, field-few word-order start.args.index start.requires.0, start.requires.1)
+    omega (arith, field_few word_order start.args.index start.requires.0, start.requires.1)
 
 slice-aggregate-put-field-2 : tie.Need-slice-aggregate-put-field-2
 slice-aggregate-put-field-2 c = search rules
@@ -70,7 +70,7 @@ cast-put-field c = search rules
 put-field-requires-2 : tie.Need-put-field-requires-2
 put-field-requires-2 c κs =
     let last = one c in
-    omega (arith, upto-1 last, field-few word-added (start last).args.e.added c.struct_known.given.1.0.fits, last.put-field.kept.0, (start last).pre.1)
+    omega (arith, upto-1 last, field_few word_added (start last).args.e.added c.struct_known.given.1.0.fits, last.put-field.kept.0, (start last).pre.1)
 
 slice-aggregate-put-field-3 : tie.Need-slice-aggregate-put-field-3
 slice-aggregate-put-field-3 c = search rules
@@ -85,7 +85,7 @@ put-field-requires-3 c κs =
     omega (
       arith,
       upto-2 last,
-      field-few word-accepted (start first).args.e.accepted c.struct-known2.given.1.1.0.fits,
+      field_few word_accepted (start first).args.e.accepted c.struct-known2.given.1.1.0.fits,
       last.put-field2.kept.0,
       first.put-field.kept.0,
       (start first).pre.1,
@@ -105,7 +105,7 @@ put-field-requires-4 c κs =
     omega (
       arith,
       upto-3 last,
-      field-few word-parallelism (start first).args.e.parallelism (omega (arith, c.struct-known3.given.1.1.1.0.fits)),
+      field_few word_parallelism (start first).args.e.parallelism (omega (arith, c.struct-known3.given.1.1.1.0.fits)),
       last.put-field3.kept.0,
       second.put-field2.kept.0,
       first.put-field.kept.0,
@@ -124,7 +124,7 @@ put-field-requires-5 c κs =
     omega (
       arith,
       upto-4 last,
-      field-few word-written (start first).args.written (start first).fits.written.fits,
+      field_few word_written (start first).args.written (start first).fits.written.fits,
       last.put-field4.kept.0,
       third.put-field3.kept.0,
       second.put-field2.kept.0,
@@ -148,7 +148,7 @@ put-line-requires c κs =
     omega (
       arith,
       upto-5 last,
-      line-few32 word_lane (start first).args.e.lane (omega (arith, c.struct-known4.given.1.1.1.1.0.fits)),
+      line_few32 word_lane (start first).args.e.lane (omega (arith, c.struct-known4.given.1.1.1.1.0.fits)),
       last.put-field5.kept.0,
       fourth.put-field4.kept.0,
       third.put-field3.kept.0,
@@ -182,9 +182,9 @@ returns c =
     let second = two third.before in
     let first = one second.before in
     let start = start first in (
-      wrote-entry start.args.index start.args.e start.args.written first.put-field.ensures second.put-field2.ensures third.put-field3.ensures
+      wrote_entry start.args.index start.args.e start.args.written first.put-field.ensures second.put-field2.ensures third.put-field3.ensures
           fourth.put-field4.ensures fifth.put-field5.ensures last.put-line.ensures,
-      omega (arith, upto-5 fifth, last.put-line.ensures.next, line-few32 word_lane start.args.e.lane (omega (arith, known))),
+      omega (arith, upto-5 fifth, last.put-line.ensures.next, line_few32 word_lane start.args.e.lane (omega (arith, known))),
     )
 
 pub put-entry-spec : {M : Type 1} → statement M

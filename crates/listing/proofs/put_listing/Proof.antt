@@ -1,8 +1,8 @@
 -- The five lines of the head, then those of the entries. Assumes nothing.
 use native.Mathlib.Omega.{arith}
-use Rattle.listing.specs.Lines.{wrote-listing}
-use Rattle.writer.specs.Lines.{line-few, line-few32}
-use Rattle.rules.specs.Listing.{word-status, word-entries, word-places, word-floor, word-median}
+use Rattle.listing.specs.Lines.{wrote_listing}
+use Rattle.writer.specs.Lines.{line_few, line_few32}
+use Rattle.rules.specs.Listing.{word_status, word_entries, word_places, word_floor, word_median}
 use borrow.Author.Rules.{rules}
 use Rattle.listing.proofs.put_listing.Statement.{statement}
 use Rattle.listing.proofs.put_listing.Tie as tie
@@ -20,7 +20,7 @@ slice-aggregate-put-line : tie.Need-slice-aggregate-put-line
 slice-aggregate-put-line c = search rules
 
 put-line-requires : tie.Need-put-line-requires
-put-line-requires c κs = omega (arith, line-few word-status 0 (omega arith), (to_start c).requires.1)
+put-line-requires c κs = omega (arith, line_few word_status 0 (omega arith), (to_start c).requires.1)
 
 slice-aggregate-put-line-2 : tie.Need-slice-aggregate-put-line-2
 slice-aggregate-put-line-2 c = search rules
@@ -31,8 +31,8 @@ put-line-requires-2 c κs =
     let start = to_start after-put-line.before in
     omega (
       arith,
-      line-few word-status 0 (omega arith),
-      line-few word-entries start.args.n start.fits.n.fits,
+      line_few word_status 0 (omega arith),
+      line_few word_entries start.args.n start.fits.n.fits,
       after-put-line.put-line.ensures.next,
       after-put-line.put-line.auto.0,
       start.pre.1,
@@ -48,9 +48,9 @@ put-line-requires-3 c κs =
     let start = to_start after-put-line.before in
     omega (
       arith,
-      line-few word-status 0 (omega arith),
-      line-few word-entries start.args.n start.fits.n.fits,
-      line-few32 word-places start.args.places start.fits.places.fits,
+      line_few word_status 0 (omega arith),
+      line_few word_entries start.args.n start.fits.n.fits,
+      line_few32 word_places start.args.places start.fits.places.fits,
       after-put-line.put-line.ensures.next,
       after-put-line.put-line.auto.0,
       after-put-line2.put-line2.ensures.next,
@@ -73,10 +73,10 @@ put-line-requires-4 c κs =
     let start = after-floor.before.before.before.before in
     omega (
       arith,
-      line-few word-status 0 (omega arith),
-      line-few word-entries start.args.n start.ranges.n.fits,
-      line-few32 word-places start.args.places start.ranges.places.fits,
-      line-few32 word-floor after-floor.floor.result (omega (arith, after-floor.floor.type-inv)),
+      line_few word_status 0 (omega arith),
+      line_few word_entries start.args.n start.ranges.n.fits,
+      line_few32 word_places start.args.places start.ranges.places.fits,
+      line_few32 word_floor after-floor.floor.result (omega (arith, after-floor.floor.type-inv)),
       after-put-line.put-line.ensures.next,
       after-put-line.put-line.auto.0,
       after-put-line2.put-line2.ensures.next,
@@ -99,11 +99,11 @@ put-line-requires-5 c κs =
     let start = after-floor.before.before.before.before in
     omega (
       arith,
-      line-few word-status 0 (omega arith),
-      line-few word-entries start.args.n start.ranges.n.fits,
-      line-few32 word-places start.args.places start.ranges.places.fits,
-      line-few32 word-floor after-floor.floor.result (omega (arith, after-floor.floor.type-inv)),
-      line-few32 word-median start.args.median start.ranges.median.fits,
+      line_few word_status 0 (omega arith),
+      line_few word_entries start.args.n start.ranges.n.fits,
+      line_few32 word_places start.args.places start.ranges.places.fits,
+      line_few32 word_floor after-floor.floor.result (omega (arith, after-floor.floor.type-inv)),
+      line_few32 word_median start.args.median start.ranges.median.fits,
       after-put-line.put-line.ensures.next,
       after-put-line.put-line.auto.0,
       after-put-line2.put-line2.ensures.next,
@@ -127,11 +127,11 @@ put-entries-requires c κs =
       start.requires.0,
       omega (
         arith,
-        line-few word-status 0 (omega arith),
-        line-few word-entries start.args.n start.ranges.n.fits,
-        line-few32 word-places start.args.places start.ranges.places.fits,
-        line-few32 word-floor after-floor.floor.result (omega (arith, after-floor.floor.type-inv)),
-        line-few32 word-median start.args.median start.ranges.median.fits,
+        line_few word_status 0 (omega arith),
+        line_few word_entries start.args.n start.ranges.n.fits,
+        line_few32 word_places start.args.places start.ranges.places.fits,
+        line_few32 word_floor after-floor.floor.result (omega (arith, after-floor.floor.type-inv)),
+        line_few32 word_median start.args.median start.ranges.median.fits,
         after-put-line.put-line.ensures.next,
         after-put-line.put-line.auto.0,
         after-put-line2.put-line2.ensures.next,
@@ -159,7 +159,7 @@ returns c =
     let after-put-line = after-put-line2.before.before.before.before.before in
     let after-floor = after-put-line.before.before.before in
     let start = after-floor.before.before.before.before in
-    wrote-listing start.args.order.now start.args.rows.now start.args.n start.args.p start.args.places after-floor.floor.result
+    wrote_listing start.args.order.now start.args.rows.now start.args.n start.args.p start.args.places after-floor.floor.result
     start.args.median after-floor.floor.ensures after-put-line.put-line.ensures after-put-line2.put-line2.ensures
     after-put-line3.put-line3.ensures after-put-line4.put-line4.ensures after-put-line5.put-line5.ensures
     after-put-entries.put_entries.ensures

@@ -1,8 +1,8 @@
 -- The two lines, one after the other. Assumes nothing.
 use native.Mathlib.Omega.{arith}
-use Rattle.listing.specs.Lines.{wrote-rejection}
-use Rattle.writer.specs.Lines.{line-few}
-use Rattle.rules.specs.Listing.{word-status, word_line}
+use Rattle.listing.specs.Lines.{wrote_rejection}
+use Rattle.writer.specs.Lines.{line_few}
+use Rattle.rules.specs.Listing.{word_status, word_line}
 use borrow.Author.Rules.{rules}
 use Rattle.listing.proofs.put_rejection.Statement.{statement}
 use Rattle.listing.proofs.put_rejection.Tie as tie
@@ -13,7 +13,7 @@ slice-aggregate-put-line c = search rules
 put-line-requires : tie.Need-put-line-requires
 put-line-requires c κs =
     let start = c.before.before.before in
-    omega (arith, line-few word-status start.args.code start.ranges.code.fits, start.requires)
+    omega (arith, line_few word_status start.args.code start.ranges.code.fits, start.requires)
 
 slice-aggregate-put-line-2 : tie.Need-slice-aggregate-put-line-2
 slice-aggregate-put-line-2 c = search rules
@@ -24,8 +24,8 @@ put-line-requires-2 c κs =
     let start = after-put-line.before.before.before.before in
     omega (
       arith,
-      line-few word-status start.args.code start.ranges.code.fits,
-      line-few word_line start.args.line start.ranges.line.fits,
+      line_few word_status start.args.code start.ranges.code.fits,
+      line_few word_line start.args.line start.ranges.line.fits,
       after-put-line.put-line.ensures.next,
       after-put-line.put-line.auto.0,
       start.requires,
@@ -39,7 +39,7 @@ returns c =
     let after-put-line2 = c.before.before in
     let after-put-line = after-put-line2.before.before.before.before.before in
     let start = after-put-line.before.before.before.before in
-    wrote-rejection start.args.line start.args.code after-put-line.put-line.ensures after-put-line2.put-line2.ensures
+    wrote_rejection start.args.line start.args.code after-put-line.put-line.ensures after-put-line2.put-line2.ensures
 
 pub put-rejection-spec : {M : Type 1} → statement M
 put-rejection-spec =

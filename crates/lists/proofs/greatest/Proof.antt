@@ -6,7 +6,7 @@ use Prim.Native.Nat.{◌+◌, ◌-◌, ◌≤◌, max}
 use borrow.Author.Rules.{rules}
 use native.Mathlib.Omega.{arith}
 use Rattle.rules.specs.Model.{greatest}
-use Rattle.lists.specs.Scan.{greatest-begins, greatest-less, greatest-more, greatest-ends}
+use Rattle.lists.specs.Scan.{greatest_begins, greatest_less, greatest_more, greatest_ends}
 use Rattle.lists.proofs.greatest.Statement.{statement}
 use Rattle.lists.proofs.greatest.Tie as tie
 
@@ -24,7 +24,7 @@ abbrev turn : tie.Joined1 invariant-loop decreases-loop → tie.In-loop invarian
 turn c = c.before.before
 
 loop-holds : tie.Need-loop-init invariant-loop decreases-loop
-loop-holds c = (omega arith, greatest-begins c.args.xs.now)
+loop-holds c = (omega arith, greatest_begins c.args.xs.now)
 
 mul-x : tie.Need-overflow-mul-x invariant-loop decreases-loop
 mul-x c = search rules
@@ -46,14 +46,14 @@ loop-again c =
     let h = t.loop-test.taken in (
       omega arith,
       l.inv.1
-          ∙ ⊎_elim (λ k. greatest-more xs l.m l.i h (omega (arith, k.0.taken)) ∙ ap (λ x. max x (greatest (drop (l.i + 1) xs))) (sym k.1))
-          (λ k. greatest-less xs l.m l.i h (omega (arith, k.0.left)) ∙ ap (λ x. max x (greatest (drop (l.i + 1) xs))) (sym k.1)) c.if1.branch,
+          ∙ ⊎_elim (λ k. greatest_more xs l.m l.i h (omega (arith, k.0.taken)) ∙ ap (λ x. max x (greatest (drop (l.i + 1) xs))) (sym k.1))
+          (λ k. greatest_less xs l.m l.i h (omega (arith, k.0.left)) ∙ ap (λ x. max x (greatest (drop (l.i + 1) xs))) (sym k.1)) c.if1.branch,
     )
 
 returns : tie.Need-returns invariant-loop decreases-loop
 returns c =
     let l = c.before.loop in
-    sym (l.invariant.1 ∙ greatest-ends (start c.before).args.xs.now l.m l.i c.loop-test.false)
+    sym (l.invariant.1 ∙ greatest_ends (start c.before).args.xs.now l.m l.i c.loop-test.false)
 
 pub greatest-spec : {M : Type 1} → statement M
 greatest-spec =

@@ -1,6 +1,6 @@
 -- The marks after the set give the watermark, and the registrar's step what comes off. Assumes nothing.
 use borrow.Author.Rules.{rules}
-use Rattle.marking.specs.Marking.{marked-low, marked-advancing, marks-of}
+use Rattle.marking.specs.Marking.{marked_low, marked_advancing, marks_of}
 use Rattle.marking.proofs.mark_set.Statement.{statement}
 use Rattle.marking.proofs.mark_set.Tie as tie
 
@@ -24,13 +24,13 @@ claim-one-requires : tie.Need-claim-one-requires
 claim-one-requires c κs = search rules
 
 advance-requires : tie.Need-advance-requires
-advance-requires c κs = let m = marked (claimed c) in marked-low (start m).pre m.set-mark.ensures
+advance-requires c κs = let m = marked (claimed c) in marked_low (start m).pre m.set-mark.ensures
 
 advance-set-requires : tie.Need-advance-set-requires
 advance-set-requires c κs =
     let f = claimed c.before.before in
     let m = marked f in
-    marked-advancing (start m).pre m.set-mark.ensures f.claim-one.ensures c.before.advance.ensures
+    marked_advancing (start m).pre m.set-mark.ensures f.claim-one.ensures c.before.advance.ensures
 
 same_length : tie.Need-same-length
 same_length c = search rules
@@ -43,7 +43,7 @@ returns c =
     let s = c.before.before in
     let f = claimed (advanced s).before in
     let m = marked f in
-    marks-of (start m).pre m.set-mark.ensures f.claim-one.ensures (advanced s).advance.ensures s.advance-set.ensures
+    marks_of (start m).pre m.set-mark.ensures f.claim-one.ensures (advanced s).advance.ensures s.advance-set.ensures
 
 pub mark-set-spec : {M : Type 1} → statement M
 mark-set-spec =

@@ -1,7 +1,7 @@
 -- `opening::open` meets its contract: refused by the checks, or begun.
 use mathlib.Core.Path.{sym, ◌∙◌}
 use mathlib.Core.List.{[]}
-use Rattle.opening.specs.Opened.{opens-refused, lengths-of}
+use Rattle.opening.specs.Opened.{opens_refused, lengths_of}
 use borrow.Author.Rules.{rules}
 use Rattle.opening.proofs.open.Statement.{statement}
 use Rattle.opening.proofs.open.Tie as tie
@@ -31,8 +31,8 @@ fresh-requires c κs = search rules
 
 returns : tie.Need-returns
 returns c = let a = (to_start c.before.before).args in
-    let n = c.before.before.check-open in
-    λ pool. opens-refused a.p a.v a.spans.now a.order.now a.tally.now a.rows.now a.marks.now a.locations.now a.waiting.now pool
+    let n = c.before.before.check_open in
+    λ pool. opens_refused a.p a.v a.spans.now a.order.now a.tally.now a.rows.now a.marks.now a.locations.now a.waiting.now pool
     n.result c.fresh.result n.ensures c.before.if1.true c.fresh.ensures
 
 begin-requires : tie.Need-begin-requires
@@ -41,8 +41,8 @@ begin-requires c κs =
     let after-check-open = else1.before in
     let start = to_start after-check-open in
     let a = start.args in
-    let n = after-check-open.check-open in
-    lengths-of a.p a.v a.spans.now a.order.now a.tally.now a.rows.now a.marks.now a.locations.now a.waiting.now []
+    let n = after-check-open.check_open in
+    lengths_of a.p a.v a.spans.now a.order.now a.tally.now a.rows.now a.marks.now a.locations.now a.waiting.now []
     (sym else1.if1.false ∙ n.ensures)
 
 same_length : tie.Need-same-length
@@ -62,7 +62,7 @@ same-length-5 c = (begun c).begin.auto.1.1.1.1.0
 
 returns-2 : tie.Need-returns-2
 returns-2 c = let o = begun c in
-    let n = (to-else1 o).before.check-open in
+    let n = (to-else1 o).before.check_open in
     λ pool. o.begin.ensures.opens _ _ pool (sym (to-else1 o).if1.left ∙ n.ensures)
 
 pub open_spec : {M : Type 1} → statement M

@@ -1,8 +1,8 @@
 -- `order_copy::check_new` meets its contract: a law for each way out. Assumes nothing.
 use mathlib.Core.Path.{sym, ◌∙◌}
 use native.Mathlib.Omega.{arith}
-use Rattle.entries.specs.Stored.{capacity-fits}
-use Rattle.order_copy.specs.Checked.{past, short-order, short-flat, wide, fine}
+use Rattle.entries.specs.Stored.{capacity_fits}
+use Rattle.order_copy.specs.Checked.{past, short_order, short_flat, wide, fine}
 use borrow.Author.Rules.{rules}
 use Rattle.order_copy.proofs.check_new.Statement.{statement}
 use Rattle.order_copy.proofs.check_new.Tie as tie
@@ -11,16 +11,16 @@ returns : tie.Need-returns
 returns c = past _ _ _ _ c.if1.true
 
 returns-2 : tie.Need-returns-2
-returns-2 c = short-order _ _ _ _ (omega (arith, c.before.if1.false)) c.if2.true
+returns-2 c = short_order _ _ _ _ (omega (arith, c.before.if1.false)) c.if2.true
 
 capacity-requires : tie.Need-capacity-requires
 capacity-requires c κs = search rules
 
 returns-3 : tie.Need-returns-3
-returns-3 c = short-flat _ _ _ _ (omega (arith, c.before.before.before.if1.false)) (omega (arith, c.before.before.if2.false)) (omega (arith, c.if3.true, c.before.capacity.ensures))
+returns-3 c = short_flat _ _ _ _ (omega (arith, c.before.before.before.if1.false)) (omega (arith, c.before.before.if2.false)) (omega (arith, c.if3.true, c.before.capacity.ensures))
 
 has-wide-requires : tie.Need-has-wide-requires
-has-wide-requires c κs = let a = c.before.before.before.before.before.args in capacity-fits a.flat.now a.to (omega (arith, c.if3.false, c.before.capacity.ensures))
+has-wide-requires c κs = let a = c.before.before.before.before.before.args in capacity_fits a.flat.now a.to (omega (arith, c.if3.false, c.before.capacity.ensures))
 
 returns-4 : tie.Need-returns-4
 returns-4 c = let e = c.before.before in

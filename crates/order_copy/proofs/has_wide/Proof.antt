@@ -8,11 +8,11 @@ use Prim.Native.Nat.{◌-◌}
 use borrow.Author.Rules.{rules}
 use Rattle.entries.specs.declared.Entry.{Entry}
 use Rattle.order_copy.specs.Flat.{lane_of}
-use Rattle.order_copy.specs.Copied.{wide-entry}
-use Rattle.order_copy.specs.Checked.{wide-none, wide-found, wide-next}
+use Rattle.order_copy.specs.Copied.{wide_entry}
+use Rattle.order_copy.specs.Checked.{wide_none, wide_found, wide_next}
 
 abbrev invariant-loop : tie.invariant-loop
-invariant-loop flat from to k₀ k = wide-entry flat from (to - from) ≡ wide-entry flat k (to - k)
+invariant-loop flat from to k₀ k = wide_entry flat from (to - from) ≡ wide_entry flat k (to - k)
 
 abbrev decreases-loop : tie.decreases-loop
 decreases-loop flat from to k₀ k = to - k
@@ -35,7 +35,7 @@ returns : tie.Need-returns invariant-loop decreases-loop
 returns c = let loaded = c.before.before in
     let l = loaded.before.before in
     let a = l.before.before.args in
-    sym (l.loop.invariant ∙ wide-found a.flat.now l.loop.k a.to loaded.before.loop-test.true (omega (arith, c.if1.true, lane-loaded loaded)))
+    sym (l.loop.invariant ∙ wide_found a.flat.now l.loop.k a.to loaded.before.loop-test.true (omega (arith, c.if1.true, lane-loaded loaded)))
 
 add-k : tie.Need-overflow-add-k invariant-loop decreases-loop
 add-k c = omega arith
@@ -47,10 +47,10 @@ loop-again : tie.Need-loop-preserved invariant-loop decreases-loop
 loop-again c = let loaded = c.before.before in
     let l = loaded.before.before in
     let a = l.before.before.args in
-    l.loop.invariant ∙ wide-next a.flat.now l.loop.k a.to loaded.before.loop-test.true (omega (arith, c.if1.false, lane-loaded loaded))
+    l.loop.invariant ∙ wide_next a.flat.now l.loop.k a.to loaded.before.loop-test.true (omega (arith, c.if1.false, lane-loaded loaded))
 
 returns-2 : tie.Need-returns-2 invariant-loop decreases-loop
-returns-2 c = let l = c.before.loop in let a = c.before.before.before.args in sym (l.invariant ∙ wide-none a.flat.now l.k a.to (omega (arith, c.loop-test.false)))
+returns-2 c = let l = c.before.loop in let a = c.before.before.before.args in sym (l.invariant ∙ wide_none a.flat.now l.k a.to (omega (arith, c.loop-test.false)))
 
 pub has-wide-spec : {M : Type 1} → statement M
 has-wide-spec =

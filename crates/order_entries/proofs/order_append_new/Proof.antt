@@ -54,16 +54,16 @@ use denote.Triple.Call.{calls_at}
 use denote.Triple.Clauses.{ensured, lasts}
 use denote.Triple.Table.{entered, cited}
 use denote.Triple.Walked.{says, Stays, stay_none, stay_slice, stay_none_slice, walk_of, Goes-none, Goes-slice, Goes-none_slice, Walks, ends_at, walked, walk_Meets}
-use Rattle.rules.specs.Calls.{unless-refused}
+use Rattle.rules.specs.Calls.{unless_refused}
 use Rattle.order_copy.specs.declared.OrderInfo.{OrderInfo}
 use Rattle.order_copy.specs.Flat.{entry_of, Readable}
-use Rattle.order_copy.specs.Copied.{copied, check-new}
+use Rattle.order_copy.specs.Copied.{copied, check_new}
 use Rattle.order_copy.specs.Loop.{Copying, copying, copied_none, copied_more}
 use Rattle.order_copy.specs.contracts.OrderInfo as T
 use Rattle.order_copy.proofs.OrderInfo.TheLaws as T'
 use Rattle.order_copy.specs.contracts.check_new as checks
 use Rattle.order_copy.proofs.check_new.Symbol as checks-def
-use Rattle.order_copy.proofs.check_new.Symbol.{name as #order-copy·check-new}
+use Rattle.order_copy.proofs.check_new.Symbol.{name as #order-copy·check_new}
 use Rattle.order_copy.proofs.check_new.Met as checks-thm
 use Rattle.order_copy.specs.contracts.stop_at as stop-at
 use Rattle.order_copy.proofs.stop_at.Symbol as stop-at-def
@@ -112,7 +112,7 @@ module _ {M : Type 1} {𝓤 : Ura M} (𝓛 : Logic 𝓤) (mem : Memory → SProp
   Append = triple_of 𝓛 append.signature (append.spec 𝓛 mem run)
 
   pub record Known (C : Calls 𝓤 H) : Type 1 where
-    pub check-new : Triple 𝓤 (C #order-copy·check-new) CheckNew
+    pub check_new : Triple 𝓤 (C #order-copy·check_new) CheckNew
     pub stop-at : Triple 𝓤 (C #order-copy·stop-at) StopAt
     pub entry_at : Triple 𝓤 (C #order-copy·entry-at) EntryAt
     pub append : Triple 𝓤 (C #order-copy·append) Append
@@ -182,8 +182,8 @@ module _ {M : Type 1} {𝓤 : Ura M} (𝓛 : Logic 𝓤) (mem : Memory → SProp
       ∷ []) ∵ join ! $ frame ! $ done !) $
       frame ! $ done !
 
-  said-check : (n : ℕ) → ent 𝓤 (ensured 𝓛 checks.ended (checks.clauses 𝓛 mem run) (κ', tt) (length ys, (g, (lo, (hi, tt)))) tt n) (fact 𝓤 (n ≡ check-new (length ys) g.now lo hi))
-  said-check n = ex_e 𝓤 _ (λ ws. snd∗ 𝓤 (sem 𝓛 (lasts checks.ended (κ', tt) (length ys, (g, (lo, (hi, tt)))) ws)) (fact 𝓤 (n ≡ check-new (length ys) g.now lo hi)))
+  said-check : (n : ℕ) → ent 𝓤 (ensured 𝓛 checks.ended (checks.clauses 𝓛 mem run) (κ', tt) (length ys, (g, (lo, (hi, tt)))) tt n) (fact 𝓤 (n ≡ check_new (length ys) g.now lo hi))
+  said-check n = ex_e 𝓤 _ (λ ws. snd∗ 𝓤 (sem 𝓛 (lasts checks.ended (κ', tt) (length ys, (g, (lo, (hi, tt)))) ws)) (fact 𝓤 (n ≡ check_new (length ys) g.now lo hi)))
 
   -- the call of `stop_at`
   abbrev to-stop : ℕ → (StopAt 𝓛 mem run).Ghost
@@ -195,8 +195,8 @@ module _ {M : Type 1} {𝓤 : Ura M} (𝓛 : Logic 𝓤) (mem : Memory → SProp
       nothing ! $ owned ! usize (Is usize) (uint_Makes 𝓛 w64) hi _ (refl, hi-fits) $ fjoin ! $ owned ! usize (Is usize) (uint_Makes 𝓛 w64) lo _ (refl, lo-fits) $ fjoin ! $
       owned ! u64 (Is u64) (uint_Makes 𝓛 w64) n _ (refl, fits) $ fjoin ! $ nothing ! $ join ! $ frame ! $ done !
 
-  said-stop : (n m : ℕ) → ent 𝓤 (ensured 𝓛 stop-at.ended (stop-at.clauses 𝓛 mem run) tt (n, (lo, (hi, tt))) tt m) (fact 𝓤 (m ≡ unless-refused n lo hi))
-  said-stop n m = ex_e 𝓤 _ (λ ws. snd∗ 𝓤 (sem 𝓛 (lasts stop-at.ended tt (n, (lo, (hi, tt))) ws)) (fact 𝓤 (m ≡ unless-refused n lo hi)))
+  said-stop : (n m : ℕ) → ent 𝓤 (ensured 𝓛 stop-at.ended (stop-at.clauses 𝓛 mem run) tt (n, (lo, (hi, tt))) tt m) (fact 𝓤 (m ≡ unless_refused n lo hi))
+  said-stop n m = ex_e 𝓤 _ (λ ws. snd∗ 𝓤 (sem 𝓛 (lasts stop-at.ended tt (n, (lo, (hi, tt))) ws)) (fact 𝓤 (m ≡ unless_refused n lo hi)))
 
   -- the call of `entry_at`: what it is passed, what it asks, and what is known of its result
   abbrev to-entry : ℕ → (EntryAt 𝓛 mem run).Ghost
@@ -232,7 +232,7 @@ module _ {M : Type 1} {𝓤 : Ura M} (𝓛 : Logic 𝓤) (mem : Memory → SProp
       nothing ! $ move ! (2 ∷ 0 ∷ []) $ join ! $ says ! within $ frame ! $ done !
 
   -- from what is had at exit to what the contract says
-  exits : (n m : ℕ) → n < 2 ^ 64 → n ≡ check-new (length ys) g.now lo hi → Copying ys g.now lo hi n m → Room R (length ys)
+  exits : (n m : ℕ) → n < 2 ^ 64 → n ≡ check_new (length ys) g.now lo hi → Copying ys g.now lo hi n m → Room R (length ys)
       → ent 𝓤 (⋆ 𝓛 (‵ (fobs γ ((coded_holeys R).code (heres R (at m)))) ∷ ‵ (fbor κ (Held R (length (at m)) b o γ)) ∷ ‵ (flft κ q) ∷ (‵ (flft κ' q') ⊛ ‵ ftrue) ∷ ‵ Own ∷ [])) (Post (vint w64 n))
   exits n m n-fits number c room =
       let len = c.long m c.low (omega arith) in
@@ -248,7 +248,7 @@ module _ {M : Type 1} {𝓤 : Ura M} (𝓛 : Logic 𝓤) (mem : Memory → SProp
       owned ! u64 (Is u64) (uint_Makes 𝓛 w64) n _ (refl, n-fits) $ move ! (1 ∷ 0 ∷ []) $ done !
 
   module _ (𝓣 : Tables 𝓤 H) (known : Known 𝓛 mem run 𝓣.C) (room : Room R (length ys)) (n m : ℕ) (n-fits : n < 2 ^ 64)
-      (number : n ≡ check-new (length ys) g.now lo hi) (c : Copying ys g.now lo hi n m)
+      (number : n ≡ check_new (length ys) g.now lo hi) (c : Copying ys g.now lo hi n m)
       (l₀ l₁ l₂ l₃ l₄ l₅ l₆ l₇ l₈ l₉ l₁₀ l₁₁ l₁₂ l₁₃ : ℕ) where
     abbrev C : Calls 𝓤 H
     C = 𝓣.C
@@ -411,7 +411,7 @@ module _ {M : Type 1} {𝓤 : Ura M} (𝓛 : Logic 𝓤) (mem : Memory → SProp
       move ! (28 ∷ []) $ split ! $ move ! (30 ∷ []) $ fsplit ! $ fsplit ! $ drop ! $ fsplit ! $ move ! (2 ∷ []) $ fsplit ! $ move ! (1 ∷ []) $ drop ! $
       -- [what the flat slice owns; obs; the borrow; the order's token; the flat slice's; _13; …]
       move ! (4 ∷ 0 ∷ []) $ use2 𝓛 (raw ((CheckNew 𝓛 mem run).pre to-check) ⊛ ‵ Own) (goes-check room.0) $ split ! $
-      calls_at ! (fm_of 𝓤 H 𝓛.laws 𝓣) (CheckNew 𝓛 mem run) known.check-new to-check
+      calls_at ! (fm_of 𝓤 H 𝓛.laws 𝓣) (CheckNew 𝓛 mem run) known.check_new to-check
       (and_then ! (load ! (from ! (stop !)) (look ! 13 refl))
       (and_then ! (load ! (from ! (stop !)) (look ! 27 refl)) (and_then ! (load ! (from ! (stop !)) (look ! 25 refl)) (and_then ! (load ! (from ! (stop !)) (look ! 23 refl)) (no_more !)))))
       (λ w.
@@ -419,8 +419,8 @@ module _ {M : Type 1} {𝓤 : Ura M} (𝓛 : Logic 𝓤) (mem : Memory → SProp
       (later
       (some (λ (n : ℕ). ((‵ (flft κ' q') ⊛ ‵ ftrue) ⊛ ‵ (u64.own_val n (w ∷ []))) ⊛ raw (ensured 𝓛 checks.ended (checks.clauses 𝓛 mem run) (κ', tt) (length ys, (g, (lo, (hi, tt)))) tt n))))
       (id⊢ 𝓤 _) $ await ! tt $ pick ! (λ n.
-      split ! $ move ! (1 ∷ []) $ use1 𝓛 (raw (fact 𝓤 (n ≡ check-new (length ys) g.now lo hi))) (said-check n) $
-      heard ! (n ≡ check-new (length ys) g.now lo hi) (λ number. split ! $ move ! (1 ∷ []) $
+      split ! $ move ! (1 ∷ []) $ use1 𝓛 (raw (fact 𝓤 (n ≡ check_new (length ys) g.now lo hi))) (said-check n) $
+      heard ! (n ≡ check_new (length ys) g.now lo hi) (λ number. split ! $ move ! (1 ∷ []) $
       peeks ! u64 (Is u64) (shows 𝓛 u64) n (w ∷ []) (λ n-is. drop ! $
       land ! (from ! (stop !)) (init ! 21 refl ((uint_Lawful 𝓛 w64).typed n (w ∷ []) n-is).0) $
       rewrite ! 21 (λ (z : Val). ‵ (fat full_share word l₅ 0 z)) (ap only (uint_Tells w64 n (w ∷ []) n-is)) refl $
@@ -431,7 +431,7 @@ module _ {M : Type 1} {𝓤 : Ura M} (𝓛 : Logic 𝓤) (mem : Memory → SProp
       (λ w'.
       use1 𝓛 (later (some (λ (m : ℕ). (‵ ftrue ⊛ ‵ (usize.own_val m (w' ∷ []))) ⊛ raw (ensured 𝓛 stop-at.ended (stop-at.clauses 𝓛 mem run) tt (n, (lo, (hi, tt))) tt m)))) (id⊢ 𝓤 _) $
       await ! tt $ pick ! (λ m.
-      split ! $ move ! (1 ∷ []) $ use1 𝓛 (raw (fact 𝓤 (m ≡ unless-refused n lo hi))) (said-stop n m) $ heard ! (m ≡ unless-refused n lo hi) (λ end. split ! $ drop ! $
+      split ! $ move ! (1 ∷ []) $ use1 𝓛 (raw (fact 𝓤 (m ≡ unless_refused n lo hi))) (said-stop n m) $ heard ! (m ≡ unless_refused n lo hi) (λ end. split ! $ drop ! $
       peeks ! usize (Is usize) (shows 𝓛 usize) m (w' ∷ []) (λ m-is. drop ! $
       land ! (from ! (stop !)) (init ! 19 refl ((uint_Lawful 𝓛 w64).typed m (w' ∷ []) m-is).0) $
       rewrite ! 19 (λ (z : Val). ‵ (fat full_share word l₆ 0 z)) (ap only (uint_Tells w64 m (w' ∷ []) m-is)) refl $
@@ -468,7 +468,7 @@ order-append-new-spec 𝓤 𝓛 𝓜 𝓡 =
     (tables 𝓤 𝓛.H 𝓜 𝓡 code.env).C (tables 𝓤 𝓛.H 𝓜 𝓡 code.env).Λ #order-entries·order-append-new code.function (code.unfolded 𝓤 𝓛.H 𝓜 𝓡)
     (append-new-meets 𝓛 𝓜.mem 𝓡.run (tables_of 𝓤 𝓛.H 𝓜 (tables 𝓤 𝓛.H 𝓜 𝓡 code.env))
     (record {
-      check-new = cited 𝓤 𝓛.H (CheckNew 𝓛 𝓜.mem 𝓡.run) 𝓜 𝓡 code.env #order-copy·check-new checks-def.routine code.calls-order-copy::check-new (checks-thm.met 𝓤 𝓛 𝓜 𝓡);
+      check_new = cited 𝓤 𝓛.H (CheckNew 𝓛 𝓜.mem 𝓡.run) 𝓜 𝓡 code.env #order-copy·check_new checks-def.routine code.calls-order-copy::check_new (checks-thm.met 𝓤 𝓛 𝓜 𝓡);
       stop-at = cited 𝓤 𝓛.H (StopAt 𝓛 𝓜.mem 𝓡.run) 𝓜 𝓡 code.env #order-copy·stop-at stop-at-def.routine code.calls-order-copy::stop-at (stop-at-thm.met 𝓤 𝓛 𝓜 𝓡);
       entry_at = cited 𝓤 𝓛.H (EntryAt 𝓛 𝓜.mem 𝓡.run) 𝓜 𝓡 code.env #order-copy·entry-at entry-at-def.routine code.calls-order-copy::entry-at (entry-at-thm.met 𝓤 𝓛 𝓜 𝓡);
       append = cited 𝓤 𝓛.H (Append 𝓛 𝓜.mem 𝓡.run) 𝓜 𝓡 code.env #order-copy·append append-def.routine code.calls-order-copy::append (append-thm.met 𝓤 𝓛 𝓜 𝓡);

@@ -4,7 +4,7 @@ use Prim.Native.Nat.{◌≤◌}
 use native.Mathlib.Omega.{arith}
 use Rattle.laws.specs.History.{len}
 use Rattle.buffer.specs.View.{view}
-use Rattle.placing.specs.Done.{free_one, free-two, done_next, len-view}
+use Rattle.placing.specs.Done.{free_one, free_two, done_next, len_view}
 use borrow.Author.Rules.{rules}
 use Rattle.placing.proofs.open_spans.Statement.{statement}
 use Rattle.placing.proofs.open_spans.Tie as tie
@@ -28,7 +28,7 @@ release-one-requires-2 c κs =
     let r = one.release-one in
     let s = start one.before in
     let a = s.args in
-    (r.ensures.0.stands, free-two a.g r.result a.spans.now s.pre.0.laid r.ensures.1 r.ensures.0.same-v s.pre.1.0)
+    (r.ensures.0.stands, free_two a.g r.result a.spans.now s.pre.0.laid r.ensures.1 r.ensures.0.same_v s.pre.1.0)
 
 same_length : tie.Need-same-length
 same_length c = search rules
@@ -46,7 +46,7 @@ returns c =
     let k = s.pre.0.laid in
     let two : a.n ≡ 2 = branch.if1.taken in
     let last : len (view a.g a.spans.now a.order.now).spans 31 ≤ a.g.p =
-    rw (len-view a.g a.spans.now a.order.now k 31) s.pre.1.0.last in
+    rw (len_view a.g a.spans.now a.order.now k 31) s.pre.1.0.last in
     rw two
     (done_next a.g r.result z.result a.spans.now a.order.now r.last.1.1.0 z.last.1.1.0 a.tally.now r.last.1.1.1.0
     z.last.1.1.1.0 1 k (omega arith) last r.ensures.0 z.ensures.0)

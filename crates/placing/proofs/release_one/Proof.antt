@@ -1,5 +1,5 @@
 -- `placing::release_one` meets its contract: the release, then the count of what it appended. Assumes nothing.
-use Rattle.placing.specs.Done.{release-done, asked-tally, asked-release}
+use Rattle.placing.specs.Done.{release_done, asked_tally, asked_release}
 use borrow.Author.Rules.{rules}
 use Rattle.placing.proofs.release_one.Statement.{statement}
 use Rattle.placing.proofs.release_one.Tie as tie
@@ -21,7 +21,7 @@ release-requires : tie.Need-release-requires
 release-requires c κs =
     let s = start c.before in
     let a = s.args in
-    asked-release a.g a.spans.now a.order.now a.tally.now s.pre.0 s.pre.1
+    asked_release a.g a.spans.now a.order.now a.tally.now s.pre.0 s.pre.1
 
 cast-tally-new : tie.Need-overflow-cast-tally-new
 cast-tally-new c = search rules
@@ -31,7 +31,7 @@ tally-new-requires c κs =
     let r = (released c).release in
     let s = start (released c).before.before in
     let a = s.args in
-    asked-tally a.g a.spans.now a.order.now r.last.1.1.0 a.tally.now s.pre.0 s.pre.1.room r.ensures.1 r.kept.1.1.0
+    asked_tally a.g a.spans.now a.order.now r.last.1.1.0 a.tally.now s.pre.0 s.pre.1.room r.ensures.1 r.kept.1.1.0
 
 same_length : tie.Need-same-length
 same_length c = search rules
@@ -46,7 +46,7 @@ returns c =
     let r = (released counted.before).release in
     let s = start (released counted.before).before.before in
     let a = s.args in (
-      release-done a.g r.result a.spans.now a.order.now r.last.1.1.0 a.tally.now t.new.1.0 s.pre.0 s.pre.1.room
+      release_done a.g r.result a.spans.now a.order.now r.last.1.1.0 a.tally.now t.new.1.0 s.pre.0 s.pre.1.room
           r.ensures.0 r.ensures.1 t.ensures,
       r.ensures.0,
     )

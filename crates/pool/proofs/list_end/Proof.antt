@@ -16,7 +16,7 @@ list-start-requires c κs = search rules
 
 returns : tie.Need-returns
 unfolding end_of
-returns c = rw (lt-ltb _ _ c.before.if1.true) c.list-start.ensures
+returns c = rw (lt-ltb _ _ c.before.if1.true) c.list_start.ensures
 
 returns-2 : tie.Need-returns-2
 unfolding end_of

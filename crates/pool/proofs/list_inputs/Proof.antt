@@ -1,6 +1,6 @@
 -- The cell as it is read. Assumes nothing.
 use borrow.Author.Rules.{rules}
-use Rattle.pool.specs.Lists.{inputs-of, cell_at}
+use Rattle.pool.specs.Lists.{inputs_of, cell_at}
 use Rattle.pool.proofs.list_inputs.Statement.{statement}
 use Rattle.pool.proofs.list_inputs.Tie as tie
 
@@ -17,7 +17,7 @@ shared-slice-read-result : tie.Need-shared-slice-read-result
 shared-slice-read-result c = search rules
 
 returns : tie.Need-returns
-unfolding inputs-of cell_at
+unfolding inputs_of cell_at
 returns c = search rules
 
 pub list-inputs-spec : {M : Type 1} → statement M

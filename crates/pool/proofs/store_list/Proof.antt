@@ -4,7 +4,7 @@ use mathlib.Core.Path.{◌≡◌, refl, ap, ◌∙◌}
 use Prim.Native.Nat.{◌+◌, ◌-◌, ◌≤◌, ◌<◌}
 use borrow.Author.Rules.{rules}
 use native.Mathlib.Omega.{arith}
-use Rattle.pool.specs.ListLaws.{storing, store-begin, store-next, store-end, store-one}
+use Rattle.pool.specs.ListLaws.{storing, store_begin, store_next, store_end, store_one}
 use Rattle.pool.proofs.store_list.Statement.{statement}
 use Rattle.pool.proofs.store_list.Tie as tie
 
@@ -37,10 +37,10 @@ returns : tie.Need-returns invariant-loop decreases-loop
 returns c =
     let t = c.before in
     let a = t.before.args in
-    store-one a.pool.now a.at a.xs.now t.before.requires.room t.if1.true
+    store_one a.pool.now a.at a.xs.now t.before.requires.room t.if1.true
 
 loop-holds : tie.Need-loop-init invariant-loop decreases-loop
-loop-holds c = let a = c.before.args in (omega arith, refl, store-begin a.pool.now a.at a.xs.now)
+loop-holds c = let a = c.before.args in (omega arith, refl, store_begin a.pool.now a.at a.xs.now)
 
 mul-pool-2 : tie.Need-overflow-mul-pool-2 invariant-loop decreases-loop
 mul-pool-2 c = search rules
@@ -78,7 +78,7 @@ loop-again c =
       omega arith,
       length-set l.pool _ _ ∙ l.invariant.1,
       ap (λ x. set x (a.at + l.j) (get_or a.xs.now l.j 0)) l.invariant.2
-          ∙ store-next a.pool.now a.at a.xs.now l.j s.pre.room c.before.loop-test.true,
+          ∙ store_next a.pool.now a.at a.xs.now l.j s.pre.room c.before.loop-test.true,
     )
 
 same-length-2 : tie.Need-same-length-2 invariant-loop decreases-loop
@@ -89,7 +89,7 @@ returns-2 c =
     let a = (start c.before).args in
     let l = c.before.loop in
     let e : l.j ≡ length a.xs.now = omega (arith, l.invariant.0, c.loop-test.false) in
-    l.invariant.2 ∙ store-end a.pool.now a.at a.xs.now l.j e
+    l.invariant.2 ∙ store_end a.pool.now a.at a.xs.now l.j e
 
 pub store-list-spec : {M : Type 1} → statement M
 store-list-spec =

@@ -2,14 +2,14 @@
 -- Assumes nothing.
 use native.Mathlib.Omega.{arith}
 use mathlib.Core.Path.{◌≡◌, refl, sym, subst}
-use Rattle.entries.specs.Entries.{has-entry}
-use Rattle.buffer.specs.Moves.{slot_of, longer, put-spans, slot-fits}
+use Rattle.entries.specs.Entries.{has_entry}
+use Rattle.buffer.specs.Moves.{slot_of, longer, put_spans, slot_fits}
 use Rattle.rules.specs.Guide.{release}
 use Rattle.buffer.specs.declared.Guide.{Guide}
 use Rattle.buffer.specs.View.{view}
-use Rattle.buffer.specs.Held.{held-few}
+use Rattle.buffer.specs.Held.{held_few}
 use Rattle.placing.specs.Stands.{Stands}
-use Rattle.placing.specs.Done.{Done, Free, put_is, put-kept, put-gone, longer-free}
+use Rattle.placing.specs.Done.{Done, Free, put_is, put_kept, put_gone, longer_free}
 use borrow.Author.Rules.{rules}
 use Rattle.putting.proofs.place_existing.Statement.{statement}
 use Rattle.putting.proofs.place_existing.Tie as tie
@@ -32,14 +32,14 @@ abbrev released : tie.After-w2 → tie.After-release-one
 released c = c.before.before.before.before.before
 
 -- the entry goes into the lent spans
-slot-there : (s : tie.Start) → has-entry s.args.spans.now (slot_of s.args.g s.args.i)
-slot-there s = slot-fits s.args.g s.args.spans.now s.requires.0.laid s.args.i s.requires.1.1.1.1
+slot-there : (s : tie.Start) → has_entry s.args.spans.now (slot_of s.args.g s.args.i)
+slot-there s = slot_fits s.args.g s.args.spans.now s.requires.0.laid s.args.i s.requires.1.1.1.1
 
 put-at : (u : tie.After-store-held)
     → let a = (start (begun u.before)).args in
-    u.store-held.new.0 ≡ put-spans a.g a.spans.now a.i a.e
-unfolding put-spans
-put-at u = rw u.before.before.row-start.ensures at u.store-held.ensures
+    u.store-held.new.0 ≡ put_spans a.g a.spans.now a.i a.e
+unfolding put_spans
+put-at u = rw u.before.before.row_start.ensures at u.store-held.ensures
 
 mul_at : tie.Need-overflow-mul-at
 mul_at c = search rules
@@ -87,7 +87,7 @@ element-write-w c = search rules
 add-held : tie.Need-overflow-add-held
 add-held c =
     let s = start (begun (stored c).before) in
-    omega (arith, held-few s.args.g s.args.spans.now s.pre.0.laid, s.pre.0.laid.few)
+    omega (arith, held_few s.args.g s.args.spans.now s.pre.0.laid, s.pre.0.laid.few)
 
 add-if1 : tie.Need-overflow-add-if1
 add-if1 c = search rules
@@ -96,7 +96,7 @@ guide-of-requires : tie.Need-guide-of-requires
 guide-of-requires c κs = search rules
 
 release-one-requires : tie.Need-release-one-requires
-unfolding longer put-spans
+unfolding longer put_spans
 release-one-requires c κs =
     let u = stored (made c).before.before in
     let s = start (begun u.before) in
@@ -106,7 +106,7 @@ release-one-requires c κs =
     let t = a.tally.now in
     subst (λ (x : Guide). Stands x s' o t × Free x) (sym (made c).guide-of.ensures) (
       (put_is a.g a.spans.now s' o t a.i a.e s.pre.0 s.pre.1.1 (put-at u)).stands,
-      longer-free a.g a.i s.pre.1.1.0 s.pre.1.0,
+      longer_free a.g a.i s.pre.1.1.0 s.pre.1.0,
     )
 
 same_length : tie.Need-same-length
@@ -119,7 +119,7 @@ same-length-3 : tie.Need-same-length-3
 same-length-3 c = search rules
 
 returns : tie.Need-returns
-unfolding longer put-spans
+unfolding longer put_spans
 returns c =
     let z = (released c).release-one in
     let f = made (released c).before in
@@ -133,7 +133,7 @@ returns c =
     let o' = z.last.1.1.0 in
     let t' = z.last.1.1.1.0 in
     let d = subst (λ (x : Guide). Done x z.result s' o t s' o' t' (release x.p 1 (view x s' o))) f.guide-of.ensures z.ensures.0 in (
-      put-gone a.g a.spans.now s' o t a.i a.e s.pre.0 s.pre.1.1 (put-at u) z.result o' t' (omega (arith, full.if1.taken)) d,
+      put_gone a.g a.spans.now s' o t a.i a.e s.pre.0 s.pre.1.1 (put-at u) z.result o' t' (omega (arith, full.if1.taken)) d,
       (refl, refl),
     )
 
@@ -141,12 +141,12 @@ same-length-4 : tie.Need-same-length-4
 same-length-4 c = search rules
 
 returns-2 : tie.Need-returns-2
-unfolding longer put-spans
+unfolding longer put_spans
 returns-2 c =
     let u = stored c.before in
     let s = start (begun u.before) in
     let a = s.args in (
-      put-kept a.g a.spans.now u.store-held.last.0 a.order.now a.tally.now a.i a.e s.pre.0 s.pre.1.1 (put-at u)
+      put_kept a.g a.spans.now u.store-held.last.0 a.order.now a.tally.now a.i a.e s.pre.0 s.pre.1.1 (put-at u)
           (omega (arith, c.if1.false)),
       (refl, refl),
     )

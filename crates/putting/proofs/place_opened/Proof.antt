@@ -2,10 +2,10 @@
 use lib.ListN.{get_or}
 use mathlib.Core.Path.{refl}
 use native.Mathlib.Omega.{arith}
-use Rattle.entries.specs.Entries.{has-entry}
-use Rattle.buffer.specs.View.{row-start}
-use Rattle.buffer.specs.Held.{held-few}
-use Rattle.placing.specs.Opened.{opened-number, opened-slot, open-put}
+use Rattle.entries.specs.Entries.{has_entry}
+use Rattle.buffer.specs.View.{row_start}
+use Rattle.buffer.specs.Held.{held_few}
+use Rattle.placing.specs.Opened.{opened_number, opened_slot, open_put}
 use borrow.Author.Rules.{rules}
 use Rattle.putting.proofs.place_opened.Statement.{statement}
 use Rattle.putting.proofs.place_opened.Tie as tie
@@ -23,12 +23,12 @@ begun c = c.before.before.before.before
 -- the last span begins in the lent spans
 slot-there : (c : tie.After-open-spans)
     → let a = (start c.before.before).args in
-    has-entry a.spans.now (row-start (get_or c.open-spans.result.window.rows 31 0) a.g.p)
+    has_entry a.spans.now (row_start (get_or c.open-spans.result.window.rows 31 0) a.g.p)
 slot-there c =
     let s = start c.before.before in
     let a = s.args in
     let r = c.open-spans in
-    opened-slot a.g r.result a.spans.now a.order.now r.new.1.1.0 a.tally.now r.new.1.1.1.0 a.n s.pre.0.laid s.pre.1.1.0 r.ensures
+    opened_slot a.g r.result a.spans.now a.order.now r.new.1.1.0 a.tally.now r.new.1.1.1.0 a.n s.pre.0.laid s.pre.1.1.0 r.ensures
 
 open-spans-requires : tie.Need-open-spans-requires
 open-spans-requires c κs = search rules
@@ -43,7 +43,7 @@ row-start-requires : tie.Need-row-start-requires
 row-start-requires c κs = search rules
 
 store-held-requires : tie.Need-store-held-requires
-store-held-requires c κs = rw c.row-start.ensures (slot-there (opened (begun c)))
+store-held-requires c κs = rw c.row_start.ensures (slot-there (opened (begun c)))
 
 element-write-w : tie.Need-element-write-w
 element-write-w c = search rules
@@ -54,7 +54,7 @@ add-held c =
     let o = opened (begun c.before.before.before.before) in
     let s = start o.before.before in
     let laid = o.open-spans.ensures.stands.laid in
-    omega (arith, held-few o.open-spans.result s.args.spans.now laid, laid.few)
+    omega (arith, held_few o.open-spans.result s.args.spans.now laid, laid.few)
 
 same_length : tie.Need-same-length
 same_length c = search rules
@@ -74,10 +74,10 @@ returns c =
     let s = start o.before.before in
     let a = s.args in
     let sp = a.spans.now in (
-      open-put a.g r.result sp a.order.now r.last.1.1.0 a.tally.now r.last.1.1.1.0 a.n s.pre.0.laid s.pre.1.1.0 r.ensures
-          u.new.0 a.e (rw stored.before.row-start.ensures at u.ensures),
+      open_put a.g r.result sp a.order.now r.last.1.1.0 a.tally.now r.last.1.1.1.0 a.n s.pre.0.laid s.pre.1.1.0 r.ensures
+          u.new.0 a.e (rw stored.before.row_start.ensures at u.ensures),
       (
-        opened-number a.g r.result sp a.order.now r.last.1.1.0 a.tally.now r.last.1.1.1.0 a.n s.pre.0.laid s.pre.1.1.0 r.ensures,
+        opened_number a.g r.result sp a.order.now r.last.1.1.0 a.tally.now r.last.1.1.1.0 a.n s.pre.0.laid s.pre.1.1.0 r.ensures,
         refl,
       ),
     )

@@ -1,6 +1,6 @@
 -- `reason::replay_reason` meets its contract: the promise of `replay`, and the reason by one number.
 use borrow.Author.Rules.{rules}
-use Rattle.reason.specs.Telling.{may-tell, replays-reason}
+use Rattle.reason.specs.Telling.{may_tell, replays_reason}
 use Rattle.reason.proofs.replay_reason.Statement.{statement}
 use Rattle.reason.proofs.replay_reason.Tie as tie
 
@@ -16,7 +16,7 @@ replay-requires : tie.Need-replay-requires
 replay-requires c κs = search rules
 
 number-after-requires : tie.Need-number-after-requires
-number-after-requires c κs = may-tell (ran c).replay.ensures
+number-after-requires c κs = may_tell (ran c).replay.ensures
 
 same_length : tie.Need-same-length
 same_length c = (ran c.before).replay.auto.0
@@ -46,7 +46,7 @@ same-length-9 : tie.Need-same-length-9
 same-length-9 c = (ran c.before).replay.auto.1.1.1.1.1.1.1.1.0
 
 returns : tie.Need-returns
-returns c = replays-reason (ran c.before).replay.ensures c.number-after.ensures
+returns c = replays_reason (ran c.before).replay.ensures c.number-after.ensures
 
 pub replay-reason-spec : {M : Type 1} → statement M
 replay-reason-spec =

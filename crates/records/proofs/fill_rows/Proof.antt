@@ -1,5 +1,5 @@
 -- `records::fill_rows` meets its contract. The invariant says what is still to be filled. Assumes nothing.
-use Rattle.records.specs.Filling.{filled, to_fill, fill_begins, fill-turn, fill-ends, fill-one-length}
+use Rattle.records.specs.Filling.{filled, to_fill, fill_begins, fill_turn, fill_ends, fill_one_length}
 use Rattle.entries.specs.Entries.{row}
 use lib.ListN.{length}
 use Prim.Native.Nat.{◌-◌, ◌≤◌}
@@ -57,8 +57,8 @@ loop-again c =
     let a = (start turn).args in (
       omega arith,
       (
-        ap length w ∙ fill-one-length l.rows _ e.result ∙ l.invariant.1.0,
-        l.invariant.1.1 ∙ fill-turn a.order.now a.n a.a l.rows _ l.q e.result turn.loop-test.true e.ensures w,
+        ap length w ∙ fill_one_length l.rows _ e.result ∙ l.invariant.1.0,
+        l.invariant.1.1 ∙ fill_turn a.order.now a.n a.a l.rows _ l.q e.result turn.loop-test.true e.ensures w,
       ),
     )
 
@@ -69,7 +69,7 @@ returns : tie.Need-returns invariant-loop decreases-loop
 returns c =
     let l = c.before.loop in
     let a = c.before.before.before.before.args in
-    sym (l.invariant.1.1 ∙ fill-ends a.order.now a.n a.a l.rows l.q c.loop-test.false)
+    sym (l.invariant.1.1 ∙ fill_ends a.order.now a.n a.a l.rows l.q c.loop-test.false)
 
 pub fill-rows-spec : {M : Type 1} → statement M
 fill-rows-spec =

@@ -3,7 +3,7 @@ use lib.ListN.{length}
 use mathlib.Core.Path.{◌≡◌, refl, ◌∙◌}
 use Prim.Native.Nat.{◌-◌, ◌≤◌}
 use native.Mathlib.Omega.{arith}
-use Rattle.registrar.specs.Keeps.{Placing, placing-start, placing-chained, placing-next, placing-end}
+use Rattle.registrar.specs.Keeps.{Placing, placing_start, placing_chained, placing_next, placing_end}
 use Rattle.registrar.proofs.advance_placed.Statement.{statement}
 use Rattle.registrar.proofs.advance_placed.Tie as tie
 
@@ -24,7 +24,7 @@ abbrev turn : tie.After-head invariant-loop decreases-loop → tie.In-loop invar
 turn c = c.before.before
 
 loop-holds : tie.Need-loop-init invariant-loop decreases-loop
-loop-holds c = let a = c.before.args in (omega arith, c.before.requires.order, refl, placing-start a.waiting.now a.v a.lo a.top)
+loop-holds c = let a = c.before.args in (omega arith, c.before.requires.order, refl, placing_start a.waiting.now a.v a.lo a.top)
 
 head-requires : tie.Need-head-requires invariant-loop decreases-loop
 head-requires c κs =
@@ -34,7 +34,7 @@ head-requires c κs =
 splice-requires : tie.Need-splice-requires invariant-loop decreases-loop
 splice-requires c κs =
     let t = turn c.before in
-    rw c.before.head.ensures (placing-chained (start t.before).pre t.before.loop.inv.3 t.loop-test.taken)
+    rw c.before.head.ensures (placing_chained (start t.before).pre t.before.loop.inv.3 t.loop-test.taken)
 
 add-p : tie.Need-overflow-add-p invariant-loop decreases-loop
 add-p c =
@@ -52,7 +52,7 @@ loop-again c =
       omega arith,
       omega (arith, t.loop-test.taken),
       s.splice.auto.0 ∙ l.inv.2,
-      placing-next (start t.before).pre l.inv.3 t.loop-test.taken (rw (read s).head.ensures at s.splice.ensures),
+      placing_next (start t.before).pre l.inv.3 t.loop-test.taken (rw (read s).head.ensures at s.splice.ensures),
     )
 
 same_length : tie.Need-same-length invariant-loop decreases-loop
@@ -61,7 +61,7 @@ same_length c = c.before.loop.invariant.2
 returns : tie.Need-returns invariant-loop decreases-loop
 returns c =
     let l = c.before.loop in
-    placing-end l.invariant.3 (omega (arith, l.invariant.1, c.loop-test.false))
+    placing_end l.invariant.3 (omega (arith, l.invariant.1, c.loop-test.false))
 
 pub advance-placed-spec : {M : Type 1} → statement M
 advance-placed-spec =

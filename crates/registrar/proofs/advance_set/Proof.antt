@@ -3,12 +3,12 @@ use Prim.Native.Nat.{ℕ, ◌≤◌}
 use mathlib.Core.Path.{◌≡◌, refl, ◌∙◌}
 use mathlib.Core.List.{List}
 use lib.ListN.{length}
-use Rattle.rules.specs.Checks.{waiting-needed}
+use Rattle.rules.specs.Checks.{waiting_needed}
 use borrow.Author.Rules.{rules}
 use native.Mathlib.Omega.{arith}
 use Rattle.registrar.specs.Delayed.{newest}
-use Rattle.registrar.specs.Keeps.{advancing-places, set-advances}
-use Rattle.registrar.specs.Loops.{ChainsAt, Going, going_start, going_next, going-chain, going-chained, going-in, going-long, going_end}
+use Rattle.registrar.specs.Keeps.{advancing_places, set_advances}
+use Rattle.registrar.specs.Loops.{ChainsAt, Going, going_start, going_next, going_chain, going_chained, going_in, going_long, going_end}
 use Rattle.registrar.proofs.advance_set.Statement.{statement}
 use Rattle.registrar.proofs.advance_set.Tie as tie
 
@@ -40,10 +40,10 @@ unfolding chains
 going c =
     let s = start c.before in
     let a = s.args in
-    c.before.loop.invariant.2 (chains c) (advancing-places a.waiting.now a.v a.lo a.hi 0 s.pre)
+    c.before.loop.invariant.2 (chains c) (advancing_places a.waiting.now a.v a.lo a.hi 0 s.pre)
 
-inside : (c : tie.In-loop invariant-loop decreases-loop) → (c.before.loop.p ≤ (start c.before).args.v) × (waiting-needed (start c.before).args.v ≤ length c.before.loop.waiting)
-inside c = (going-in _ _ _ _ _ _ _ _ _ (going c) c.loop-test.true, going-long _ _ _ _ _ _ _ _ _ (going c) c.loop-test.true)
+inside : (c : tie.In-loop invariant-loop decreases-loop) → (c.before.loop.p ≤ (start c.before).args.v) × (waiting_needed (start c.before).args.v ≤ length c.before.loop.waiting)
+inside c = (going_in _ _ _ _ _ _ _ _ _ (going c) c.loop-test.true, going_long _ _ _ _ _ _ _ _ _ (going c) c.loop-test.true)
 
 loop-holds : tie.Need-loop-init invariant-loop decreases-loop
 loop-holds c = (c.before.requires.order, refl, λ ch s. going_start _ _ _ _ _ ch c.before.requires.order s)
@@ -57,7 +57,7 @@ head-requires c κs = omega (arith, inside c.before)
 turn-onto-requires : tie.Need-turn-onto-requires invariant-loop decreases-loop
 turn-onto-requires c κs =
     let t = turn c.before in
-    rw c.before.head.ensures (going-chained _ _ _ _ _ _ _ _ _ (going t) t.loop-test.taken)
+    rw c.before.head.ensures (going_chained _ _ _ _ _ _ _ _ _ (going t) t.loop-test.taken)
 
 loop-less : tie.Need-loop-smaller invariant-loop decreases-loop
 loop-less c = search rules
@@ -73,7 +73,7 @@ loop-again c =
       o.turn-onto.auto.0 ∙ l.inv.1,
       λ ch s.
           let g = l.inv.2 ch s in
-          let e = turns.turned (ch _) (going-chain _ _ _ _ _ ch _ _ _ g h) in
+          let e = turns.turned (ch _) (going_chain _ _ _ _ _ ch _ _ _ g h) in
           going_next _ _ _ _ _ ch _ _ _ g h _ _ e.1 e.0,
     )
 
@@ -84,7 +84,7 @@ returns : tie.Need-returns invariant-loop decreases-loop
 returns c =
     let s = start c.before in
     let a = s.args in
-    set-advances a.waiting.now a.v a.lo a.hi s.pre _ _ (λ ch p. going_end _ _ _ _ _ ch _ _ _ (c.before.loop.invariant.2 ch p) c.loop-test.false)
+    set_advances a.waiting.now a.v a.lo a.hi s.pre _ _ (λ ch p. going_end _ _ _ _ _ ch _ _ _ (c.before.loop.invariant.2 ch p) c.loop-test.false)
 
 pub advance-set-spec : {M : Type 1} → statement M
 advance-set-spec =

@@ -3,7 +3,7 @@ use mathlib.Core.Path.{ap, sym, ◌∙◌, subst}
 use Prim.Native.Nat.{◌+◌}
 use native.Mathlib.Omega.{arith}
 use borrow.Author.Rules.{rules}
-use Rattle.registrar.specs.Delayed.{with-head, with-link, Joins}
+use Rattle.registrar.specs.Delayed.{with_head, with_link, Joins}
 use Rattle.registrar.specs.Keeps.{joins}
 use Rattle.registrar.proofs.delay.Statement.{statement}
 use Rattle.registrar.proofs.delay.Tie as tie
@@ -36,8 +36,8 @@ same_length c = search rules
 returns : tie.Need-returns
 returns c =
     let a = (at_head c).before.before.before.args in
-    let links = (at-set-link c).set_link.ensures ∙ ap (with-link a.waiting.now a.v a.r) (at_head c).head.ensures in
-    let stores = (at-set-head c).set-head.ensures ∙ ap (λ w. with-head w a.p (a.r + 1)) links in
+    let links = (at-set-link c).set_link.ensures ∙ ap (with_link a.waiting.now a.v a.r) (at_head c).head.ensures in
+    let stores = (at-set-head c).set-head.ensures ∙ ap (λ w. with_head w a.p (a.r + 1)) links in
     subst (Joins a.waiting.now a.v a.p a.r) (sym stores) (joins a.waiting.now a.v a.p a.r (omega arith) (omega arith))
 
 pub delay-spec : {M : Type 1} → statement M

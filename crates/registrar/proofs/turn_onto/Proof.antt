@@ -3,8 +3,8 @@ use native.Mathlib.Omega.{arith}
 use Prim.Native.Nat.{◌<◌, ◌≤◌, ◌-◌}
 use mathlib.Core.Path.{◌≡◌, refl, ◌∙◌}
 use lib.ListN.{length}
-use Rattle.rules.specs.Checks.{waiting-needed}
-use Rattle.registrar.specs.Loops.{Turning, turn-start, turn_at, turn_more, turn_end}
+use Rattle.rules.specs.Checks.{waiting_needed}
+use Rattle.registrar.specs.Loops.{Turning, turn_start, turn_at, turn_more, turn_end}
 use Rattle.registrar.proofs.turn_onto.Statement.{statement}
 use Rattle.registrar.proofs.turn_onto.Tie as tie
 
@@ -22,11 +22,11 @@ abbrev read : tie.After-slice-known2 invariant-loop decreases-loop → tie.After
 read c = c.before.before.before.before
 
 -- in a turn: the link is that of a registration, and its link is in the storage
-bound : (c : tie.In-loop invariant-loop decreases-loop) → (c.before.loop.h - 1 < c.before.before.before.args.v) × (waiting-needed c.before.before.before.args.v ≤ length c.before.loop.waiting)
+bound : (c : tie.In-loop invariant-loop decreases-loop) → (c.before.loop.h - 1 < c.before.before.before.args.v) × (waiting_needed c.before.before.before.args.v ≤ length c.before.loop.waiting)
 bound c = (omega (arith, turn_at _ _ _ _ _ _ _ c.before.loop.invariant.0), c.before.loop.invariant.0.long)
 
 loop-holds : tie.Need-loop-init invariant-loop decreases-loop
-loop-holds c = (turn-start _ _ _ _ c.before.requires, refl)
+loop-holds c = (turn_start _ _ _ _ c.before.requires, refl)
 
 sub-r : tie.Need-overflow-sub-r invariant-loop decreases-loop
 sub-r c = omega arith

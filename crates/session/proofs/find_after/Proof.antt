@@ -1,6 +1,6 @@
 -- `session::find_after` meets its contract: what is read of the waiting storage are the parts of the registration's lists in the pool.
 use native.Mathlib.Omega.{arith}
-use Rattle.session.specs.Finding.{asks-parts, finds}
+use Rattle.session.specs.Finding.{asks_parts, finds}
 use borrow.Author.Rules.{rules}
 use Rattle.session.proofs.find_after.Statement.{statement}
 use Rattle.session.proofs.find_after.Tie as tie
@@ -49,18 +49,18 @@ top-loc-requires c κs =
     let at_wide = at-wide2.before in
     let at-start = at_wide.before.before.before.before in
     let a = at-start.args in
-    (asks-parts a.locations.now a.waiting.now a.pool.now a.v a.added a.used a.r at_wide.wide.result at-wide2.wide2.result
-    c.before.wide3.result at-list-start.list-start.result c.before.before.list-inputs.result c.list-end.result at_wide.wide.ensures
-    at-wide2.wide2.ensures c.before.wide3.ensures at-list-start.list-start.ensures c.before.before.list-inputs.ensures c.list-end.ensures
+    (asks_parts a.locations.now a.waiting.now a.pool.now a.v a.added a.used a.r at_wide.wide.result at-wide2.wide2.result
+    c.before.wide3.result at-list-start.list_start.result c.before.before.list-inputs.result c.list_end.result at_wide.wide.ensures
+    at-wide2.wide2.ensures c.before.wide3.ensures at-list-start.list_start.ensures c.before.before.list-inputs.ensures c.list_end.ensures
     at-start.requires).1.1
 
 add_at : tie.Need-overflow-add-at
 add_at c =
     let a = (at-start c).args in
-    let p = asks-parts a.locations.now a.waiting.now a.pool.now a.v a.added a.used a.r (at_wide c).wide.result (at-wide2 c).wide2.result
-    c.before.before.wide3.result (at-list-start c).list-start.result (at-list-inputs c).list-inputs.result c.before.list-end.result
-    (at_wide c).wide.ensures (at-wide2 c).wide2.ensures c.before.before.wide3.ensures (at-list-start c).list-start.ensures (at-list-inputs c).list-inputs.ensures
-    c.before.list-end.ensures (at-start c).requires in
+    let p = asks_parts a.locations.now a.waiting.now a.pool.now a.v a.added a.used a.r (at_wide c).wide.result (at-wide2 c).wide2.result
+    c.before.before.wide3.result (at-list-start c).list_start.result (at-list-inputs c).list-inputs.result c.before.list_end.result
+    (at_wide c).wide.ensures (at-wide2 c).wide2.ensures c.before.before.wide3.ensures (at-list-start c).list_start.ensures (at-list-inputs c).list-inputs.ensures
+    c.before.list_end.ensures (at-start c).requires in
     omega (arith, p.0, p.1.0)
 
 span-of-requires : tie.Need-span-of-requires
@@ -73,10 +73,10 @@ sub-t15 : tie.Need-overflow-sub-t15
 sub-t15 d =
     let c = at-top-loc d in
     let a = (at-start c).args in
-    (asks-parts a.locations.now a.waiting.now a.pool.now a.v a.added a.used a.r (at_wide c).wide.result (at-wide2 c).wide2.result
-    c.before.before.wide3.result (at-list-start c).list-start.result (at-list-inputs c).list-inputs.result c.before.list-end.result
-    (at_wide c).wide.ensures (at-wide2 c).wide2.ensures c.before.before.wide3.ensures (at-list-start c).list-start.ensures (at-list-inputs c).list-inputs.ensures
-    c.before.list-end.ensures (at-start c).pre).0
+    (asks_parts a.locations.now a.waiting.now a.pool.now a.v a.added a.used a.r (at_wide c).wide.result (at-wide2 c).wide2.result
+    c.before.before.wide3.result (at-list-start c).list_start.result (at-list-inputs c).list-inputs.result c.before.list_end.result
+    (at_wide c).wide.ensures (at-wide2 c).wide2.ensures c.before.before.wide3.ensures (at-list-start c).list_start.ensures (at-list-inputs c).list-inputs.ensures
+    c.before.list_end.ensures (at-start c).pre).0
 
 lane-of-requires : tie.Need-lane-of-requires
 lane-of-requires c κs = search rules
@@ -87,9 +87,9 @@ returns d =
     let c = at-top-loc q in
     let a = (at-start c).args in
     finds a.locations.now a.waiting.now a.pool.now a.v a.added a.used a.r (at_wide c).wide.result (at-wide2 c).wide2.result
-    c.before.before.wide3.result (at-list-start c).list-start.result (at-list-inputs c).list-inputs.result c.before.list-end.result
-    (at_wide c).wide.ensures (at-wide2 c).wide2.ensures c.before.before.wide3.ensures (at-list-start c).list-start.ensures (at-list-inputs c).list-inputs.ensures
-    c.before.list-end.ensures c.top-loc.result q.before.Span-of.result q.position-of.result d.lane_of.result c.top-loc.ensures
+    c.before.before.wide3.result (at-list-start c).list_start.result (at-list-inputs c).list-inputs.result c.before.list_end.result
+    (at_wide c).wide.ensures (at-wide2 c).wide2.ensures c.before.before.wide3.ensures (at-list-start c).list_start.ensures (at-list-inputs c).list-inputs.ensures
+    c.before.list_end.ensures c.top-loc.result q.before.Span-of.result q.position-of.result d.lane_of.result c.top-loc.ensures
     q.before.Span-of.ensures q.position-of.ensures d.lane_of.ensures
 
 pub find-after-spec : {M : Type 1} → statement M

@@ -1,7 +1,7 @@
 -- `session::note_latest` meets its contract: the two ways of `noted`.
 use mathlib.Core.Path.{sym, ◌∙◌}
 use native.Mathlib.Omega.{arith}
-use Rattle.session.specs.Noting.{noted-none, noted-some}
+use Rattle.session.specs.Noting.{noted_none, noted_some}
 use borrow.Author.Rules.{rules}
 use Rattle.session.proofs.note_latest.Statement.{statement}
 use Rattle.session.proofs.note_latest.Tie as tie
@@ -16,10 +16,10 @@ same_length : tie.Need-same-length
 same_length c = search rules
 
 returns : tie.Need-returns
-returns c = c.before.before.note-written.ensures ∙ sym (noted-some _ _ _ _ c.before.before.before.before.if1.true)
+returns c = c.before.before.note-written.ensures ∙ sym (noted_some _ _ _ _ c.before.before.before.before.if1.true)
 
 returns-2 : tie.Need-returns-2
-returns-2 c = sym (noted-none _ _ _ _ c.if1.false)
+returns-2 c = sym (noted_none _ _ _ _ c.if1.false)
 
 pub note-latest-spec : {M : Type 1} → statement M
 note-latest-spec =

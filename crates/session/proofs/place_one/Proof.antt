@@ -1,6 +1,6 @@
--- `session::place_one` meets its contract: the promises of its four callees, put together by `places-one`.
+-- `session::place_one` meets its contract: the promises of its four callees, put together by `places_one`.
 use Rattle.session.specs.Storage.{Storage, given}
-use Rattle.session.specs.PlaceOne.{asks-find, asks-push, asks-fill, asks-settle, places-one}
+use Rattle.session.specs.PlaceOne.{asks_find, asks_push, asks_fill, asks_settle, places_one}
 use Rattle.session.specs.Outputs.{settled_at}
 use borrow.Author.Rules.{rules}
 use Rattle.session.proofs.place_one.Statement.{statement}
@@ -35,7 +35,7 @@ find-after-requires c κs =
     let at-start = at-start-1.before.before.before.before in
     let a = at-start.args in
     let σ : Storage = given a.spans a.order a.tally a.rows a.marks a.locations a.waiting a.pool in
-    asks-find a.c a.r a.s.guide a.s.watermark a.s.added a.s.used σ at-start.requires
+    asks_find a.c a.r a.s.guide a.s.watermark a.s.added a.s.used σ at-start.requires
 
 push-requires : tie.Need-push-requires
 push-requires c κs =
@@ -44,7 +44,7 @@ push-requires c κs =
     let at-start = at-start-1.before.before.before.before.before in
     let a = at-start.args in
     let σ : Storage = given a.spans a.order a.tally a.rows a.marks a.locations a.waiting a.pool in
-    asks-push a.c a.r a.s.guide a.s.watermark a.s.added a.s.used σ at-find-after.find-after.result at-find-after.find-after.ensures
+    asks_push a.c a.r a.s.guide a.s.watermark a.s.added a.s.used σ at-find-after.find-after.result at-find-after.find-after.ensures
     at-start.requires
 
 sub-fill-rows : tie.Need-overflow-sub-fill-rows
@@ -63,7 +63,7 @@ fill-rows-requires c κs =
     let a = at-start.args in
     let σ : Storage = given a.spans a.order a.tally a.rows a.marks a.locations a.waiting a.pool in
     let u = at_push.push in
-    asks-fill a.c a.r a.s.guide a.s.watermark a.s.added a.s.used σ at-find-after.find-after.result at-find-after.find-after.ensures
+    asks_fill a.c a.r a.s.guide a.s.watermark a.s.added a.s.used σ at-find-after.find-after.result at-find-after.find-after.ensures
     u.result.guide u.new.1.0 u.new.1.1.0 u.new.1.1.1.0 u.result.span u.result.pos u.ensures at-start.requires
 
 packed-requires : tie.Need-packed-requires
@@ -79,7 +79,7 @@ settle-outputs-requires c κs =
     let at-start = at-start-1.before.before.before.before.before in
     let a = at-start.args in
     let σ : Storage = given a.spans a.order a.tally a.rows a.marks a.locations a.waiting a.pool in
-    asks-settle a.c a.r a.s.guide a.s.watermark a.s.added a.s.used σ at-find-after.find-after.result at-find-after.find-after.ensures
+    asks_settle a.c a.r a.s.guide a.s.watermark a.s.added a.s.used σ at-find-after.find-after.result at-find-after.find-after.ensures
     at-start.requires
 
 same_length : tie.Need-same-length
@@ -106,7 +106,7 @@ returns c =
     let σ : Storage = given a.spans a.order a.tally a.rows a.marks a.locations a.waiting a.pool in
     let u = (at_push c).push in
     let z = (at-settle-outputs c).settle-outputs in
-    places-one a.c a.r a.s.guide a.s.watermark a.s.added a.s.used σ (at-find-after c).find-after.result (at-find-after c).find-after.ensures
+    places_one a.c a.r a.s.guide a.s.watermark a.s.added a.s.used σ (at-find-after c).find-after.result (at-find-after c).find-after.ensures
     u.result.guide u.last.1.0 u.last.1.1.0 u.last.1.1.1.0 u.result.span u.result.pos u.ensures (at-fill-rows c).fill-rows.new.1.0
     z.last.0 z.last.1.0 z.result (at-start c).requires (at-fill-rows c).fill-rows.ensures (settled_at (at_packed c).packed.ensures z.ensures)
 

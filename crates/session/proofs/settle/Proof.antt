@@ -1,7 +1,7 @@
 -- `session::settle` meets its contract. Midway the session stands for a model from which the rest of the cascade leads to the goal; the
 -- measure is the count of registrations that are not yet placed.
 use Rattle.session.specs.Storage.{storage, given}
-use Rattle.session.specs.Settle.{Midway, midway-begins, midway-turn, midway-less, midway-step, midway-ends}
+use Rattle.session.specs.Settle.{Midway, midway_begins, midway_turn, midway_less, midway_step, midway_ends}
 use native.Mathlib.Omega.{arith}
 use Rattle.session.proofs.settle.Statement.{statement}
 use Rattle.session.proofs.settle.Tie as tie
@@ -44,7 +44,7 @@ loop-holds c =
     let at-start-1 = c.before.before.before.before.before in
     let at-start = at-start-1.before.before.before in
     let a = at-start.args in
-    midway-begins a.c a.s (given a.spans a.order a.tally a.rows a.marks a.locations a.waiting a.pool) a.top
+    midway_begins a.c a.s (given a.spans a.order a.tally a.rows a.marks a.locations a.waiting a.pool) a.top
 
 place-next-requires : tie.Need-place-next-requires invariant-loop decreases-loop
 place-next-requires c κs =
@@ -55,7 +55,7 @@ place-next-requires c κs =
     let at-start = at-start-1.before.before.before.before in
     let a = at-start.args in
     let q = at-loop.loop in
-    midway-turn a.c a.s (given a.spans a.order a.tally a.rows a.marks a.locations a.waiting a.pool) a.top at-start.requires
+    midway_turn a.c a.s (given a.spans a.order a.tally a.rows a.marks a.locations a.waiting a.pool) a.top at-start.requires
     q.z (storage q.spans q.order q.tally q.rows q.marks q.locations q.waiting a.pool.now) q.t q.invariant at-in-loop.loop-test.true
 
 loop-less : tie.Need-loop-smaller invariant-loop decreases-loop
@@ -65,7 +65,7 @@ loop-less c =
     let u = (at-place-next c).place-next in
     omega (
       arith,
-      midway-less a.c a.s (given a.spans a.order a.tally a.rows a.marks a.locations a.waiting a.pool) a.top
+      midway_less a.c a.s (given a.spans a.order a.tally a.rows a.marks a.locations a.waiting a.pool) a.top
           (at-start c).requires q.z (storage q.spans q.order q.tally q.rows q.marks q.locations q.waiting a.pool.now) q.t q.inv
           u.result.session (storage u.last.1.0 u.last.1.1.0 u.last.1.1.1.0 u.last.1.1.1.1.0 u.last.1.1.1.1.1.0 u.last.1.1.1.1.1.1.0
           u.last.1.1.1.1.1.1.1.0 a.pool.now) u.result.top (at-in-loop c).loop-test.true u.ensures,
@@ -76,7 +76,7 @@ loop-again c =
     let a = (at-start c).args in
     let q = (at-loop c).loop in
     let u = (at-place-next c).place-next in
-    midway-step a.c a.s (given a.spans a.order a.tally a.rows a.marks a.locations a.waiting a.pool) a.top (at-start c).requires
+    midway_step a.c a.s (given a.spans a.order a.tally a.rows a.marks a.locations a.waiting a.pool) a.top (at-start c).requires
     q.z (storage q.spans q.order q.tally q.rows q.marks q.locations q.waiting a.pool.now) q.t q.inv u.result.session
     (storage u.last.1.0 u.last.1.1.0 u.last.1.1.1.0 u.last.1.1.1.1.0 u.last.1.1.1.1.1.0 u.last.1.1.1.1.1.1.0
     u.last.1.1.1.1.1.1.1.0 a.pool.now) u.result.top (at-in-loop c).loop-test.true u.ensures
@@ -106,7 +106,7 @@ returns : tie.Need-returns invariant-loop decreases-loop
 returns c =
     let a = (at-start' c).args in
     let q = c.before.loop in
-    midway-ends a.c a.s (given a.spans a.order a.tally a.rows a.marks a.locations a.waiting a.pool) a.top (at-start' c).requires
+    midway_ends a.c a.s (given a.spans a.order a.tally a.rows a.marks a.locations a.waiting a.pool) a.top (at-start' c).requires
     q.z (storage q.spans q.order q.tally q.rows q.marks q.locations q.waiting a.pool.now) q.t q.invariant c.loop-test.false
 
 pub settle-spec : {M : Type 1} → statement M

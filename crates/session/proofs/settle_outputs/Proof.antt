@@ -1,5 +1,5 @@
 -- `session::settle_outputs` meets its contract: the stamp's and the watermark's promises, put together.
-use Rattle.session.specs.Outputs.{asked-advance, settled-by}
+use Rattle.session.specs.Outputs.{asked_advance, settled_by}
 use borrow.Author.Rules.{rules}
 use Rattle.session.proofs.settle_outputs.Statement.{statement}
 use Rattle.session.proofs.settle_outputs.Tie as tie
@@ -17,7 +17,7 @@ advance-requires c κs =
     let at-start-1 = at-stamp.before.before.before.before.before in
     let at-start = at-start-1.before in
     let a = at-start.args in
-    asked-advance a.marks.now at-stamp.stamp.new.0 a.locations.now at-stamp.stamp.new.1.0 a.pool.now a.at a.n a.v c.wide.result
+    asked_advance a.marks.now at-stamp.stamp.new.0 a.locations.now at-stamp.stamp.new.1.0 a.pool.now a.at a.n a.v c.wide.result
     a.watermark _ c.wide.ensures at-start.requires at-stamp.stamp.ensures
 
 same_length : tie.Need-same-length
@@ -33,7 +33,7 @@ returns c =
     let at-start-1 = at-stamp.before.before.before.before.before in
     let at-start = at-start-1.before in
     let a = at-start.args in
-    settled-by a.marks.now at-stamp.stamp.new.0 a.locations.now at-stamp.stamp.new.1.0 _ _ a.v c.before.wide.result c.advance.result
+    settled_by a.marks.now at-stamp.stamp.new.0 a.locations.now at-stamp.stamp.new.1.0 _ _ a.v c.before.wide.result c.advance.result
     c.before.wide.ensures at-stamp.stamp.ensures c.advance.ensures
 
 pub settle-outputs-spec : {M : Type 1} → statement M

@@ -220,8 +220,8 @@ module _ {M : Type 1} {𝓤 : Ura M} (𝓛 : Logic 𝓤) (at_mem : Memory → SP
   number_fits : (r : Answer) (w : Val) → Is N.the_row r (w ∷ []) → r.number < 2 ^ 64
   number_fits r w is = (LL.owed N.the_type N'.the_laws r _ is).0.1
 
-  session-is : (r : Answer) (w : Val) → Is N.the_row r (w ∷ []) → Is R r.session (mach r.session ∷ [])
-  session-is r w is = (LL.owed N.the_type N'.the_laws r _ is).1.0
+  session_is : (r : Answer) (w : Val) → Is N.the_row r (w ∷ []) → Is R r.session (mach r.session ∷ [])
+  session_is r w is = (LL.owed N.the_type N'.the_laws r _ is).1.0
 
   module _ (C : Calls 𝓤 H) (Λ : Loops 𝓤 H) (fm : FmC 𝓤 H 𝓛.laws C) (known : Triple 𝓤 (C #core) (Core 𝓛 at_mem run)) where
     walk : Room u32 (length ys1) → Room u32 (length ys2) → Room u32 (length ys3) → Room u32 (length ys4) → Room u16 (length ys5) → Room u64 (length ys6) → Room u64 (length ys7)
@@ -306,11 +306,11 @@ module _ {M : Type 1} {𝓤 : Ura M} (𝓛 : Logic 𝓤) (at_mem : Memory → SP
         land ! (from ! (stop !)) (init ! 49 refl ((LL.lawful N.the_type N'.the_laws 𝓛).typed r _ is).0) $
         rewrite ! 49 (λ (u : Val). ‵ (fat full_share N'.mir l11 0 u)) (ap only (LL.tells N.the_type N'.the_laws r (w ∷ []) is)) refl $
         assigns ! (of_opd ! (load ! (from ! (fld ! refl (stop !))) (look_in ! 49 (sub ! 1 refl (whole !))))) (from ! (hop ! (look ! 69 refl) (stop !)))
-        (store ! 11 refl ((LL.lawful T.the_type T'.the_laws 𝓛).typed r.session _ (session-is r w is)).0) $
+        (store ! 11 refl ((LL.lawful T.the_type T'.the_laws 𝓛).typed r.session _ (session_is r w is)).0) $
         assigns ! (of_opd ! (load ! (from ! (fld ! refl (stop !))) (look_in ! 49 (sub ! 0 refl (whole !))))) (from ! (stop !))
         (init ! 71 refl (tt, record { fits = number_fits r w is })) $
         -- the borrow is closed at the new session
-        drop ! $ owned ! R (Is R) ((LL.makes T.the_type T'.the_plain) 𝓛) r.session _ (session-is r w is) $
+        drop ! $ owned ! R (Is R) ((LL.makes T.the_type T'.the_plain) 𝓛) r.session _ (session_is r w is) $
         move ! (11 ∷ []) $ use1 𝓛 (‵ (cell_at full_share R.mir (mach r.session ∷ []) b o)) (𝓛.laws.at_raw full_share T'.mir b o (mach r.session)) $
         move ! (0 ∷ 1 ∷ 12 ∷ 13 ∷ 14 ∷ []) $ closes ! tt R r.session (mach r.session ∷ []) b o $
         returns ! (look ! 69 refl) $ forget ! 13 refl $ forget ! 15 refl $ forget ! 17 refl $ forget ! 19 refl $ forget ! 21 refl $ forget ! 23 refl $ forget ! 25 refl $

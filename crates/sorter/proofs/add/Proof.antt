@@ -1,6 +1,6 @@
 -- `sorter::add` meets its contract: refused, nothing has changed; admitted, the placing makes the call.
 use mathlib.Core.Path.{◌∙◌}
-use Rattle.admitting.specs.Admitted.{admitted-refused, admitted-placed, add-asked, add-admitted}
+use Rattle.admitting.specs.Admitted.{admitted_refused, admitted_placed, add_asked, add_admitted}
 use Rattle.sorter.proofs.add.Statement.{statement}
 use Rattle.sorter.proofs.add.Tie as tie
 
@@ -43,7 +43,7 @@ admit-add-requires c κs =
     let at-start-1 = c.before.before.before.before.before in
     let at-start-2 = at-start-1.before.before.before.before.before in
     let at-start = at-start-2.before.before in
-    add-asked at-start.requires
+    add_asked at-start.requires
 
 same_length : tie.Need-same-length
 same_length c = (at-admit-add' c).admit-add.auto.1.0
@@ -52,7 +52,7 @@ same-length-2 : tie.Need-same-length-2
 same-length-2 c = (at-admit-add' c).admit-add.auto.1.1.0
 
 returns : tie.Need-returns
-returns c = admitted-refused _ _ _ _ _ (add-admitted (at-start' c).requires (at-admit-add' c).admit-add.ensures) c.if1.true
+returns c = admitted_refused _ _ _ _ _ (add_admitted (at-start' c).requires (at-admit-add' c).admit-add.ensures) c.if1.true
 
 place-admitted-requires : tie.Need-place-admitted-requires
 place-admitted-requires c κs =
@@ -63,7 +63,7 @@ place-admitted-requires c κs =
     let at-start-1 = at-admit-add.before.before.before.before.before in
     let at-start-2 = at-start-1.before.before.before.before.before in
     let at-start = at-start-2.before.before.before in
-    (add-admitted at-start.requires at-admit-add.admit-add.ensures).may at-else-1.if1.false
+    (add_admitted at-start.requires at-admit-add.admit-add.ensures).may at-else-1.if1.false
 
 same-length-3 : tie.Need-same-length-3
 same-length-3 c = (at-place-admitted c).place-admitted.auto.1.0
@@ -91,7 +91,7 @@ same-length-10 c = (at-admit-add c).admit-add.auto.1.1.0
 
 returns-2 : tie.Need-returns-2
 returns-2 c =
-    admitted-placed _ _ _ _ _ (add-admitted (at-start c).requires (at-admit-add c).admit-add.ensures) _ _ (at-else-1 c).if1.false (at-place-admitted c).place-admitted.ensures
+    admitted_placed _ _ _ _ _ (add_admitted (at-start c).requires (at-admit-add c).admit-add.ensures) _ _ (at-else-1 c).if1.false (at-place-admitted c).place-admitted.ensures
 
 pub add_spec : {M : Type 1} → statement M
 add_spec =

@@ -1,9 +1,9 @@
 -- `sorter::finish` meets its contract: the number is the model's, 0 lets the work be done, and the summary is that of the tally after it.
 use mathlib.Core.Path.{refl}
-use Rattle.sorter.specs.FinalWork.{not-concluded, final-tallied, concluded}
-use Rattle.admitting.specs.Numbers.{final-number}
-use Rattle.admitting.specs.Promise.{called-refused, called-does, may-do}
-use Rattle.sorter.specs.FlushWork.{may-flush, flushes}
+use Rattle.sorter.specs.FinalWork.{not_concluded, final_tallied, concluded}
+use Rattle.admitting.specs.Numbers.{final_number}
+use Rattle.admitting.specs.Promise.{called_refused, called_does, may_do}
+use Rattle.sorter.specs.FlushWork.{may_flush, flushes}
 use borrow.Author.Rules.{rules}
 use Rattle.sorter.proofs.finish.Statement.{statement}
 use Rattle.sorter.proofs.finish.Tie as tie
@@ -29,14 +29,14 @@ no-summary-requires c κs = search rules
 returns : tie.Need-returns
 returns c =
     let z = c.before.if1.true in
-    not-concluded _ _ _ _ _ (called-refused _ _ _ _ z (final-number _ _ _ c.before.before.check-final.ensures)) z _ c.no-summary.ensures
+    not_concluded _ _ _ _ _ (called_refused _ _ _ _ z (final_number _ _ _ c.before.before.check_final.ensures)) z _ c.no-summary.ensures
 
 do-final-requires : tie.Need-do-final-requires
 do-final-requires c κs =
     let at-start-1 = c.before.before.before.before.before in
     let at-start-2 = at-start-1.before.before.before.before.before in
     let at-start = at-start-2.before.before.before.before in
-    may-flush (may-do _ _ _ _ (final-number _ _ _ c.before.before.before.before.before.check-final.ensures) c.before.before.before.before.if1.false
+    may_flush (may_do _ _ _ _ (final_number _ _ _ c.before.before.before.before.before.check_final.ensures) c.before.before.before.before.if1.false
     at-start.requires)
 
 finalize-requires : tie.Need-finalize-requires
@@ -47,26 +47,26 @@ finalize-requires c κs =
     let at-check-final = at-else-1.before in
     let at-start-1 = at-check-final.before.before.before.before.before in
     let at-start = at-start-1.before.before.before.before in
-    final-tallied _ _ _ _ _
-    (called-does _ _ _ _ _ _ (final-number _ _ _ at-check-final.check-final.ensures) at-else-1.if1.false (flushes at-do-final.do-final.ensures))
+    final_tallied _ _ _ _ _
+    (called_does _ _ _ _ _ _ (final_number _ _ _ at-check-final.check_final.ensures) at-else-1.if1.false (flushes at-do-final.do_final.ensures))
     at-start.requires
 
 same_length : tie.Need-same-length
 same_length c = refl
 
 same-length-2 : tie.Need-same-length-2
-same-length-2 c = (at-do-final c).do-final.auto.1.1.0
+same-length-2 c = (at-do-final c).do_final.auto.1.1.0
 
 same-length-3 : tie.Need-same-length-3
-same-length-3 c = (at-do-final c).do-final.auto.1.1.1.0
+same-length-3 c = (at-do-final c).do_final.auto.1.1.1.0
 
 same-length-4 : tie.Need-same-length-4
-same-length-4 c = (at-do-final c).do-final.auto.1.1.1.1.0
+same-length-4 c = (at-do-final c).do_final.auto.1.1.1.1.0
 
 returns-2 : tie.Need-returns-2
 returns-2 c =
     concluded _ _ _ _ _
-    (called-does _ _ _ _ _ _ (final-number _ _ _ (at-check-final c).check-final.ensures) (at-else-1 c).if1.false (flushes (at-do-final c).do-final.ensures))
+    (called_does _ _ _ _ _ _ (final_number _ _ _ (at-check-final c).check_final.ensures) (at-else-1 c).if1.false (flushes (at-do-final c).do_final.ensures))
     refl _ c.finalize.ensures
 
 pub finish_spec : {M : Type 1} → statement M

@@ -1,6 +1,6 @@
 -- `sorter::set` meets its contract: refused, nothing has changed; admitted, the placing makes the call.
 use mathlib.Core.Path.{refl, ◌∙◌}
-use Rattle.admitting.specs.Admitted.{admitted-refused, admitted-placed, set-asked, set-admitted}
+use Rattle.admitting.specs.Admitted.{admitted_refused, admitted_placed, set_asked, set_admitted}
 use Rattle.sorter.proofs.set.Statement.{statement}
 use Rattle.sorter.proofs.set.Tie as tie
 
@@ -42,7 +42,7 @@ admit-set-requires : tie.Need-admit-set-requires
 admit-set-requires c κs =
     let at-start-1 = c.before.before.before.before.before in
     let at-start = at-start-1.before.before.before.before.before in
-    set-asked at-start.requires
+    set_asked at-start.requires
 
 same_length : tie.Need-same-length
 same_length c = (at-admit-set' c).admit-set.auto.1.0
@@ -51,7 +51,7 @@ same-length-2 : tie.Need-same-length-2
 same-length-2 c = (at-admit-set' c).admit-set.auto.1.1.0
 
 returns : tie.Need-returns
-returns c = admitted-refused _ _ _ _ _ (set-admitted (at-start' c).requires (at-admit-set' c).admit-set.ensures) c.if1.true
+returns c = admitted_refused _ _ _ _ _ (set_admitted (at-start' c).requires (at-admit-set' c).admit-set.ensures) c.if1.true
 
 place-admitted-requires : tie.Need-place-admitted-requires
 place-admitted-requires c κs =
@@ -62,7 +62,7 @@ place-admitted-requires c κs =
     let at-start-1 = at-admit-set.before.before.before.before.before in
     let at-start-2 = at-start-1.before.before.before.before.before in
     let at-start = at-start-2.before in
-    (set-admitted at-start.requires at-admit-set.admit-set.ensures).may at-else-1.if1.false
+    (set_admitted at-start.requires at-admit-set.admit-set.ensures).may at-else-1.if1.false
 
 same-length-3 : tie.Need-same-length-3
 same-length-3 c = (at-place-admitted c).place-admitted.auto.1.0
@@ -90,7 +90,7 @@ same-length-10 c = refl
 
 returns-2 : tie.Need-returns-2
 returns-2 c =
-    admitted-placed _ _ _ _ _ (set-admitted (at-start c).requires (at-admit-set c).admit-set.ensures) _ _ (at-else-1 c).if1.false (at-place-admitted c).place-admitted.ensures
+    admitted_placed _ _ _ _ _ (set_admitted (at-start c).requires (at-admit-set c).admit-set.ensures) _ _ (at-else-1 c).if1.false (at-place-admitted c).place-admitted.ensures
 
 pub set_spec : {M : Type 1} → statement M
 set_spec =

@@ -1,7 +1,7 @@
 -- A law for each way out. Assumes nothing.
 use mathlib.Core.Path.{sym, ◌∙◌}
 use borrow.Author.Rules.{rules}
-use Rattle.summary.specs.Writing.{too_long, too-great, too_few, fine}
+use Rattle.summary.specs.Writing.{too_long, too_great, too_few, fine}
 use Rattle.summary.proofs.check_summary.Statement.{statement}
 use Rattle.summary.proofs.check_summary.Tie as tie
 
@@ -12,7 +12,7 @@ sum-too-great-requires : tie.Need-sum-too-great-requires
 sum-too-great-requires c κs = search rules
 
 returns-2 : tie.Need-returns-2
-returns-2 c = too-great _ _ c.before.before.if1.false (sym c.if2.true ∙ c.before.sum-too-great.ensures)
+returns-2 c = too_great _ _ c.before.before.if1.false (sym c.if2.true ∙ c.before.sum-too-great.ensures)
 
 returns-3 : tie.Need-returns-3
 returns-3 c =

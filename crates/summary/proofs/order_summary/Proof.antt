@@ -1,7 +1,7 @@
 -- An accepted call writes the summary; a refused one nothing. Assumes nothing.
 use mathlib.Core.Path.{sym, ◌∙◌}
 use borrow.Author.Rules.{rules}
-use Rattle.summary.specs.Writing.{writable, accepted, after-done, after-refused}
+use Rattle.summary.specs.Writing.{writable, accepted, after_done, after_refused}
 use Rattle.summary.proofs.order_summary.Statement.{statement}
 use Rattle.summary.proofs.order_summary.Tie as tie
 
@@ -25,12 +25,12 @@ returns : tie.Need-returns
 returns c = let m = c.before.before.before.before in
     let n = m.before.before in
     let s = n.before.before.before in
-    let done = after-done n.check-summary.result s.args.tally.now s.args.summary.now _ m.before.if1.true m.summarize.ensures in
+    let done = after_done n.check-summary.result s.args.tally.now s.args.summary.now _ m.before.if1.true m.summarize.ensures in
     (n.check-summary.ensures, c.before.before.write.ensures ∙ done)
 
 returns-2 : tie.Need-returns-2
 returns-2 c = let s = c.before.before.before.before in
-    (c.before.check-summary.ensures, after-refused c.before.check-summary.result s.args.tally.now s.args.summary.now c.if1.false)
+    (c.before.check-summary.ensures, after_refused c.before.check-summary.result s.args.tally.now s.args.summary.now c.if1.false)
 
 pub order-summary-spec : {M : Type 1} → statement M
 order-summary-spec =

@@ -5,14 +5,14 @@ use native.Mathlib.Omega.{arith}
 use lib.ListN.{length, drop}
 use borrow.Author.Rules.{rules}
 use borrow.Author.Tests.{lt-ltb, le-ltb}
-use Rattle.figures.specs.Loops.{sum_more, sum-ends}
-use Rattle.rules.specs.Limits.{most-places}
+use Rattle.figures.specs.Loops.{sum_more, sum_ends}
+use Rattle.rules.specs.Limits.{most_places}
 use Rattle.rules.specs.Summary.{sum}
 use Rattle.summary.proofs.sum_too_great.Statement.{statement}
 use Rattle.summary.proofs.sum_too_great.Tie as tie
 
 abbrev invariant-loop : tie.invariant-loop
-invariant-loop t s₀ i₀ i-end s i = (i-end ≡ length t) × ((i ≤ length t) × ((s ≤ most-places) × (s + sum (drop i t) ≡ sum t)))
+invariant-loop t s₀ i₀ i-end s i = (i-end ≡ length t) × ((i ≤ length t) × ((s ≤ most_places) × (s + sum (drop i t) ≡ sum t)))
 
 abbrev decreases-loop : tie.decreases-loop
 decreases-loop t s₀ i₀ i-end s i = length t - i
@@ -35,7 +35,7 @@ returns c =
     let start = at-loop.before in
     let t = start.args.t.now in
     let m = sum_more t at-loop.loop.i (omega arith) in
-    sym (lt-ltb most-places (sum t) (omega arith))
+    sym (lt-ltb most_places (sum t) (omega arith))
 
 mul-s : tie.Need-overflow-mul-s invariant-loop decreases-loop
 mul-s c = search rules
@@ -62,8 +62,8 @@ loop-again c =
 
 returns-2 : tie.Need-returns-2 invariant-loop decreases-loop
 returns-2 c = let t = c.before.before.args.t.now in
-    let e = sum-ends t c.before.loop.i (omega arith) in
-    sym (le-ltb most-places (sum t) (omega arith))
+    let e = sum_ends t c.before.loop.i (omega arith) in
+    sym (le-ltb most_places (sum t) (omega arith))
 
 pub sum-too-great-spec : {M : Type 1} → statement M
 sum-too-great-spec =

@@ -22,7 +22,7 @@ thousands-requires c κs = search rules
 returns : tie.Need-returns
 unfolding figures average
 returns c = let a = c.before.before.before in
-    cc (a.average.ensures, c.before.before.median.ensures, c.before.low-counts.ensures, c.thousands.ensures, a.before.sum.ensures)
+    cc (a.average.ensures, c.before.before.median.ensures, c.before.low_counts.ensures, c.thousands.ensures, a.before.sum.ensures)
 
 pub summarize-spec : {M : Type 1} → statement M
 summarize-spec =

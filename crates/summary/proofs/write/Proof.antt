@@ -3,7 +3,7 @@ use mathlib.Core.Path.{◌≡◌, ◌∙◌}
 use native.Mathlib.Omega.{arith}
 use lib.ListN.{length, length-set}
 use borrow.Author.Rules.{rules}
-use Rattle.summary.specs.Layout.{summary-numbers}
+use Rattle.summary.specs.Layout.{summary_numbers}
 use Rattle.summary.specs.Writing.{written}
 use Rattle.summary.proofs.write.Statement.{statement}
 use Rattle.summary.proofs.write.Tie as tie
@@ -50,7 +50,7 @@ same_length : tie.Need-same-length
 same_length c = c.before.before.copy2.auto.1.0 ∙ (to-copy c).copy.auto.1.0 ∙ simp length-set
 
 returns : tie.Need-returns
-unfolding summary-numbers
+unfolding summary_numbers
 returns c = let m = to-copy c in
     let s = to_start m.before in
     let w = s.pre.0 in

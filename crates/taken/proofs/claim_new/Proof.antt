@@ -5,7 +5,7 @@ use Prim.Native.Nat.{◌-◌}
 use borrow.Author.Rules.{rules}
 use native.Mathlib.Omega.{arith}
 use Rattle.taken.specs.Flags.{Claiming}
-use Rattle.taken.specs.ClaimLaws.{claim-start, claim-length, claim-in, claim-outside, claim-met, claim-refused, claim-next, claim-end}
+use Rattle.taken.specs.ClaimLaws.{claim_start, claim_length, claim_in, claim_outside, claim_met, claim_refused, claim_next, claim_end}
 use Rattle.taken.proofs.claim_new.Statement.{statement}
 use Rattle.taken.proofs.claim_new.Tie as tie
 
@@ -36,7 +36,7 @@ abbrev free : tie.After-set-flag invariant-loop decreases-loop → tie.Else2 inv
 free c = c.before.before
 
 loop-holds : tie.Need-loop-init invariant-loop decreases-loop
-loop-holds c = let a = c.before.before.args in claim-start a.waiting.now a.v a.outs.now
+loop-holds c = let a = c.before.before.args in claim_start a.waiting.now a.v a.outs.now
 
 mul-x : tie.Need-overflow-mul-x invariant-loop decreases-loop
 mul-x c = search rules
@@ -50,7 +50,7 @@ unclaim-requires c κs =
     record { before = (start l).args.waiting.now; plain = (start l).requires; claiming = l.loop.invariant }
 
 same_length : tie.Need-same-length invariant-loop decreases-loop
-same_length c = let u = c.before.before in u.unclaim.auto.1.0 ∙ claim-length (outside u).before.before.before.loop.invariant
+same_length c = let u = c.before.before in u.unclaim.auto.1.0 ∙ claim_length (outside u).before.before.before.loop.invariant
 
 returns : tie.Need-returns invariant-loop decreases-loop
 returns c =
@@ -58,10 +58,10 @@ returns c =
     let l = (outside u).before.before in
     let p = (start l.before).pre in
     let g = l.before.loop.inv in
-    claim-refused (claim-outside p g l.loop-test.taken (outside u).if1.true) (u.unclaim.ensures.back (start l.before).args.waiting.now p g)
+    claim_refused (claim_outside p g l.loop-test.taken (outside u).if1.true) (u.unclaim.ensures.back (start l.before).args.waiting.now p g)
 
 flag-requires : tie.Need-flag-requires invariant-loop decreases-loop
-flag-requires c κs = let e = c.before in let l = (turn e).before in claim-in (start l).pre l.loop.inv e.if1.false
+flag-requires c κs = let e = c.before in let l = (turn e).before in claim_in (start l).pre l.loop.inv e.if1.false
 
 unclaim-requires-2 : tie.Need-unclaim-requires-2 invariant-loop decreases-loop
 unclaim-requires-2 c κs =
@@ -69,7 +69,7 @@ unclaim-requires-2 c κs =
     record { before = (start l).args.waiting.now; plain = (start l).pre; claiming = l.loop.inv }
 
 same-length-2 : tie.Need-same-length-2 invariant-loop decreases-loop
-same-length-2 c = let u = c.before.before in u.unclaim2.auto.1.0 ∙ claim-length (turn (below (met u).before)).before.loop.inv
+same-length-2 c = let u = c.before.before in u.unclaim2.auto.1.0 ∙ claim_length (turn (below (met u).before)).before.loop.inv
 
 returns-2 : tie.Need-returns-2 invariant-loop decreases-loop
 returns-2 c =
@@ -78,11 +78,11 @@ returns-2 c =
     let l = turn e in
     let p = (start l.before).pre in
     let g = l.before.loop.inv in
-    claim-refused (claim-met p g l.loop-test.taken e.if1.left (λ z. (met u).if2.true ((met u).before.flag.ensures ∙ z)))
+    claim_refused (claim_met p g l.loop-test.taken e.if1.left (λ z. (met u).if2.true ((met u).before.flag.ensures ∙ z)))
     (u.unclaim2.ensures.back (start l.before).args.waiting.now p g)
 
 set-flag-requires : tie.Need-set-flag-requires invariant-loop decreases-loop
-set-flag-requires c κs = let e = below c.before.before in let l = (turn e).before in claim-in (start l).pre l.loop.inv e.if1.left
+set-flag-requires c κs = let e = below c.before.before in let l = (turn e).before in claim_in (start l).pre l.loop.inv e.if1.left
 
 add-i : tie.Need-overflow-add-i invariant-loop decreases-loop
 add-i c = omega arith
@@ -96,13 +96,13 @@ loop-again c =
     let e = below (free s).before in
     let l = turn e in
     rw s.set-flag.ensures
-    (claim-next (start l.before).pre l.before.loop.inv l.loop-test.taken e.if1.left (sym (free s).before.flag.ensures ∙ (free s).if2.false))
+    (claim_next (start l.before).pre l.before.loop.inv l.loop-test.taken e.if1.left (sym (free s).before.flag.ensures ∙ (free s).if2.false))
 
 same-length-3 : tie.Need-same-length-3 invariant-loop decreases-loop
-same-length-3 c = claim-length c.before.loop.invariant
+same-length-3 c = claim_length c.before.loop.invariant
 
 returns-3 : tie.Need-returns-3 invariant-loop decreases-loop
-returns-3 c = claim-end (start c.before).pre c.before.loop.invariant c.loop-test.false
+returns-3 c = claim_end (start c.before).pre c.before.loop.invariant c.loop-test.false
 
 pub claim-new-spec : {M : Type 1} → statement M
 claim-new-spec =

@@ -5,10 +5,10 @@ use lib.ListN.{length, get_or}
 use Prim.Native.Nat.{ℕ, ◌-◌, ◌≤◌, ◌<◌}
 use borrow.Author.Rules.{rules}
 use native.Mathlib.Omega.{arith}
-use Rattle.rules.specs.Checks.{waiting-needed}
+use Rattle.rules.specs.Checks.{waiting_needed}
 use Rattle.taken.specs.Flag.{flag_at}
 use Rattle.taken.specs.Flags.{Flagged, Raises}
-use Rattle.taken.specs.Raising.{Raising, lower-start, lower_in, lower-next, lower-end}
+use Rattle.taken.specs.Raising.{Raising, lower_start, lower_in, lower_next, lower_end}
 use Rattle.taken.proofs.lower_flags.Statement.{statement}
 use Rattle.taken.proofs.lower_flags.Tie as tie
 
@@ -31,14 +31,14 @@ read c = c.before.before
 inside : (c : tie.In-loop invariant-loop decreases-loop)
     → (c.before.loop.i - 1 < length (start c.before).args.outs.now)
     × (get_or (start c.before).args.outs.now (c.before.loop.i - 1) 0 < (start c.before).args.v)
-    × (waiting-needed (start c.before).args.v ≤ length c.before.loop.waiting)
+    × (waiting_needed (start c.before).args.v ≤ length c.before.loop.waiting)
     × (2 ≤ flag_at c.before.loop.waiting (start c.before).args.v (get_or (start c.before).args.outs.now (c.before.loop.i - 1) 0))
 inside c =
     let p = (start c.before).pre in
     lower_in p.flagged (c.before.loop.invariant.1 p.before p.flagged p.raises) c.loop-test.true
 
 loop-holds : tie.Need-loop-init invariant-loop decreases-loop
-loop-holds c = (refl, λ u f r. lower-start r)
+loop-holds c = (refl, λ u f r. lower_start r)
 
 sub-i : tie.Need-overflow-sub-i invariant-loop decreases-loop
 sub-i c = search rules
@@ -66,14 +66,14 @@ loop-again c =
     let r = read c.before.before in
     let l = turn r in (
       c.before.before.set-flag.auto.0 ∙ l.before.loop.inv.0,
-      λ u f g. rw (c.before.before.set-flag.ensures, r.flag.ensures) (lower-next f (l.before.loop.inv.1 u f g) l.loop-test.taken),
+      λ u f g. rw (c.before.before.set-flag.ensures, r.flag.ensures) (lower_next f (l.before.loop.inv.1 u f g) l.loop-test.taken),
     )
 
 same_length : tie.Need-same-length invariant-loop decreases-loop
 same_length c = c.before.loop.invariant.0
 
 returns : tie.Need-returns invariant-loop decreases-loop
-returns c = record { back = λ u f r. lower-end (c.before.loop.invariant.1 u f r) c.loop-test.false }
+returns c = record { back = λ u f r. lower_end (c.before.loop.invariant.1 u f r) c.loop-test.false }
 
 pub lower-flags-spec : {M : Type 1} → statement M
 lower-flags-spec =

@@ -3,8 +3,8 @@ use lib.ListN.{length, get_or}
 use Prim.Native.Nat.{◌-◌, ◌≤◌, ◌<◌}
 use borrow.Author.Rules.{rules}
 use native.Mathlib.Omega.{arith}
-use Rattle.rules.specs.Checks.{waiting-needed}
-use Rattle.taken.specs.Raising.{Raising, raise-start, raise-length, raise-in, raise-met, raise-next, raise-end}
+use Rattle.rules.specs.Checks.{waiting_needed}
+use Rattle.taken.specs.Raising.{Raising, raise_start, raise_length, raise_in, raise_met, raise_next, raise_end}
 use Rattle.taken.proofs.raise_flags.Statement.{statement}
 use Rattle.taken.proofs.raise_flags.Tie as tie
 
@@ -25,11 +25,11 @@ abbrev read : tie.After-set-flag invariant-loop decreases-loop → tie.After-fla
 read c = c.before.before.before
 
 inside : (c : tie.In-loop invariant-loop decreases-loop)
-    → (get_or (start c.before).args.outs.now c.before.loop.i 0 < (start c.before).args.v) × (waiting-needed (start c.before).args.v ≤ length c.before.loop.waiting)
-inside c = raise-in (start c.before).pre c.before.loop.invariant c.loop-test.true
+    → (get_or (start c.before).args.outs.now c.before.loop.i 0 < (start c.before).args.v) × (waiting_needed (start c.before).args.v ≤ length c.before.loop.waiting)
+inside c = raise_in (start c.before).pre c.before.loop.invariant c.loop-test.true
 
 loop-holds : tie.Need-loop-init invariant-loop decreases-loop
-loop-holds c = let a = c.before.before.args in raise-start a.waiting.now a.v a.outs.now
+loop-holds c = let a = c.before.before.args in raise_start a.waiting.now a.v a.outs.now
 
 mul-x : tie.Need-overflow-mul-x invariant-loop decreases-loop
 mul-x c = search rules
@@ -41,12 +41,12 @@ flag-requires : tie.Need-flag-requires invariant-loop decreases-loop
 flag-requires c κs = inside c.before.before
 
 same_length : tie.Need-same-length invariant-loop decreases-loop
-same_length c = raise-length (turn c.before).before.loop.inv
+same_length c = raise_length (turn c.before).before.loop.inv
 
 returns : tie.Need-returns invariant-loop decreases-loop
 returns c =
     let l = turn c.before in
-    raise-met (start l.before).pre l.before.loop.inv l.loop-test.taken (omega (arith, c.if1.true, c.before.flag.ensures))
+    raise_met (start l.before).pre l.before.loop.inv l.loop-test.taken (omega (arith, c.if1.true, c.before.flag.ensures))
 
 add-set-flag : tie.Need-overflow-add-set-flag invariant-loop decreases-loop
 add-set-flag c = search rules
@@ -65,13 +65,13 @@ loop-again c =
     let r = read c.before.before in
     let l = turn r in
     rw (c.before.before.set-flag.ensures, r.flag.ensures)
-    (raise-next (start l.before).pre l.before.loop.inv l.loop-test.taken (omega (arith, c.before.before.before.before.if1.false, r.flag.ensures)))
+    (raise_next (start l.before).pre l.before.loop.inv l.loop-test.taken (omega (arith, c.before.before.before.before.if1.false, r.flag.ensures)))
 
 same-length-2 : tie.Need-same-length-2 invariant-loop decreases-loop
-same-length-2 c = raise-length c.before.loop.invariant
+same-length-2 c = raise_length c.before.loop.invariant
 
 returns-2 : tie.Need-returns-2 invariant-loop decreases-loop
-returns-2 c = raise-end (start c.before).pre c.before.loop.invariant c.loop-test.false
+returns-2 c = raise_end (start c.before).pre c.before.loop.invariant c.loop-test.false
 
 pub raise-flags-spec : {M : Type 1} → statement M
 raise-flags-spec =

@@ -1,7 +1,7 @@
 -- A list of fewer than two repeats nothing. Of a longer one, what was raised is lowered, and places were left over exactly where they repeat. Assumes nothing.
 use mathlib.Core.Path.{refl, sym}
-use Rattle.taken.specs.Repeats.{repeats-few}
-use Rattle.taken.specs.Raising.{repeats-is}
+use Rattle.taken.specs.Repeats.{repeats_few}
+use Rattle.taken.specs.Raising.{repeats_is}
 use borrow.Author.Rules.{rules}
 use Rattle.taken.proofs.repeats.Statement.{statement}
 use Rattle.taken.proofs.repeats.Tie as tie
@@ -14,7 +14,7 @@ abbrev start : tie.After-raise-flags → tie.Start
 start c = c.before.before.before.before.before
 
 returns : tie.Need-returns
-returns c = record { answer = sym (repeats-few _ c.if1.true); same = refl }
+returns c = record { answer = sym (repeats_few _ c.if1.true); same = refl }
 
 raise-flags-requires : tie.Need-raise-flags-requires
 raise-flags-requires c κs = search rules
@@ -31,7 +31,7 @@ returns-2 : tie.Need-returns-2
 returns-2 c =
     let l = c.before.before in
     let r = raising l.before in
-    record { answer = repeats-is r.raise-flags.ensures; same = l.lower-flags.ensures.back (start r).args.waiting.now (start r).pre r.raise-flags.ensures }
+    record { answer = repeats_is r.raise-flags.ensures; same = l.lower-flags.ensures.back (start r).args.waiting.now (start r).pre r.raise-flags.ensures }
 
 pub repeats-spec : {M : Type 1} → statement M
 repeats-spec =

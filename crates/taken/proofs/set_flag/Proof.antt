@@ -1,6 +1,6 @@
 -- One store. Assumes nothing.
 use borrow.Author.Rules.{rules}
-use Rattle.taken.specs.Flag.{with-flag}
+use Rattle.taken.specs.Flag.{with_flag}
 use Rattle.taken.proofs.set_flag.Statement.{statement}
 use Rattle.taken.proofs.set_flag.Tie as tie
 
@@ -20,7 +20,7 @@ same_length : tie.Need-same-length
 same_length c = search rules
 
 returns : tie.Need-returns
-unfolding with-flag
+unfolding with_flag
 returns c = search rules
 
 pub set-flag-spec : {M : Type 1} → statement M

@@ -5,9 +5,9 @@ use lib.ListN.{length, get_or}
 use Prim.Native.Nat.{ℕ, ◌-◌, ◌≤◌, ◌<◌}
 use borrow.Author.Rules.{rules}
 use native.Mathlib.Omega.{arith}
-use Rattle.rules.specs.Checks.{waiting-needed}
+use Rattle.rules.specs.Checks.{waiting_needed}
 use Rattle.taken.specs.Flags.{Plain, Claiming}
-use Rattle.taken.specs.ClaimLaws.{unclaim-in, unclaim-next, unclaim-end}
+use Rattle.taken.specs.ClaimLaws.{unclaim_in, unclaim_next, unclaim_end}
 use Rattle.taken.proofs.unclaim.Statement.{statement}
 use Rattle.taken.proofs.unclaim.Tie as tie
 
@@ -27,10 +27,10 @@ turn c = c.before.before.before
 inside : (c : tie.In-loop invariant-loop decreases-loop)
     → (c.before.loop.i - 1 < length (start c.before).args.outs.now)
     × (get_or (start c.before).args.outs.now (c.before.loop.i - 1) 0 < (start c.before).args.v)
-    × (waiting-needed (start c.before).args.v ≤ length c.before.loop.waiting)
+    × (waiting_needed (start c.before).args.v ≤ length c.before.loop.waiting)
 inside c =
     let p = (start c.before).pre in
-    unclaim-in p.plain (c.before.loop.invariant.1 p.before p.plain p.claiming) c.loop-test.true
+    unclaim_in p.plain (c.before.loop.invariant.1 p.before p.plain p.claiming) c.loop-test.true
 
 loop-holds : tie.Need-loop-init invariant-loop decreases-loop
 loop-holds c = (refl, λ u f g. g)
@@ -54,14 +54,14 @@ loop-again : tie.Need-loop-preserved invariant-loop decreases-loop
 loop-again c =
     let l = turn c.before.before in (
       c.before.before.set-flag.auto.0 ∙ l.before.loop.inv.0,
-      λ u f g. rw c.before.before.set-flag.ensures (unclaim-next f (l.before.loop.inv.1 u f g) l.loop-test.taken),
+      λ u f g. rw c.before.before.set-flag.ensures (unclaim_next f (l.before.loop.inv.1 u f g) l.loop-test.taken),
     )
 
 same_length : tie.Need-same-length invariant-loop decreases-loop
 same_length c = c.before.loop.invariant.0
 
 returns : tie.Need-returns invariant-loop decreases-loop
-returns c = record { back = λ u f g. unclaim-end (c.before.loop.invariant.1 u f g) c.loop-test.false }
+returns c = record { back = λ u f g. unclaim_end (c.before.loop.invariant.1 u f g) c.loop-test.false }
 
 pub unclaim-spec : {M : Type 1} → statement M
 unclaim-spec =

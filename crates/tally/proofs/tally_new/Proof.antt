@@ -1,7 +1,7 @@
 -- `tally::tally_new` meets its contract. The invariant says what is still to be counted, and that no count can overflow meanwhile.
 -- Assumes nothing.
 use Rattle.rules.specs.Guide.{tallied}
-use Rattle.tally.specs.Counting.{parallelism-from, to-count, count-begins, count_turn, count-ends, counted-one}
+use Rattle.tally.specs.Counting.{parallelism_from, to_count, count_begins, count_turn, count_ends, counted_one}
 use mathlib.Core.List.{map}
 use Rattle.entries.specs.Entries.{row, entry_of}
 use lib.ListN.{length, get_or, length-set}
@@ -16,8 +16,8 @@ abbrev invariant-loop : tie.invariant-loop
 invariant-loop order tally₀ n a q₀ tally q =
     (q ≤ a)
     × ((length tally ≡ length tally₀)
-    × (((k : ℕ) → k < a → get_or tally (parallelism-from order n k) 0 + (a - q) < 2 ^ 32)
-    × (tallied tally₀ (map entry_of (row order n a)) ≡ to-count order n a tally q)))
+    × (((k : ℕ) → k < a → get_or tally (parallelism_from order n k) 0 + (a - q) < 2 ^ 32)
+    × (tallied tally₀ (map entry_of (row order n a)) ≡ to_count order n a tally q)))
 
 abbrev decreases-loop : tie.decreases-loop
 decreases-loop order tally₀ n a q₀ tally q = a - q
@@ -30,7 +30,7 @@ loop-holds : tie.Need-loop-init invariant-loop decreases-loop
 loop-holds c =
     let s = c.before.before in
     let a = s.args in
-    (omega arith, (refl, (λ k z. omega (arith, s.requires.1.small k z), count-begins a.order.now a.n a.a a.tally.now)))
+    (omega arith, (refl, (λ k z. omega (arith, s.requires.1.small k z), count_begins a.order.now a.n a.a a.tally.now)))
 
 cast-parallelism-at : tie.Need-overflow-cast-parallelism-at invariant-loop decreases-loop
 cast-parallelism-at c = search rules
@@ -43,7 +43,7 @@ parallelism-at-requires c κs = search rules
 
 count-one-requires : tie.Need-count-one-requires invariant-loop decreases-loop
 count-one-requires c κs =
-    let w = c.parallelism-at.ensures in
+    let w = c.parallelism_at.ensures in
     let turn = c.before.before in
     let s = start turn in
     let l = turn.before.loop in
@@ -60,7 +60,7 @@ loop-less c = search rules
 loop-again : tie.Need-loop-preserved invariant-loop decreases-loop
 loop-again c =
     let counted = c.before.before in
-    let w = counted.before.parallelism-at in
+    let w = counted.before.parallelism_at in
     let turn = counted.before.before.before in
     let a = (start turn).args in
     let o = a.order.now in
@@ -71,8 +71,8 @@ loop-again c =
       (
         ap length is ∙ length-set l.tally _ _ ∙ l.invariant.1.0,
         (
-          λ j z. let x = parallelism-from o a.n j in
-              omega (arith, counted-one l.tally w.result x, ap (λ t. get_or t x 0) is, l.invariant.1.1.0 j z, k),
+          λ j z. let x = parallelism_from o a.n j in
+              omega (arith, counted_one l.tally w.result x, ap (λ t. get_or t x 0) is, l.invariant.1.1.0 j z, k),
           l.invariant.1.1.1 ∙ count_turn o a.n a.a l.tally _ l.q w.result k w.ensures is,
         ),
       ),
@@ -85,7 +85,7 @@ returns : tie.Need-returns invariant-loop decreases-loop
 returns c =
     let l = c.before.loop in
     let a = c.before.before.before.before.args in
-    sym (l.invariant.1.1.1 ∙ count-ends a.order.now a.n a.a l.tally l.q c.loop-test.false)
+    sym (l.invariant.1.1.1 ∙ count_ends a.order.now a.n a.a l.tally l.q c.loop-test.false)
 
 pub tally-new-spec : {M : Type 1} → statement M
 tally-new-spec =

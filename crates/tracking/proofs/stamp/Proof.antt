@@ -3,14 +3,14 @@ use lib.ListN.{length}
 use Prim.Native.Nat.{◌-◌, ◌≤◌, ◌<◌}
 use borrow.Author.Rules.{rules}
 use native.Mathlib.Omega.{arith}
-use Rattle.rules.specs.Limits.{mark-written}
-use Rattle.tracking.specs.Loops.{Stamping, stamp-start, stamp-next, stamp-end}
+use Rattle.rules.specs.Limits.{mark_written}
+use Rattle.tracking.specs.Loops.{Stamping, stamp_start, stamp_next, stamp_end}
 use Rattle.tracking.proofs.stamp.Statement.{statement}
 use Rattle.tracking.proofs.stamp.Tie as tie
 
 abbrev invariant-loop : tie.invariant-loop
 invariant-loop marks₀ locations₀ pool at n loc j₀ marks locations j =
-    (j ≤ n) × Stamping pool at n mark-written marks₀ marks j × Stamping pool at n loc locations₀ locations j
+    (j ≤ n) × Stamping pool at n mark_written marks₀ marks j × Stamping pool at n loc locations₀ locations j
 
 abbrev decreases-loop : tie.decreases-loop
 decreases-loop marks₀ locations₀ pool at n loc j₀ marks locations j = n - j
@@ -37,7 +37,7 @@ loop-holds : tie.Need-loop-init invariant-loop decreases-loop
 loop-holds c =
     let s = c.before.before.before in
     let h = s.requires.0.inside in
-    (omega arith, stamp-start h mark-written s.args.marks.now, stamp-start h s.args.loc s.args.locations.now)
+    (omega arith, stamp_start h mark_written s.args.marks.now, stamp_start h s.args.loc s.args.locations.now)
 
 add_wide : tie.Need-overflow-add-wide invariant-loop decreases-loop
 add_wide c = omega (arith, (start c.before).pre.0.inside)
@@ -74,7 +74,7 @@ loop-again c =
     let t = turn c in
     let h = (start t.before).pre.0.inside in
     let i = t.before.loop.inv in
-    (omega arith, stamp-next h i.1 c.wide.ensures t.loop-test.taken, stamp-next h i.2 c.wide.ensures t.loop-test.taken)
+    (omega arith, stamp_next h i.1 c.wide.ensures t.loop-test.taken, stamp_next h i.2 c.wide.ensures t.loop-test.taken)
 
 same_length : tie.Need-same-length invariant-loop decreases-loop
 same_length c = c.before.loop.invariant.1.long
@@ -86,7 +86,7 @@ returns : tie.Need-returns invariant-loop decreases-loop
 returns c =
     let h = (start c.before).pre.0.inside in
     let i = c.before.loop.invariant in
-    record { marks-are = stamp-end h i.1 c.loop-test.false; locations-are = stamp-end h i.2 c.loop-test.false }
+    record { marks_are = stamp_end h i.1 c.loop-test.false; locations_are = stamp_end h i.2 c.loop-test.false }
 
 pub stamp-spec : {M : Type 1} → statement M
 stamp-spec =

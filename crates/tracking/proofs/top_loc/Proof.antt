@@ -7,12 +7,12 @@ use borrow.Author.Rules.{rules}
 use native.Mathlib.Omega.{arith}
 use Rattle.lists.specs.Part.{part}
 use Rattle.tracking.specs.Tracking.{peak}
-use Rattle.tracking.specs.Loops.{to-peak, peak-begins, peak-less, peak-more, peak-ends}
+use Rattle.tracking.specs.Loops.{to_peak, peak_begins, peak_less, peak_more, peak_ends}
 use Rattle.tracking.proofs.top_loc.Statement.{statement}
 use Rattle.tracking.proofs.top_loc.Tie as tie
 
 abbrev invariant-loop : tie.invariant-loop
-invariant-loop locations pool at n m₀ j₀ m j = (j ≤ n) × (peak locations (part pool at n) ≡ to-peak pool at n locations m j)
+invariant-loop locations pool at n m₀ j₀ m j = (j ≤ n) × (peak locations (part pool at n) ≡ to_peak pool at n locations m j)
 
 abbrev decreases-loop : tie.decreases-loop
 decreases-loop locations pool at n m₀ j₀ m j = n - j
@@ -37,7 +37,7 @@ loop-holds : tie.Need-loop-init invariant-loop decreases-loop
 loop-holds c =
     let s = c.before.before in
     let a = s.args in
-    (omega arith, peak-begins a.pool.now a.at a.n s.requires.inside a.locations.now)
+    (omega arith, peak_begins a.pool.now a.at a.n s.requires.inside a.locations.now)
 
 add_wide : tie.Need-overflow-add-wide invariant-loop decreases-loop
 add_wide c = omega (arith, (start c.before).pre.inside)
@@ -71,12 +71,12 @@ loop-again c =
     let locations = a.locations.now in
     let l = t.before.loop in
     let at_x = ap (λ x. get_or locations x 0) (read c).wide.ensures in
-    let more = peak-more a.pool.now a.at a.n s.pre.inside locations l.m l.j t.loop-test.taken in
-    let less = peak-less a.pool.now a.at a.n s.pre.inside locations l.m l.j t.loop-test.taken in (
+    let more = peak_more a.pool.now a.at a.n s.pre.inside locations l.m l.j t.loop-test.taken in
+    let less = peak_less a.pool.now a.at a.n s.pre.inside locations l.m l.j t.loop-test.taken in (
       omega arith,
       l.inv.1
-          ∙ ⊎_elim (λ w. more (omega (arith, w.0.taken, at_x)) ∙ ap (λ x. to-peak a.pool.now a.at a.n locations x (l.j + 1)) (sym (w.1 ∙ at_x)))
-          (λ w. less (omega (arith, w.0.left, at_x)) ∙ ap (λ x. to-peak a.pool.now a.at a.n locations x (l.j + 1)) (sym w.1)) c.if1.branch,
+          ∙ ⊎_elim (λ w. more (omega (arith, w.0.taken, at_x)) ∙ ap (λ x. to_peak a.pool.now a.at a.n locations x (l.j + 1)) (sym (w.1 ∙ at_x)))
+          (λ w. less (omega (arith, w.0.left, at_x)) ∙ ap (λ x. to_peak a.pool.now a.at a.n locations x (l.j + 1)) (sym w.1)) c.if1.branch,
     )
 
 returns : tie.Need-returns invariant-loop decreases-loop
@@ -84,7 +84,7 @@ returns c =
     let s = start c.before in
     let a = s.args in
     let l = c.before.loop in
-    sym (l.invariant.1 ∙ peak-ends a.pool.now a.at a.n s.pre.inside a.locations.now l.m l.j c.loop-test.false)
+    sym (l.invariant.1 ∙ peak_ends a.pool.now a.at a.n s.pre.inside a.locations.now l.m l.j c.loop-test.false)
 
 pub top-loc-spec : {M : Type 1} → statement M
 top-loc-spec =

@@ -1,6 +1,6 @@
 -- The digits before the last are those of the tenth, written by the call; the measure is the number. Assumes nothing.
 use lib.ListN.{length}
-use Rattle.writer.specs.Decimal.{put_small, room-large, put-large}
+use Rattle.writer.specs.Decimal.{put_small, room_large, put_large}
 use borrow.Author.Rules.{rules}
 use native.Mathlib.Omega.{arith}
 use Prim.Native.Nat.{ℕ, ◌<◌}
@@ -66,7 +66,7 @@ put-decimal-put-decimal-requires : (t : ℕ) → put-decimal-lts.Need-put-decima
 put-decimal-put-decimal-requires t c κs =
     let start = c.before.before.before in (
       omega (arith, start.requires.0, c.before.if1.false),
-      omega (arith, room-large start.args.n start.args.at (length start.args.out.now) c.before.if1.false start.ranges.n.fits start.requires.1),
+      omega (arith, room_large start.args.n start.args.at (length start.args.out.now) c.before.if1.false start.ranges.n.fits start.requires.1),
     )
 
 inside : (t : ℕ) (c : put-decimal-lts.After-slice-known2 (put-decimal-below t, put-decimal.Post) (put-decimal-at t) put-decimal.Post)
@@ -79,7 +79,7 @@ inside t c =
       arith,
       after-put-decimal.put-decimal.ensures.next,
       after-put-decimal.put-decimal.auto.0,
-      room-large start.args.n start.args.at (length start.args.out.now) else1.if1.false start.ranges.n.fits start.requires.1,
+      room_large start.args.n start.args.at (length start.args.out.now) else1.if1.false start.ranges.n.fits start.requires.1,
     )
 
 put-decimal-cast-out-2 : (t : ℕ) → put-decimal-lts.Need-overflow-cast-out-2 (
@@ -107,7 +107,7 @@ put-decimal-add-result-2 : (t : ℕ) → put-decimal-lts.Need-overflow-add-resul
 put-decimal-add-result-2 t c =
     let after-put-decimal = c.before.before in
     let start = after-put-decimal.before.before.before.before in
-    omega (arith, inside t c, after-put-decimal.put-decimal.auto.0, start.well-formed.0.0)
+    omega (arith, inside t c, after-put-decimal.put-decimal.auto.0, start.well_formed.0.0)
 
 put-decimal-same-length-2 : (t : ℕ) → put-decimal-lts.Need-same-length-2 (
   put-decimal-below t,
@@ -123,7 +123,7 @@ put-decimal-returns-2 t c =
     let after-put-decimal = c.before.before in
     let else1 = after-put-decimal.before.before in
     let start = else1.before.before in
-    put-large start.args.out.now after-put-decimal.put-decimal.new.0 start.args.at after-put-decimal.put-decimal.result
+    put_large start.args.out.now after-put-decimal.put-decimal.new.0 start.args.at after-put-decimal.put-decimal.result
     start.args.n else1.if1.false start.ranges.n.fits after-put-decimal.put-decimal.ensures (inside t c)
 
 pub +put-decimal-spec : {M : Type 1} → statement M

@@ -1,6 +1,6 @@
 -- The word with its number, then byte 10. Assumes nothing.
 use native.Mathlib.Omega.{arith}
-use Rattle.writer.specs.Lines.{length-field, length-line, wrote-line}
+use Rattle.writer.specs.Lines.{length_field, length_line, wrote_line}
 use borrow.Author.Rules.{rules}
 use Rattle.writer.proofs.put_line.Statement.{statement}
 use Rattle.writer.proofs.put_line.Tie as tie
@@ -14,14 +14,14 @@ to_start c =
 put-field-requires : tie.Need-put-field-requires
 put-field-requires c κs =
     let start = c.before.before.before in
-    omega (arith, length-field start.args.word.now start.args.n, length-line start.args.word.now start.args.n, start.requires)
+    omega (arith, length_field start.args.word.now start.args.n, length_line start.args.word.now start.args.n, start.requires)
 
 slice-write-out : tie.Need-slice-write-out
 slice-write-out c =
     omega (
       arith,
-      length-field (to_start c).args.word.now (to_start c).args.n,
-      length-line (to_start c).args.word.now (to_start c).args.n,
+      length_field (to_start c).args.word.now (to_start c).args.n,
+      length_line (to_start c).args.word.now (to_start c).args.n,
       (to_start c).requires,
       c.before.before.put-field.ensures.next,
       c.before.before.put-field.auto.0,
@@ -31,11 +31,11 @@ add-result : tie.Need-overflow-add-result
 add-result c =
     omega (
       arith,
-      length-field (to_start c).args.word.now (to_start c).args.n,
-      length-line (to_start c).args.word.now (to_start c).args.n,
+      length_field (to_start c).args.word.now (to_start c).args.n,
+      length_line (to_start c).args.word.now (to_start c).args.n,
       (to_start c).requires,
       c.before.before.put-field.ensures.next,
-      (to_start c).well-formed.0.0,
+      (to_start c).well_formed.0.0,
     )
 
 same_length : tie.Need-same-length
@@ -43,12 +43,12 @@ same_length c = search rules
 
 returns : tie.Need-returns
 returns c =
-    wrote-line (to_start c).args.out.now c.before.before.put-field.new.0 (to_start c).args.at
+    wrote_line (to_start c).args.out.now c.before.before.put-field.new.0 (to_start c).args.at
     c.before.before.put-field.result (to_start c).args.n (to_start c).args.word.now c.before.before.put-field.ensures
     (omega (
       arith,
-      length-field (to_start c).args.word.now (to_start c).args.n,
-      length-line (to_start c).args.word.now
+      length_field (to_start c).args.word.now (to_start c).args.n,
+      length_line (to_start c).args.word.now
           (to_start c).args.n,
       (to_start c).requires,
       c.before.before.put-field.ensures.next,

@@ -1,5 +1,5 @@
 -- What was copied is the word. Assumes nothing.
-use Rattle.writer.specs.Wrote.{wrote-copy}
+use Rattle.writer.specs.Wrote.{wrote_copy}
 use borrow.Author.Rules.{rules}
 use Rattle.writer.proofs.put_word.Statement.{statement}
 use Rattle.writer.proofs.put_word.Tie as tie
@@ -17,7 +17,7 @@ returns : tie.Need-returns
 returns c =
     let after-copy = c.before.before in
     let start = after-copy.before.before.before.before in
-    wrote-copy start.args.out.now start.args.word.now _ start.args.at start.requires after-copy.copy.ensures
+    wrote_copy start.args.out.now start.args.word.now _ start.args.at start.requires after-copy.copy.ensures
 
 pub put-word-spec : {M : Type 1} → statement M
 put-word-spec = tie.close (tie.spec copy-requires add-result same_length returns)

@@ -1,5 +1,5 @@
 -- `zeros::clear16` meets its contract: the numbers passed so far are 0, all others as they were.
-use Rattle.zeros.specs.Zeros.{Clearing, clear-start, clear-turn, clear-end}
+use Rattle.zeros.specs.Zeros.{Clearing, clear_start, clear_turn, clear_end}
 use Prim.Native.Nat.{◌-◌}
 use borrow.Author.Rules.{rules}
 use native.Mathlib.Omega.{arith}
@@ -13,7 +13,7 @@ abbrev decreases-loop : tie.decreases-loop
 decreases-loop s₀ a b i₀ s i = b - i
 
 loop-holds : tie.Need-loop-init invariant-loop decreases-loop
-loop-holds c = clear-start _ _ _ c.requires.0 c.requires.1
+loop-holds c = clear_start _ _ _ c.requires.0 c.requires.1
 
 mul-s : tie.Need-overflow-mul-s invariant-loop decreases-loop
 mul-s c = omega (arith, c.before.loop.invariant.inside, c.before.loop.invariant.long)
@@ -28,13 +28,13 @@ loop-less : tie.Need-loop-smaller invariant-loop decreases-loop
 loop-less c = search rules
 
 loop-again : tie.Need-loop-preserved invariant-loop decreases-loop
-loop-again c = clear-turn _ _ _ _ _ (omega arith) c.before.loop.invariant
+loop-again c = clear_turn _ _ _ _ _ (omega arith) c.before.loop.invariant
 
 same_length : tie.Need-same-length invariant-loop decreases-loop
 same_length c = c.before.loop.invariant.long
 
 returns : tie.Need-returns invariant-loop decreases-loop
-returns c = clear-end _ _ _ _ _ (omega arith) c.before.loop.invariant
+returns c = clear_end _ _ _ _ _ (omega arith) c.before.loop.invariant
 
 pub clear16-spec : {M : Type 1} → statement M
 clear16-spec =

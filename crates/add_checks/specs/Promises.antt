@@ -1,11 +1,11 @@
 -- What the checks of add ask and promise: whatever test the flags are those of, the number is that of the checks with this test, and the
 -- storage is as it was. Definitions only. Assumes nothing.
 use Rattle.std.specs.Prelude.{◌≡◌, List, Bool, ℕ, ◌≤◌}
-use Rattle.rules.specs.Limits.{most-in-a-list}
+use Rattle.rules.specs.Limits.{most_in_a_list}
 use Rattle.rules.specs.Checks.{verdict}
 use Rattle.lists.specs.Part.{Below}
 use Rattle.taken.specs.Flags.{Flags}
-use Rattle.checking.specs.Parts.{state-checks, add-checks}
+use Rattle.checking.specs.Parts.{state_checks, add_checks}
 
 -- `check_state`: the flags are those of some test
 pub record MayCheck (w outs : List ℕ) (v used inputs room : ℕ) : Type 0 where
@@ -13,10 +13,10 @@ pub record MayCheck (w outs : List ℕ) (v used inputs room : ℕ) : Type 0 wher
   pub flags : Flags v taken w
   pub below : Below v outs
   pub fits : used ≤ room
-  pub few : inputs ≤ most-in-a-list
+  pub few : inputs ≤ most_in_a_list
 
 pub record ChecksState (w outs : List ℕ) (v added used inputs room n : ℕ) (w' : List ℕ) : Type 0 where
-  pub is : (t : ℕ → Bool) → Flags v t w → n ≡ verdict (state-checks v t outs added used inputs room)
+  pub is : (t : ℕ → Bool) → Flags v t w → n ≡ verdict (state_checks v t outs added used inputs room)
   pub same : w' ≡ w
 
 -- `check_add`
@@ -26,5 +26,5 @@ pub record MayAdd (w : List ℕ) (v used room : ℕ) : Type 0 where
   pub fits : used ≤ room
 
 pub record ChecksAdd (w : List ℕ) (lane : ℕ) (ins outs : List ℕ) (closed : Bool) (v added used room n : ℕ) (w' : List ℕ) : Type 0 where
-  pub is : (t : ℕ → Bool) → Flags v t w → n ≡ verdict (add-checks closed v lane ins outs t added used room)
+  pub is : (t : ℕ → Bool) → Flags v t w → n ≡ verdict (add_checks closed v lane ins outs t added used room)
   pub same : w' ≡ w
