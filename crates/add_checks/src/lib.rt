@@ -1,5 +1,7 @@
 // The checks of add, in document 01's order: the number of the first that fails, or 0. Storage is as it was: the flags that are raised to
 // find a repeated output are lowered again.
+#![tactic(auto)]
+
 ghost use Rattle.std.specs.Prelude.{◌≡◌, ◌≤◌};
 ghost use Rattle.rules.specs.Limits.{least_flagged};
 ghost use Rattle.rules.specs.Checks.{verdict};

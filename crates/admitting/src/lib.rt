@@ -1,8 +1,10 @@
 // A set or an add admitted: its number worked out, and, where that is 0, its own marks or lists stored. What it set free or added is then
 // placed, with all that this sets off.
+#![tactic(auto)]
+
 ghost use Rattle.std.specs.Prelude.{◌≡◌, ◌+◌, ◌≤◌, ◌<◌, length};
 ghost use Rattle.rules.specs.Checks.{waiting_needed};
-ghost use Rattle.session.specs.Storage.{given, across};
+ghost use Rattle.session.specs.Storage.{given_read, across_read};
 ghost use Rattle.session.specs.Settle.{MaySettle};
 ghost use Rattle.admitting.specs.Linking.{LinksNew};
 ghost use Rattle.admitting.specs.Admitted.{counted, Places, AsksSet, AdmitsSet, AsksAdd, AdmitsAdd};
@@ -11,7 +13,7 @@ use session::Session;
 
 // A call's number, and where that is 0 the session's counts after its own marks or lists are stored, with the top link of the stack of
 // what is to be placed.
-#[derive(Drop)]
+#[derive(Clone, Copy)]
 pub struct Admitted {
     pub number: u64,
     pub watermark: usize,
@@ -132,8 +134,8 @@ pub fn place_admitted(
     pool: &[u32],
     a: Admitted,
 ) -> Session
-    requires { MaySettle s.added (counted s a) (given spans order tally rows marks locations waiting pool) a.top }
-    ensures { across spans order tally rows marks locations waiting pool (λ σ τ. Places s a result σ τ) }
+    requires { MaySettle s.added (counted s a) (given_read spans order tally rows marks locations waiting pool.now) a.top }
+    ensures { across_read spans order tally rows marks locations waiting pool.now (λ σ τ. Places s a result σ τ) }
 {
     let mut z = s;
     z.watermark = a.watermark;

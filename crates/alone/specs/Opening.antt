@@ -51,8 +51,8 @@ pub record Opens (p v n : ℕ) (x : Alone) (s o t t' : List ℕ) : Type 0 where
   pub tally_beyond : (j : ℕ) → p < j → get_or t' j 0 ≡ get_or t j 0
 
 -- the same of a function's slices
-abbrev pub OpensOver : ℕ → ℕ → ℕ → Alone → Borrowed → Borrowed → Borrowed → Type 0
-OpensOver p v n x spans order tally = Opens p v n x spans.entry.now order.entry.now tally.entry.now tally.exit.now
+abbrev pub OpensOver : ℕ → ℕ → ℕ → Alone → List ℕ → List ℕ → Borrowed → Type 0
+OpensOver p v n x spans order tally = Opens p v n x spans order tally.entry.now tally.exit.now
 
 -- what an accepted opening has passed
 record Passed (p v s o t : ℕ) : Type 0 where

@@ -9,7 +9,7 @@ use Prim.Native.Nat.{ℕ, suc, ◌+◌, ◌-◌, ◌≤◌, ◌<◌}
 use native.Mathlib.Omega.{arith}
 use borrow.Author.Tests.{leb-false, ne_eqb, le-leb, le-ltb}
 use Rattle.rules.specs.Limits.{last_span_limit}
-use Rattle.rules.specs.Guide.{Loc, held}
+use Rattle.rules.specs.Guide.{Loc}
 use Rattle.rules.specs.Checks.{Check, verdict}
 use Rattle.rules.specs.Alone.{Alone as AloneModel, Request, push, pushed, reply, requests, check_push, worn, stray, holds, serve, serve_step, location}
 use Rattle.laws.specs.History.{lt_or_le}

@@ -1,5 +1,7 @@
 // The guide alone: opened over spans, order and tally; push with value, added and accepted from the caller, and lane 0; flush. Every call
 // checks its own refusals and leaves state and storage as they were where it refuses.
+#![tactic(auto)]
+
 ghost use Rattle.std.specs.Prelude.{◌≡◌, length};
 ghost use Rattle.rules.specs.Alone.{Request};
 ghost use Rattle.alone.specs.Held.{HeldOver};
@@ -11,14 +13,14 @@ use buffer::Guide;
 use entries::Entry;
 
 // The guide and how many pushes were accepted.
-#[derive(Drop)]
+#[derive(Clone, Copy)]
 pub struct Alone {
     pub guide: Guide,
     pub pushes: u32,
 }
 
 // A location for an accepted push, nothing for an accepted flush, or the number of the refusal.
-#[derive(Drop)]
+#[derive(Clone, Copy)]
 pub enum Reply {
     At(u32, u32),
     Released,
@@ -26,14 +28,14 @@ pub enum Reply {
 }
 
 // The state after a request, and the reply to it.
-#[derive(Drop)]
+#[derive(Clone, Copy)]
 pub struct Answer {
     pub alone: Alone,
     pub reply: Reply,
 }
 
 // The number of the refusal or 0, and a fresh guide: the one asked for where it is 0, else one of P 0 and V 0.
-#[derive(Drop)]
+#[derive(Clone, Copy)]
 pub struct Opened {
     pub number: u32,
     pub alone: Alone,
@@ -74,7 +76,7 @@ pub fn begin(tally: &mut [u32], p: u64, v: u64) -> Alone
 
 // Opens a guide over its storage; its counts are set to 0. Refused, it is a guide of P 0 and V 0.
 pub fn open(spans: &[u32], order: &[u32], tally: &mut [u32], p: u64, v: u64) -> Opened
-    ensures { OpensOver p v result.number result.alone spans order tally }
+    ensures { OpensOver p v result.number result.alone spans.now order.now tally }
 {
     let n = check_open(spans, order, tally, p, v);
     if n != 0 {

@@ -1,4 +1,6 @@
 // The refusals of the guide alone, at opening, for a push and for a flush. Each function gives the number of the first check that fails, or 0.
+#![tactic(auto)]
+
 ghost use Rattle.std.specs.Prelude.{◌≡◌, ◌||◌, ◌≤◌, ltb, leb};
 ghost use Rattle.rules.specs.Limits.{most_parallelism, last_span_limit};
 ghost use Rattle.rules.specs.Checks.{verdict};

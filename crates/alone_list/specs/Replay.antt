@@ -47,7 +47,7 @@ pub record Replays (P N : ℕ) (q : List ℕ) (n : ℕ) (s o t w s' o' t' w' : L
   pub ran : n ≡ 0 → (rs : List Request) × (decode q ≡ some rs) × Ran P N rs s o t w s' o' t' w'
 
 -- the same of a function's slices
-abbrev pub ReplaysOver : ℕ → ℕ → Borrowed → ℕ → Borrowed → Borrowed → Borrowed → Borrowed → Type 0
+abbrev pub ReplaysOver : ℕ → ℕ → List ℕ → ℕ → Borrowed → Borrowed → Borrowed → Borrowed → Type 0
 ReplaysOver P N requests n spans order tally answers =
-    Replays P N requests.entry.now n spans.entry.now order.entry.now tally.entry.now answers.entry.now
+    Replays P N requests n spans.entry.now order.entry.now tally.entry.now answers.entry.now
     spans.exit.now order.exit.now tally.exit.now answers.exit.now

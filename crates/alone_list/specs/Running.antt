@@ -93,10 +93,10 @@ pub record Runs (p v n₀ : ℕ) (a : AloneModel) (s₀ o₀ t₀ q w : List ℕ
   pub frame : GuideFrame p n₀ guide.guide.written s₀ o₀ t₀ s o t
 
 -- the same of a function's slices, from the guide x on
-abbrev pub RunsOver : Alone → Borrowed → Borrowed → Borrowed → Borrowed → Borrowed → ℕ → Type 0
+abbrev pub RunsOver : Alone → Borrowed → Borrowed → Borrowed → Borrowed → List ℕ → ℕ → Type 0
 RunsOver x spans order tally answers requests n =
     Runs x.guide.p x.guide.v x.guide.written (model x spans.entry.now order.entry.now) spans.entry.now order.entry.now tally.entry.now
-    requests.entry.now answers.entry.now n spans.exit.now order.exit.now tally.exit.now answers.exit.now
+    requests answers.entry.now n spans.exit.now order.exit.now tally.exit.now answers.exit.now
 
 pub run_ends : (p v n₀ : ℕ) (a : AloneModel) (s₀ o₀ t₀ q w : List ℕ) (n k : ℕ) (y : Alone) (s o t w' : List ℕ) → k ≡ n
     → Running p v n₀ a s₀ o₀ t₀ q w n k y s o t w' → Runs p v n₀ a s₀ o₀ t₀ q w n s o t w'

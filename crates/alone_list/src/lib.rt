@@ -1,4 +1,6 @@
 // A list of requests to the guide alone, as numbers, run on a freshly opened guide.
+#![tactic(auto)]
+
 ghost use Rattle.std.specs.Prelude.{◌≡◌, ◌∷◌, [], ◌+◌, ◌*◌, ◌≤◌, length};
 ghost use Rattle.alone.specs.Held.{HeldOver};
 ghost use Rattle.alone.specs.Served.{ServedOver};
@@ -52,7 +54,7 @@ fn serve(
 }
 
 // The three numbers of a reply.
-#[derive(Drop)]
+#[derive(Clone, Copy)]
 pub struct Triple {
     pub number: u32,
     pub span: u32,
@@ -137,7 +139,7 @@ fn run(
 )
     requires held_over { HeldOver x spans order tally }
     requires n_in_bounds { (request_size * n ≤ length requests.now) × (answer_size * n ≤ length answers.old) }
-    ensures { RunsOver x spans order tally answers requests n }
+    ensures { RunsOver x spans order tally answers requests.now n }
 {
     let mut y = x;
     for k in 0..n {
@@ -175,7 +177,7 @@ pub fn replay(
     tally: &mut [u32],
     answers: &mut [u32],
 ) -> u32
-    ensures { ReplaysOver p v requests result spans order tally answers }
+    ensures { ReplaysOver p v requests.now result spans order tally answers }
 {
     if !well_formed(requests) {
         return rules::MALFORMED as u32;

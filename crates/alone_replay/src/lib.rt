@@ -1,4 +1,6 @@
 // A list of requests to the guide alone, run on a freshly opened guide, for hosts: crate alone_list's `replay`.
+#![tactic(auto)]
+
 ghost use Rattle.alone_list.specs.Replay.{ReplaysOver};
 
 // Opens a guide and runs the requests on it. Returns 0, and the numbers of refused requests stand in their answers; or the number of a
@@ -13,7 +15,7 @@ pub extern "C" fn guide_replay(
     tally: &mut [u32],
     answers: &mut [u32],
 ) -> u32
-    ensures { ReplaysOver p v requests result spans order tally answers }
+    ensures { ReplaysOver p v requests.now result spans order tally answers }
 {
     alone_list::replay(p, v, requests, spans, order, tally, answers)
 }

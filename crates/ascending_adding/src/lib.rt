@@ -1,6 +1,8 @@
 // The placing of a registration that is added under the ascending profile.
+#![tactic(auto)]
+
 ghost use Rattle.std.specs.Prelude.{length};
-ghost use Rattle.rules.specs.Calls.{add as add-call};
+ghost use Rattle.rules.specs.Calls.{add as add_call};
 ghost use Rattle.ascending_session.specs.Slices.{given, across};
 ghost use Rattle.ascending_session.specs.Promise.{MayDo, Does};
 ghost use Rattle.ascending_adding.specs.Adding.{with_added};
@@ -23,9 +25,9 @@ pub fn place_new(
     outs: &[u64],
     lane: u64,
 ) -> Guide
-    requires { MayDo (add-call lane ins.now outs.now) s (given spans order tally rows marks locations) }
+    requires { MayDo (add_call lane ins.now outs.now) s (given spans order tally rows marks locations) }
     ensures { across spans order tally rows marks locations
-        (λ σ τ. Does (add-call lane ins.now outs.now) s (with_added s result (length ins.now) (length outs.now)) σ τ) }
+        (λ σ τ. Does (add_call lane ins.now outs.now) s (with_added s result (length ins.now) (length outs.now)) σ τ) }
 {
     let r = s.added;
     let n = s.guide.written;

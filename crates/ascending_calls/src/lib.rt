@@ -1,8 +1,10 @@
 // The calls of a session under the ascending profile: set, add, flush and final, over the storage that its caller provides. Each works out
 // its number first, from session and storage, and changes nothing where that is not 0. The storage goes along in six slices: spans and order
 // of entries, the tally, rows, marks and locations of places. No list is kept and nothing waits, so there is no pool and no waiting storage.
+#![tactic(auto)]
+
 ghost use Rattle.std.specs.Prelude.{◌≡◌};
-ghost use Rattle.rules.specs.Calls.{set as set-call, add as add-call, flush as flush-call, final as final-call};
+ghost use Rattle.rules.specs.Calls.{set as set_call, add as add_call, flush as flush_call, final as final_call};
 ghost use Rattle.summary.specs.Figured.{figured};
 ghost use Rattle.ascending_session.specs.Slices.{given, across};
 ghost use Rattle.ascending_session.specs.Promise.{Asks, Called};
@@ -30,7 +32,7 @@ pub fn set(
     x: u64,
 ) -> Answer
     requires { Asks s (given spans order tally rows marks locations) }
-    ensures { across spans order tally rows marks locations (λ σ τ. Called (set-call x) result.number s result.session σ τ) }
+    ensures { across spans order tally rows marks locations (λ σ τ. Called (set_call x) result.number s result.session σ τ) }
 {
     let n = ascending_checks::check_set(s.closed, wide(s.guide.v), s.lowest, x);
     if n != 0 {
@@ -72,7 +74,7 @@ pub fn add(
     lane: u64,
 ) -> Answer
     requires { Asks s (given spans order tally rows marks locations) }
-    ensures { across spans order tally rows marks locations (λ σ τ. Called (add-call lane ins.now outs.now) result.number s result.session σ τ) }
+    ensures { across spans order tally rows marks locations (λ σ τ. Called (add_call lane ins.now outs.now) result.number s result.session σ τ) }
 {
     let n = ascending_checks::check_add(
         marks,
@@ -120,8 +122,8 @@ fn do_flush(
     tally: &mut [u32],
     rows: &mut [u32],
 ) -> Ascending
-    requires { MayFlush flush-call s spans.now order.old tally.old rows.old }
-    ensures { Flushes flush-call s result spans.now order.old tally.old rows.old order.new tally.new rows.new }
+    requires { MayFlush flush_call s spans.now order.old tally.old rows.old }
+    ensures { Flushes flush_call s result spans.now order.old tally.old rows.old order.new tally.new rows.new }
 {
     let g = s.guide;
     let h = flushing::release_all(g, spans, order, tally, rows, s.added);
@@ -149,7 +151,7 @@ pub fn flush(
     locations: &mut [u64],
 ) -> Answer
     requires { Asks s (given spans order tally rows marks locations) }
-    ensures { across spans order tally rows marks locations (λ σ τ. Called flush-call result.number s result.session σ τ) }
+    ensures { across spans order tally rows marks locations (λ σ τ. Called flush_call result.number s result.session σ τ) }
 {
     let n = checking::check_flush(s.closed, s.flushes);
     if n != 0 {
@@ -173,8 +175,8 @@ fn do_final(
     tally: &mut [u32],
     rows: &mut [u32],
 ) -> Ascending
-    requires { MayFlush final-call s spans.now order.old tally.old rows.old }
-    ensures { Flushes final-call s result spans.now order.old tally.old rows.old order.new tally.new rows.new }
+    requires { MayFlush final_call s spans.now order.old tally.old rows.old }
+    ensures { Flushes final_call s result spans.now order.old tally.old rows.old order.new tally.new rows.new }
 {
     let g = s.guide;
     let h = flushing::release_all(g, spans, order, tally, rows, s.added);
@@ -202,7 +204,7 @@ pub fn close(
     locations: &mut [u64],
 ) -> Answer
     requires { Asks s (given spans order tally rows marks locations) }
-    ensures { across spans order tally rows marks locations (λ σ τ. Called final-call result.number s result.session σ τ) }
+    ensures { across spans order tally rows marks locations (λ σ τ. Called final_call result.number s result.session σ τ) }
 {
     let n = checking::check_final(s.closed, 0);
     if n != 0 {
@@ -219,7 +221,7 @@ pub fn close(
 }
 
 // What final gives: its number, 0 if it was accepted, the session after it, and the summary of the tally, all zeros where it was refused.
-#[derive(Drop)]
+#[derive(Clone, Copy)]
 pub struct Finished {
     pub number: u64,
     pub session: Ascending,

@@ -1,5 +1,7 @@
 // The checks of set and add under the ascending profile, in document 02's order: the number of the first that fails, or 0. The marks are as
 // they were: those that are raised to find a repeated output are lowered again.
+#![tactic(auto)]
+
 ghost use Rattle.std.specs.Prelude.{◌≡◌, ◌≤◌, leb};
 ghost use Rattle.rules.specs.Limits.{most_places};
 ghost use Rattle.rules.specs.Checks.{any};

@@ -1,5 +1,7 @@
 // A list of calls, encoded as numbers, made on a fresh session under the ascending profile: the claim about every such list, as a function
 // that runs.
+#![tactic(auto)]
+
 ghost use Rattle.std.specs.Prelude.{◌≡◌, true, false, ◌+◌, ◌<◌, length, get_or};
 ghost use Rattle.call_runs.specs.Made.{ends_run, Readable};
 ghost use Rattle.ascending_session.specs.Slices.{given, across};
@@ -20,7 +22,7 @@ fn wide(x: u32) -> usize
 
 // The number of a set or an add, and where the next call starts; of an add its lane, and where its inputs start and end: behind their end
 // stands the count of its outputs.
-#[derive(Drop)]
+#[derive(Clone, Copy)]
 pub struct Admission {
     pub number: u64,
     pub next: usize,
@@ -31,7 +33,7 @@ pub struct Admission {
 }
 
 // The session after some calls, the index past them, and how many they are.
-#[derive(Drop)]
+#[derive(Clone, Copy)]
 pub struct Run {
     pub session: Ascending,
     pub at: usize,

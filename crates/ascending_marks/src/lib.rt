@@ -1,5 +1,7 @@
 // Marks and locations of places as the ascending profile walks them: inputs are listed by the call itself, outputs follow each other, and
 // a repeated output is found by the marks, since no flags of taken places are kept.
+#![tactic(auto)]
+
 ghost use Rattle.std.specs.Prelude.{◌≡◌, ◌+◌, ◌≤◌, length};
 ghost use Rattle.lists.specs.Part.{Below};
 ghost use Rattle.tracking.specs.Tracking.{peak, Stamped};

@@ -17,7 +17,7 @@ use Rattle.session.specs.Storage.{Storage, with_waiting, Frame, beyond_refl}
 use Rattle.opening.specs.Parts.{fresh_guided, fresh_rowed, fresh_tracked, cleared_beyond}
 use Rattle.opening.specs.Opened.{sizes, enough_of as every_enough}
 use Rattle.ascending_session.specs.declared.Ascending.{Ascending}
-use Rattle.ascending_session.specs.Slices.{lean, across}
+use Rattle.ascending_session.specs.Slices.{lean}
 use Rattle.ascending_session.specs.Rep.{Rep}
 use Rattle.ascending_opening.specs.Refusal.{open_as_ever}
 
@@ -185,5 +185,7 @@ pub begins : {P N W : ℕ} {s : Ascending} {t rs m l t' rs' m' l' : List ℕ} �
 begins {P} {N} {W} {s} {t} {rs} {m} {l} {t'} {rs'} {m'} {l'} es c = record { opens = λ sp o e. opens_done P N W sp o t rs m l s t' rs' m' l' e es c }
 
 -- what opening promises, of a function's slices
-abbrev pub OpensOver : ℕ → ℕ → ℕ → ℕ → Ascending → Borrowed → Borrowed → Borrowed → Borrowed → Borrowed → Borrowed → Type 0
-OpensOver P N W n s spans order tally rows marks locations = across spans order tally rows marks locations (Opens P N W n s)
+abbrev pub OpensOver : ℕ → ℕ → ℕ → ℕ → Ascending → List ℕ → List ℕ → Borrowed → Borrowed → Borrowed → Borrowed → Type 0
+OpensOver P N W n s spans order tally rows marks locations =
+    Opens P N W n s (lean spans order tally.entry.now rows.entry.now marks.entry.now locations.entry.now)
+    (lean spans order tally.exit.now rows.exit.now marks.exit.now locations.exit.now)

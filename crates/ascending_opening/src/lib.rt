@@ -1,5 +1,7 @@
 // Opening a session under the ascending profile on storage that the caller provides: refusals 1 and 2, and the fresh state. No waiting
 // storage is asked for.
+#![tactic(auto)]
+
 ghost use Rattle.std.specs.Prelude.{◌≡◌, ◌≤◌, length};
 ghost use Rattle.rules.specs.Limits.{most_parallelism};
 ghost use Rattle.rules.specs.Checks.{verdict};
@@ -141,7 +143,7 @@ pub fn open(
     v: u64,
     w: u64,
 ) -> Answer
-    ensures { OpensOver p v w result.number result.session spans order tally rows marks locations }
+    ensures { OpensOver p v w result.number result.session spans.now order.now tally rows marks locations }
 {
     let n = check_open(
         spans.len(),

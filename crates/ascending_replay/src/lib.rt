@@ -1,4 +1,6 @@
 // An encoded list of calls on a fresh session under the ascending profile, for hosts: crate ascending_list's `replay`, by one number.
+#![tactic(auto)]
+
 ghost use Rattle.ascending_session.specs.Slices.{across};
 ghost use Rattle.ascending_replay.specs.Exported.{Exported};
 

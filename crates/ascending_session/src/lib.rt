@@ -1,7 +1,9 @@
 // The session of the ascending profile by value. What it and its storage stand for, and what a call on it promises, is said in specs/.
+#![tactic(auto)]
+
 use buffer::Guide;
 
-#[derive(Drop)]
+#[derive(Clone, Copy)]
 pub struct Ascending {
     pub guide: Guide,
     // the lowest place that is neither set nor written
@@ -20,7 +22,7 @@ pub struct Ascending {
 }
 
 // A call's number, 0 if it was accepted, and the session after it.
-#[derive(Drop)]
+#[derive(Clone, Copy)]
 pub struct Answer {
     pub number: u64,
     pub session: Ascending,

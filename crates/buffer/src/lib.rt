@@ -1,5 +1,7 @@
 // The guide over its storage: spans as rows of one slice, the order as another. `release` appends span 0's entries to the order and
 // rotates the window.
+#![tactic(auto)]
+
 ghost use Rattle.std.specs.Prelude.{◌≡◌};
 ghost use Rattle.buffer.specs.View.{row_start};
 ghost use Rattle.buffer.specs.Fit.{Fit};
@@ -8,7 +10,7 @@ ghost use Rattle.buffer.specs.Moves.{released_guide, released_order};
 use window::Window;
 
 // How many entries the window holds, the window, P, V and the count of entries in the order.
-#[derive(Drop)]
+#[derive(Clone, Copy)]
 pub struct Guide {
     pub held: u32,
     pub window: Window,

@@ -1,4 +1,6 @@
 // A list of calls, encoded as numbers, made on a fresh session: the claim about every list of calls, as a function that runs.
+#![tactic(auto)]
+
 ghost use Rattle.std.specs.Prelude.{◌≡◌, true, ◌+◌, ◌<◌, get_or};
 ghost use Rattle.session.specs.Storage.{given, across};
 ghost use Rattle.admitting.specs.Promise.{Asks};

@@ -215,11 +215,15 @@ module _ {l : List ℕ} (one : OneCall l) where
   pub one_made : {s s' : Session} {σ σ' : Storage} {out out' : List ℕ} {at n : ℕ} → 1 ≤ length out → Continues l s σ out 0 0 s' σ' out' at n → MadeOne l (get_or out' 0 0) s s' σ σ'
   one_made {s} {s'} {σ} {σ'} {out} {out'} h C c e = go C.onward C.stops
     where
-      go : {at n : ℕ} {out' : List ℕ} {s' : Session} {σ' : Storage} → Onward l s σ out 0 0 s' σ' out' at n → (at < length l → ends_run (get_or l at 0) ≡ true) → Called c (get_or out' 0 0) s s' σ σ'
-      go here stops = absurd (false≢true (sym one.goes_on ∙ stops (one_there l _ e)))
-      go (then {num = num} {next = next} i M here) stops =
+      after : {num next at n : ℕ} {w out' : List ℕ} {t s' : Session} {τ σ' : Storage} → Made l 0 num next s t σ τ → get_or w 0 0 ≡ num →
+          Onward l t τ w next 1 s' σ' out' at n → Called c (get_or out' 0 0) s s' σ σ'
+      after {num = num} M g here =
           let f : M.call ≡ c = ap (λ (x : Front). x.call) (same_front M.is e) in
-          rw (get_or-set_same out 0 num 0 h, sym f) M.called
-      go (then {next = next} i M (then j N X)) stops =
+          rw (g, sym f) M.called
+      after {next = next} M g (then j N X) =
           let f : drop next l ≡ [] = ap (λ (x : Front). x.rest) (same_front M.is e) in
           absurd (omega (arith, j, ap length f, length-drop next l))
+
+      go : {at n : ℕ} {out' : List ℕ} {s' : Session} {σ' : Storage} → Onward l s σ out 0 0 s' σ' out' at n → (at < length l → ends_run (get_or l at 0) ≡ true) → Called c (get_or out' 0 0) s s' σ σ'
+      go here stops = absurd (false≢true (sym one.goes_on ∙ stops (one_there l _ e)))
+      go (then {num = num} i M more) stops = after M (get_or-set_same out 0 num 0 h) more

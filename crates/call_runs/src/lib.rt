@@ -1,4 +1,6 @@
 // The sets and adds of an encoded list, made one after another on a session, up to the first flush or final.
+#![tactic(auto)]
+
 ghost use Rattle.std.specs.Prelude.{◌≡◌, false, get_or};
 ghost use Rattle.rules.specs.Encoding.{set_tag};
 ghost use Rattle.session.specs.Storage.{given, across};
@@ -11,14 +13,14 @@ use session::Session;
 use sorter::Answer;
 
 // A set or an add admitted, and the index past it.
-#[derive(Drop)]
+#[derive(Clone, Copy)]
 pub struct Admission {
     pub admitted: Admitted,
     pub next: usize,
 }
 
 // The session after some calls, the index past them, and how many they are.
-#[derive(Drop)]
+#[derive(Clone, Copy)]
 pub struct Run {
     pub session: Session,
     pub at: usize,
@@ -36,7 +38,7 @@ pub fn ends_run(tag: u64) -> bool
 }
 
 // An add's lane, and where its lists start.
-#[derive(Drop)]
+#[derive(Clone, Copy)]
 pub struct AddStart {
     pub lane: u64,
     pub lists: usize,

@@ -1,5 +1,7 @@
 // The checks of set, flush and final, in document 01's order: each function gives the number of the first that fails, or 0, and changes
 // nothing. Those of add are in add_checks.
+#![tactic(auto)]
+
 ghost use Rattle.std.specs.Prelude.{◌≡◌, ◌≤◌, length};
 ghost use Rattle.rules.specs.Checks.{verdict, waiting_needed};
 ghost use Rattle.checking.specs.Parts.{ChecksSet, flush_checks, final_checks};

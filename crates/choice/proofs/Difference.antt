@@ -7,7 +7,7 @@ use lib.Dec.{lit<, ltb}
 use lib.Signed.{lt_z}
 use mathlib.Core.Bool.{Bool, true, false, true≢false}
 use borrow.Author.Tests.{ltb-true, ltb-false}
-use lib.IntN.{ℤ, pos, nat_abs, negsuc, neg_ℤ, ◌+ℤ◌, ◌-ℤ◌, pos-+ℤ_pos, +ℤ_neg_ℤ_cancel, neg_ℤ-+ℤ, +ℤ_assoc, +ℤ_invr, +ℤ_idl}
+use lib.IntN.{ℤ, pos, nat_abs, negsuc, neg_ℤ, ◌+ℤ◌, ◌-ℤ◌, pos-+ℤ-pos, +ℤ-neg_ℤ_cancel, neg_ℤ-+ℤ, +ℤ_assoc, +ℤ_invr, +ℤ_idl}
 use mir.Syntax.{w64}
 use mir.Val.{SFits, to_z, of_z}
 use mir.Facts.{to_z_pos, to_z-of_z}
@@ -15,13 +15,13 @@ use mir.Facts.{to_z_pos, to_z-of_z}
 pub above : (a b : ℕ) → b ≤ a → pos a -ℤ pos b ≡ pos (a - b)
 above a b h =
     let e : a ≡ a - b + b = omega arith in
-    ap (λ (k : ℕ). pos k -ℤ pos b) e ∙ ap (λ (z : ℤ). z -ℤ pos b) (sym (pos-+ℤ_pos (a - b) b)) ∙ +ℤ_neg_ℤ_cancel (pos (a - b)) (pos b)
+    ap (λ (k : ℕ). pos k -ℤ pos b) e ∙ ap (λ (z : ℤ). z -ℤ pos b) (sym (pos-+ℤ-pos (a - b) b)) ∙ +ℤ-neg_ℤ_cancel (pos (a - b)) (pos b)
 
 pub below : (a b : ℕ) → a < b → pos a -ℤ pos b ≡ negsuc (b - suc a)
 below a b h =
     let e : b ≡ a + suc (b - suc a) = omega arith in
     ap (λ (k : ℕ). pos a -ℤ pos k) e
-    ∙ ap (λ (z : ℤ). pos a +ℤ neg_ℤ z) (sym (pos-+ℤ_pos a (suc (b - suc a))))
+    ∙ ap (λ (z : ℤ). pos a +ℤ neg_ℤ z) (sym (pos-+ℤ-pos a (suc (b - suc a))))
     ∙ ap (λ (z : ℤ). pos a +ℤ z) (neg_ℤ-+ℤ (pos a) (pos (suc (b - suc a))))
     ∙ sym (+ℤ_assoc (pos a) (neg_ℤ (pos a)) (negsuc (b - suc a)))
     ∙ ap (λ (z : ℤ). z +ℤ negsuc (b - suc a)) (+ℤ_invr (pos a))

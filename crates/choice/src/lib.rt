@@ -1,4 +1,6 @@
 // The parallelism rule, and the choice of a span for a value, by the window's numbers and lengths.
+#![tactic(auto)]
+
 ghost use Rattle.std.specs.Prelude.{◌≡◌, true, ◌+◌, ◌≤◌, ◌<◌};
 ghost use Rattle.rules.specs.Limits.{most_parallelism};
 ghost use Rattle.rules.specs.Guide.{parallelism};
@@ -6,7 +8,7 @@ ghost use Rattle.choice.specs.Search.{matched};
 ghost use Rattle.choice.specs.Chosen.{chosen_by};
 
 // Where a value goes: into a span of the window, or into the last of some newly opened ones.
-#[derive(Drop)]
+#[derive(Clone, Copy)]
 pub enum MatchedSpan {
     Existing(usize),
     New(u32),

@@ -1,5 +1,7 @@
 // add with its outputs flagged as taken where it is accepted, in one walk that finds one of v or more, a repeated or a taken one. Only a
 // refused call is looked at check by check, for its number.
+#![tactic(auto)]
+
 ghost use Rattle.claiming.specs.Promises.{MayAdmit, FlagsAdd, ClaimsAdd};
 
 // Whether add passes all of its checks, top being the greatest of ins; then its outputs are flagged as taken. Else storage is as it was.

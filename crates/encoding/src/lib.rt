@@ -1,7 +1,9 @@
 // Calls encoded as numbers: where a call of a list ends, how many calls there are, and a set or an add put down as numbers.
+#![tactic(auto)]
+
 ghost use Rattle.std.specs.Prelude.{◌≡◌, ◌+◌, ◌≤◌, ◌<◌, length, take, drop};
 ghost use Rattle.std.proofs.Math.Option.{none};
-ghost use Rattle.rules.specs.Calls.{set as set-call, add as add-call};
+ghost use Rattle.rules.specs.Calls.{set as set_call, add as add_call};
 ghost use Rattle.rules.specs.Encoding.{front, counted};
 ghost use Rattle.encoding.specs.Ends.{ListEnds, AddEnds, Ends, Counts};
 ghost use Rattle.encoding.specs.Put.{before_inputs, Put};
@@ -86,7 +88,7 @@ pub fn call_end(calls: &[u64], at: usize) -> usize
 }
 
 // Whether the numbers are a list of calls, and how many calls these are.
-#[derive(Drop)]
+#[derive(Clone, Copy)]
 pub struct Count {
     pub well: bool,
     pub calls: usize,
@@ -120,7 +122,7 @@ pub const BEFORE_INPUTS: usize = 3;
 // Puts a set of place x at the start of `into`; how many numbers it takes.
 pub fn put_set(into: &mut [u64], x: u64) -> usize
     requires { 2 ≤ length into.old }
-    ensures put { Put (set-call x) into.old into.new result }
+    ensures put { Put (set_call x) into.old into.new result }
     ensures takes { result ≡ 2 }
 {
     into[0] = SET;
@@ -132,7 +134,7 @@ pub fn put_set(into: &mut [u64], x: u64) -> usize
 // How many numbers it takes.
 pub fn put_add(into: &mut [u64], lane: u64, inputs: usize, outputs: usize) -> usize
     requires { inputs + outputs + 4 ≤ length into.old }
-    ensures put { Put (add-call lane (take inputs (drop before_inputs into.old)) (take outputs (drop (inputs + 4) into.old)))
+    ensures put { Put (add_call lane (take inputs (drop before_inputs into.old)) (take outputs (drop (inputs + 4) into.old)))
         into.old into.new result }
     ensures takes { result ≡ inputs + outputs + 4 }
 {

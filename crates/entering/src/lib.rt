@@ -1,5 +1,7 @@
 // The lane and the lists of an accepted registration: the lists stored behind those of the others, with the cell that says where they lie
 // and has the lane.
+#![tactic(auto)]
+
 ghost use Rattle.entering.specs.Entering.{Storing, Stores};
 
 // Registration r of v; `used` numbers of the pool are taken.

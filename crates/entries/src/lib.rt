@@ -1,5 +1,7 @@
 // Entries in flat slices, SIZE numbers each: value, added, accepted, and parallelism and lane in one. A span's entry has its parallelism
 // only once it is appended to the order, and 0 until then.
+#![tactic(auto)]
+
 ghost use Rattle.std.specs.Prelude.{◌≡◌, ◌+◌, ◌≤◌};
 ghost use Rattle.rules.specs.Limits.{most_parallelism};
 ghost use Rattle.entries.specs.Entries.{packed, unpacked, capacity, entry_at, fits, has_entry, with_parallelism, held_entry, with_entry, row, annotated, appended};
@@ -24,7 +26,7 @@ pub fn capacity(s: &[u32]) -> usize
     s.len() / SIZE
 }
 
-#[derive(Drop)]
+#[derive(Clone, Copy)]
 pub struct Entry {
     pub value: u32,
     pub added: u32,

@@ -1,13 +1,15 @@
 // Why a registration waits, asked of a session and of the storage that says who its registrations are. Nothing is written.
+#![tactic(auto)]
+
 ghost use Rattle.std.specs.Prelude.{◌≡◌, ◌+◌, ◌≤◌, length};
-ghost use Rattle.rules.specs.Model.{greatest as greatest-of};
+ghost use Rattle.rules.specs.Model.{greatest as greatest_of};
 ghost use Rattle.lists.specs.Part.{part};
 ghost use Rattle.explaining.specs.Explaining.{MayExplain, Explains};
 
 use session::Session;
 
 // Why a registration waits: its greatest input, and the lowest place that is untracked. Or the number of a refusal.
-#[derive(Drop)]
+#[derive(Clone, Copy)]
 pub enum Reason {
     Waits { input: u64, place: u64 },
     Refused { number: u64 },
@@ -16,7 +18,7 @@ pub enum Reason {
 // The greatest of the n places listed in the pool from `at` on, 0 where there are none.
 fn greatest_listed(pool: &[u32], at: usize, n: usize) -> u32
     requires { at + n ≤ length pool.now }
-    ensures { result ≡ greatest-of (part pool.now at n) }
+    ensures { result ≡ greatest_of (part pool.now at n) }
 {
     let mut m: u32 = 0;
     for j in 0..n {

@@ -1,7 +1,8 @@
 -- Laws for the loops of this crate: the sum and the median by what remains of the tally, the low counts and the sums of thousands
 -- by what the counts so far give at each index. Assumes nothing.
 use Rattle.std.specs.Prelude.{◌≡◌, refl, List, [], ◌∷◌, ◌++◌, ℕ, zero, suc, ◌+◌, ◌*◌, ◌/◌, ◌≤◌, ◌<◌, length, take, drop, get_or, set, replicate}
-use Rattle.std.proofs.Common.{sym, ap, ◌∙◌, add-one, arith, length-append, length-take, length-drop, length-set, take-suc, drop-cons, take_all, get_or-set_same, get_or-set_other, get_or-take, ext_get_or, length-take-le, le-leb}
+use Rattle.std.proofs.Common.{sym, ap, ◌∙◌, add-one, arith, length-append, length-take, length-drop, length-set, take-suc, drop-cons, take_all}
+use Rattle.std.proofs.Common.{get_or-set_same, get_or-set_other, get_or-take, ext_get_or, length-take-le, le-leb}
 use Rattle.std.proofs.Math.Decide.{ℕ_discrete, dec_lt, dec_le}
 use Rattle.std.proofs.lemmas.List.{drop-append-le, take-append-le}
 use Rattle.std.proofs.lemmas.Bool.{lt-leb}

@@ -1,5 +1,7 @@
 // The figures that final gives of a tally: the sum of its counts, the average, the median, the counts for the low parallelisms and the sums
 // of thousands (the Rust's GuideStats::finalize). The sum is at most the greatest count of registrations, 2^24.
+#![tactic(auto)]
+
 ghost use Rattle.std.specs.Prelude.{◌≡◌, false, ◌≤◌};
 ghost use Rattle.std.specs.Float.{binary32};
 ghost use Rattle.std.specs.Float.Ieee.{round};

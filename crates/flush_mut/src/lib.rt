@@ -1,7 +1,9 @@
 // flush and final on a session that its caller keeps and lends by `&mut`: thin wrappers over the calls by value of crate sorter, each with
 // the same promise. A refused call leaves session and storage as they were.
+#![tactic(auto)]
+
 ghost use Rattle.std.specs.Prelude.{◌≡◌};
-ghost use Rattle.rules.specs.Calls.{flush as flush-call};
+ghost use Rattle.rules.specs.Calls.{flush as flush_call};
 ghost use Rattle.session.specs.Storage.{given, across};
 ghost use Rattle.summary.specs.Figured.{figured};
 ghost use Rattle.admitting.specs.Promise.{Asks, Called};
@@ -23,7 +25,7 @@ pub fn flush(
     pool: &mut [u32],
 ) -> u64
     requires { Asks s.old (given spans order tally rows marks locations waiting pool) }
-    ensures { across spans order tally rows marks locations waiting pool (λ σ τ. Called flush-call result s.old s.new σ τ) }
+    ensures { across spans order tally rows marks locations waiting pool (λ σ τ. Called flush_call result s.old s.new σ τ) }
 {
     let a = sorter::flush(
         *s, spans, order, tally, rows, marks, locations, waiting, pool,

@@ -1,5 +1,7 @@
 // The work of a flush: all 32 spans are released, the rows of what was appended are filled, and the order's length is stored as written of
 // the latest registration. Flush and final both do it.
+#![tactic(auto)]
+
 ghost use Rattle.flushing.specs.Released.{MayRelease, Releases};
 
 use buffer::Guide;

@@ -1,9 +1,14 @@
 // The guide: a fresh one, placing a value, and the flush. The storage is three slices: spans (32 · (P + 1) entries), order (V entries) and
 // tally (P + 1 counts).
+#![tactic(auto)]
+
 ghost use Rattle.std.specs.Prelude.{◌≡◌};
-ghost use Rattle.rules.specs.Guide.{flush as flush-guide};
+ghost use Rattle.rules.specs.Guide.{flush as flush_guide};
 ghost use Rattle.entries.specs.Entries.{item_of};
-ghost use Rattle.placing.specs.Slices.{Standing, shown, Becomes};
+ghost use Rattle.buffer.specs.View.{view};
+ghost use Rattle.placing.specs.Stands.{Stands};
+ghost use Rattle.placing.specs.Done.{Done};
+ghost use Rattle.placing.specs.Slices.{Standing, shown};
 ghost use Rattle.guide.specs.Ready.{Ready, Near, after_of};
 ghost use Rattle.guide.specs.Pushes.{Lands};
 ghost use Rattle.guide.specs.Fresh.{first_guide};
@@ -76,9 +81,9 @@ pub fn push(
 
 // Releases all 32 spans, one after the other.
 pub fn flush(g: Guide, spans: &[u32], order: &mut [u32], tally: &mut [u32]) -> Guide
-    requires standing { Standing g spans order tally }
-    requires ready { Ready g.p g.v (shown g spans order) }
-    ensures { Becomes g result spans order tally (flush-guide g.p) }
+    requires standing { Stands g spans.now order.old tally.old }
+    requires ready { Ready g.p g.v (view g spans.now order.old) }
+    ensures { Done g result spans.now order.old tally.old spans.now order.new tally.new (flush_guide g.p (view g spans.now order.old)) }
 {
     let mut h = g;
     for i in 0..window::SPANS {

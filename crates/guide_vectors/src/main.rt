@@ -1,7 +1,12 @@
 // Runs lists of requests to the guide alone and writes the answers, the order and the tally. Standard input has the lists as 32-bit
 // numbers, low byte first: P, V, the count of requests, and six numbers a request as `guide_replay` takes them. P and V are within a job's.
 // The file stdin holds the worked placements G1 to G5 and W1 to W6 and kept lists, stdout the Rust's answers to them.
-ghost use Rattle.std.specs.Prelude.{◌≡◌, ◌+◌, ◌*◌, ◌^◌, ◌≤◌, ◌<◌};
+#![tactic(auto)]
+
+ghost use Rattle.std.specs.Prelude.{◌≡◌, ◌+◌, ◌*◌, ◌^◌, ◌≤◌, ◌<◌, length, IfOk};
+
+use std::io;
+use std::io::{Read, Stdin, Stdout, Write};
 
 // How many numbers are read, and how many requests a list may have.
 const WORDS: usize = 65536;
@@ -52,65 +57,67 @@ fn number(input: &[u8], k: usize) -> u32
     low + high
 }
 
-// One number and the byte after it.
-fn show(n: u32, after: &[u8]) {
-    io::print_decimal(1, n as u64);
-    io::write_all(1, after);
-}
-
 // A line of four numbers.
-fn show_line(a: u32, b: u32, c: u32, d: u32) {
-    show(a, b" ");
-    show(b, b" ");
-    show(c, b" ");
-    show(d, b"\n");
+fn show_line(out: &mut Stdout, a: u32, b: u32, c: u32, d: u32) -> io::Result<()> {
+    writeln!(out, "{a} {b} {c} {d}")
 }
 
 // The line of the answer from i on: the number, the location, the order's length.
-fn show_answer(answers: &[u32], i: usize)
+fn show_answer(out: &mut Stdout, answers: &[u32], i: usize) -> io::Result<()>
     requires { i < 2 ^ 32 }
 {
     if i + 4 <= answers.len() {
-        show_line(answers[i], answers[i + 1], answers[i + 2], answers[i + 3]);
+        show_line(
+            out,
+            answers[i],
+            answers[i + 1],
+            answers[i + 2],
+            answers[i + 3],
+        )?;
     }
+    Ok(())
 }
 
 // A line for each of n answers.
-fn show_answers(answers: &[u32], n: usize)
+fn show_answers(out: &mut Stdout, answers: &[u32], n: usize) -> io::Result<()>
     requires { n < 65536 }
 {
     for k in 0..n {
-        show_answer(answers, alone_list::ANSWER_SIZE * k);
+        show_answer(out, answers, alone_list::ANSWER_SIZE * k)?;
     }
+    Ok(())
 }
 
 // A line for each of n entries: value, added, accepted, and parallelism with the lane, which is 0.
-fn show_order(order: &[u32], n: usize) {
+fn show_order(out: &mut Stdout, order: &[u32], n: usize) -> io::Result<()> {
     for k in 0..n {
         if k < entries::capacity(order) {
             let e = entries::load(order, k);
             show_line(
+                out,
                 e.value,
                 e.added,
                 e.accepted,
                 entries::packed(e.parallelism, e.lane),
-            );
+            )?;
         }
     }
+    Ok(())
 }
 
 // The counts on one line.
-fn show_counts(tally: &[u32], n: usize) {
+fn show_counts(out: &mut Stdout, tally: &[u32], n: usize) -> io::Result<()> {
     for k in 0..n {
         if k < tally.len() {
-            show(tally[k], b" ");
+            let count = tally[k];
+            write!(out, "{count} ")?;
         }
     }
-    io::write_all(1, b"\n");
+    writeln!(out)
 }
 
 // n requests, run on a fresh guide: the opening's number, the answers, the order and the tally.
-fn run_list(p: u32, v: u32, requests: &[u32], n: usize)
+fn run_list(out: &mut Stdout, p: u32, v: u32, requests: &[u32], n: usize) -> io::Result<()>
     requires { n ≤ 128 }
 {
     let mut spans = [0u32; SPANS];
@@ -126,45 +133,45 @@ fn run_list(p: u32, v: u32, requests: &[u32], n: usize)
         &mut tally,
         &mut answers,
     );
-    show(number, b"\n");
-    show_answers(&answers, n);
+    writeln!(out, "{number}")?;
+    show_answers(out, &answers, n)?;
     if 0 < n {
         let last = alone_list::ANSWER_SIZE * (n - 1) + 3;
         let written = size(answers[last]);
         if written < rules::JOB_PLACES {
-            show_order(&order, written);
+            show_order(out, &order, written)?;
         }
     }
-    show_counts(&tally, size(p) + 1);
+    show_counts(out, &tally, size(p) + 1)
 }
 
 // The list at index `at`, and where the next one begins; 0 at the end.
-fn next_list(words: &[u32], at: usize) -> usize
+fn next_list(out: &mut Stdout, words: &[u32], at: usize) -> io::Result<usize>
     requires { at ≤ 65536 }
-    ensures { result ≤ 65536 }
+    ensures { IfOk result (λ next. next ≤ 65536) }
 {
     if words.len() < at + 3 {
-        return 0;
+        return Ok(0);
     }
     let p = words[at];
     let v = words[at + 1];
     let n = size(words[at + 2]);
     if p == 0 {
-        return 0;
+        return Ok(0);
     }
     if REQUESTS < n {
-        return 0;
+        return Ok(0);
     }
     let from = at + 3;
     let to = from + alone_list::REQUEST_SIZE * n;
     if words.len() < to {
-        return 0;
+        return Ok(0);
     }
     if WORDS < to {
-        return 0;
+        return Ok(0);
     }
-    run_list(p, v, &words[from..to], n);
-    to
+    run_list(out, p, v, &words[from..to], n)?;
+    Ok(to)
 }
 
 fn put_word(words: &mut [u32], k: usize, x: u32) {
@@ -181,20 +188,36 @@ fn read_words(input: &[u8], words: &mut [u32]) {
 }
 
 // All lists, at most 256.
-fn run_all(words: &[u32]) {
+fn run_all(out: &mut Stdout, words: &[u32]) -> io::Result<()> {
     let mut at: usize = 0;
     for i in 0..256u32 {
-        at = next_list(words, at);
+        at = next_list(out, words, at)?;
         if at == 0 {
-            return;
+            return Ok(());
         }
     }
+    Ok(())
 }
 
-fn main() {
+// Reads to the end of the input, or until the room is full; so many bytes were read.
+fn read_full(stdin: &mut Stdin, input: &mut [u8]) -> io::Result<usize>
+    ensures { IfOk result (λ n. n ≤ length input.old) }
+{
+    let mut done = 0;
+    while done < input.len() {
+        let more = stdin.read(&mut input[done..])?;
+        if more == 0 {
+            return Ok(done);
+        }
+        done += more;
+    }
+    Ok(done)
+}
+
+fn main(rt: HostRuntime) -> io::Result<()> {
     let mut input = [0u8; 262144];
-    let n = io::read_full(0, &mut input);
+    let n = read_full(&mut rt.stdin(), &mut input)?;
     let mut words = [0u32; 65536];
     read_words(&input[..n], &mut words);
-    run_all(&words);
+    run_all(&mut rt.stdout(), &words)
 }

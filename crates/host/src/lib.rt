@@ -1,4 +1,6 @@
 // The host's call: job bytes in, listing bytes out.
+#![tactic(auto)]
+
 ghost use Rattle.host.specs.Called.{Called};
 
 use job_reply::Reply;

@@ -1,4 +1,6 @@
 // A job run on a session: its head, opening, then call by call to its end.
+#![tactic(auto)]
+
 ghost use Rattle.std.specs.Prelude.{◌≡◌, length};
 ghost use Rattle.session.specs.Storage.{given, across};
 ghost use Rattle.job.specs.Run.{MayRun, Runs, unopened_at, Room, Ran};
@@ -12,7 +14,7 @@ use session::Session;
 pub const CALL_NUMBERS: usize = rules::MOST_JOB_BYTES / 2 + 4;
 
 // How a job ended, and the session where it stopped; where none was opened, one of parallelism 0 and 0 places.
-#[derive(Drop)]
+#[derive(Clone, Copy)]
 pub struct Ended {
     pub end: End,
     pub session: Session,

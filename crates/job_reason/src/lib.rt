@@ -1,4 +1,6 @@
 // Why a registration waits after a job: the job is run, on storage of its own like job_reply's, and its session asked where it stopped.
+#![tactic(auto)]
+
 ghost use Rattle.std.specs.Prelude.{◌≡◌, ◌≤◌, length};
 ghost use Rattle.rules.specs.Reason.{stopped, reason_lines};
 ghost use Rattle.writer.specs.Wrote.{Wrote};
@@ -10,7 +12,7 @@ use jobturn::End;
 use session::Session;
 
 // The answer after a job: that of its session, or the line and the number of its refusal.
-#[derive(Drop)]
+#[derive(Clone, Copy)]
 pub enum JobReason {
     Stopped { reason: Reason },
     Refused { line: u64, code: u64 },

@@ -1,4 +1,6 @@
 // The answer to a job: job bytes in, listing bytes out, on storage of its own for the greatest P and V and the W of a job (crate rules).
+#![tactic(auto)]
+
 ghost use Rattle.std.specs.Prelude.{◌≡◌, length};
 ghost use Rattle.rules.specs.Limits.{program_listing_bytes};
 ghost use Rattle.job_reply.specs.Reply.{Replied, Answered};
@@ -6,7 +8,7 @@ ghost use Rattle.job_reply.specs.Reply.{Replied, Answered};
 use jobturn::End;
 
 // The answer to a job: the listing's length, or the line and the number of its refusal.
-#[derive(Drop)]
+#[derive(Clone, Copy)]
 pub enum Reply {
     Listed { length: usize },
     Refused { line: u64, code: u64 },

@@ -125,12 +125,12 @@ run_first P N W rag k n ls = run_nothing P N W rag k n ls ∙ go (first_line ls)
   where
     go : (l : rule.Line) → acts P N W rag k n (rule.start_of l) (other_lines ls) ≡ goes P N W (started n l (other_lines ls)) rag k
     go (rule.set_line x) = refl
-    go (rule.lane-line lane) = run_after_lane P N W rag k (suc n) lane (other_lines ls)
+    go (rule.lane_line lane) = run_after_lane P N W rag k (suc n) lane (other_lines ls)
     go (rule.in_line ins) = run_added P N W rag k (suc n) 0 ins (other_lines ls)
     go rule.flush_line = refl
-    go rule.final-line = refl
+    go rule.final_line = refl
     go (rule.parallelism_line x) = refl
-    go (rule.places-line x) = refl
+    go (rule.places_line x) = refl
     go (rule.out_line outs) = refl
     go rule.malformed = refl
 

@@ -1,11 +1,13 @@
 // The calls of a job, read line by line: the two lines of its head, then one call after another, each from the place after the one before.
+#![tactic(auto)]
+
 ghost use Rattle.std.specs.Prelude.{◌+◌, ◌*◌, ◌≤◌, length};
 ghost use Rattle.jobcalls.specs.Told.{LineAt, AddRead, NextCall, HeadRead};
 
 use jobline::Line;
 
 // A line, and the place after it. A missing line is malformed, and the place is where it was looked for.
-#[derive(Drop)]
+#[derive(Clone, Copy)]
 pub struct Got {
     pub line: Line,
     pub next: usize,
@@ -32,7 +34,7 @@ pub fn line_at(job: &[u8], at: usize, into: &mut [u64], off: usize) -> Got
 
 // A call that others may follow. The numbers of an add's lists stand in storage, the inputs first, the outputs behind them, with one number
 // between that is left free, for the outputs' count.
-#[derive(Drop)]
+#[derive(Clone, Copy)]
 pub enum Call {
     Set {
         place: u64,
@@ -47,7 +49,7 @@ pub enum Call {
 
 // The next call of a job, or final, with the line that it is refused on and the place after it; or the line of it that is missing or
 // malformed.
-#[derive(Drop)]
+#[derive(Clone, Copy)]
 pub enum Next {
     Call { call: Call, line: u64, next: usize },
     Final { line: u64, next: usize },
@@ -115,7 +117,7 @@ pub fn next_call(job: &[u8], at: usize, line: u64, into: &mut [u64]) -> Next
 }
 
 // P and V, and the place after the head; or the line of it that is missing or malformed.
-#[derive(Drop)]
+#[derive(Clone, Copy)]
 pub enum Head {
     Sizes { p: u64, v: u64, next: usize },
     Malformed { line: u64 },

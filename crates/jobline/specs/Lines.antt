@@ -22,13 +22,13 @@ pub record NoAdd (s : List ℕ) : Type 0 where
 -- the line that an answer tells, the numbers of its list standing at the start of `read`
 abbrev pub line_as : Line → List ℕ → rule.Line
 line_as (line.Parallelism n) read = rule.parallelism_line n
-line_as (line.Places n) read = rule.places-line n
+line_as (line.Places n) read = rule.places_line n
 line_as (line.Set n) read = rule.set_line n
-line_as (line.Lane n) read = rule.lane-line n
+line_as (line.Lane n) read = rule.lane_line n
 line_as (line.Inputs n) read = rule.in_line (take n read)
 line_as (line.Outputs n) read = rule.out_line (take n read)
 line_as line.Flush read = rule.flush_line
-line_as line.Final read = rule.final-line
+line_as line.Final read = rule.final_line
 line_as line.Malformed read = rule.malformed
 
 -- how many numbers its list has

@@ -1,4 +1,6 @@
 // The lines of a job: what a line says.
+#![tactic(auto)]
+
 ghost use Rattle.std.specs.Prelude.{◌≡◌, ◌+◌, ◌*◌, ◌<◌, length};
 ghost use Rattle.jobline.specs.Lines.{begins, NoAdd, PlainRead, LineRead};
 
@@ -37,7 +39,7 @@ fn starts(s: &[u8], key: &[u8]) -> bool
 }
 
 // What a line says. The numbers of a list stand in storage, and the case has their count.
-#[derive(Drop)]
+#[derive(Clone, Copy)]
 pub enum Line {
     Parallelism(u64),
     Places(u64),

@@ -67,12 +67,12 @@ module _ (rag : Bool) (c : rule.Needs) where
     where
       go : (x : job_rule.Line) → job_rule.line_of l ≡ x → need_lines n nothing (l ∷ ls) rag c ≡ goes (started n (job_rule.line_of l) ls) rag c
       go (job_rule.set_line x) e = rw (need_lines, started, e)
-      go (job_rule.lane-line lane) e = rw (need_lines, started, e) (need_after_lane (suc n) lane ls)
+      go (job_rule.lane_line lane) e = rw (need_lines, started, e) (need_after_lane (suc n) lane ls)
       go (job_rule.in_line ins) e = rw (need_lines, started, e) (need_added (suc n) 0 ins ls)
       go job_rule.flush_line e = rw (need_lines, started, e)
-      go job_rule.final-line e = rw (need_lines, started, e)
+      go job_rule.final_line e = rw (need_lines, started, e)
       go (job_rule.parallelism_line x) e = rw (need_lines, started, e)
-      go (job_rule.places-line x) e = rw (need_lines, started, e)
+      go (job_rule.places_line x) e = rw (need_lines, started, e)
       go (job_rule.out_line outs) e = rw (need_lines, started, e)
       go job_rule.malformed e = rw (need_lines, started, e)
 

@@ -1,4 +1,6 @@
 // What a job needs, read off its lines: registrations, the numbers in their lists and plain flushes. Nothing is run.
+#![tactic(auto)]
+
 ghost use Rattle.std.specs.Prelude.{◌≡◌, length};
 ghost use Rattle.rules.specs.Needs as rules;
 ghost use Rattle.jobneeds.specs.Told.{needs_of, reading_as, Countable, Counts, Few, remains, MayRead};
@@ -12,7 +14,7 @@ const SPANS_A_PLACING: u64 = 2;
 const SPANS_A_FLUSH: u64 = window::SPANS as u64;
 
 // Registrations, the numbers in all their lists, and plain flushes.
-#[derive(Drop)]
+#[derive(Clone, Copy)]
 pub struct Needs {
     pub registrations: u64,
     pub pool: u64,
@@ -20,7 +22,7 @@ pub struct Needs {
 }
 
 // What is read off a job: its needs, or the line and the number of its refusal.
-#[derive(Drop)]
+#[derive(Clone, Copy)]
 pub enum Reading {
     Needing { needs: Needs },
     Unread { line: u64, code: u64 },

@@ -1,7 +1,9 @@
 // The text of a job below its lines: the first byte of a kind, the end of a line, a number, a list of numbers.
+#![tactic(auto)]
+
 ghost use Rattle.std.specs.Prelude.{[], ◌∷◌, ◌++◌, ◌≡◌, ◌+◌, ◌*◌, ◌≤◌, ◌<◌, length, take, drop};
 ghost use Rattle.rules.specs.Model.{member};
-ghost use Rattle.rules.specs.Job.{digits_from, in_64_bits, number as Job·number, list};
+ghost use Rattle.rules.specs.Job.{digits_from, in_64_bits, number as Job·number};
 ghost use Rattle.jobtext.specs.Text.{before, line_end, low_bytes, marks, Passed, value_of, ListRead};
 
 // The place of the first byte `b` at or after `from`, or the length where there is none.
@@ -130,7 +132,7 @@ pub extern "C" fn job_line_end(job: &[u8], from: usize) -> usize
     line_end(job, from)
 }
 
-#[derive(Drop)]
+#[derive(Clone, Copy)]
 pub enum Number {
     Value(u64),
     Malformed,
@@ -179,7 +181,7 @@ pub fn read_number(s: &[u8]) -> Number
     digits(s)
 }
 
-#[derive(Drop)]
+#[derive(Clone, Copy)]
 pub enum Items {
     Count(usize),
     Malformed,

@@ -1,4 +1,6 @@
 // One turn of a job: its next call is read and made.
+#![tactic(auto)]
+
 ghost use Rattle.std.specs.Prelude.{◌+◌, ◌*◌, ◌≤◌, ◌<◌, ◌^◌, length, drop};
 ghost use Rattle.encoding.specs.Put.{before_inputs};
 ghost use Rattle.session.specs.Storage.{given, across};
@@ -65,7 +67,7 @@ fn make(
 
 // The numbers of a finished job that the head of its listing is made from: P, the order's length, the places that final fixed and the
 // median of its summary.
-#[derive(Drop)]
+#[derive(Clone, Copy)]
 pub struct EndFigures {
     pub parallelism: u32,
     pub written: u32,
@@ -74,14 +76,14 @@ pub struct EndFigures {
 }
 
 // How a job ends: with final accepted, or refused on a line with a number.
-#[derive(Drop)]
+#[derive(Clone, Copy)]
 pub enum End {
     Finished { figures: EndFigures },
     Rejected { line: u64, code: u64 },
 }
 
 // What follows a call: the place and the line of the next one, or the job's end.
-#[derive(Drop)]
+#[derive(Clone, Copy)]
 pub enum Step {
     On { next: usize, line: u64 },
     Ended { end: End },
@@ -120,7 +122,7 @@ fn after_final(number: u64, line: u64, next: usize, length: usize, figures: EndF
 }
 
 // What follows a call, with the session after it.
-#[derive(Drop)]
+#[derive(Clone, Copy)]
 pub struct Turn {
     pub step: Step,
     pub session: Session,

@@ -1,1 +1,2 @@
-// That lanes never influence placement: all of it stands in specs/.
+// That lanes never influence placement: the claims stand in specs/, their proofs in proofs/.
+#![tactic(auto)]

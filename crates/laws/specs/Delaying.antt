@@ -175,8 +175,8 @@ unfolding rest keep reg_of
 rest_reg N j r = refl
 
 -- when the watermark has moved, what comes off leaves the sentence true
-module _ (P N : ℕ) (k j : Model) (st st' : List ℕ) (v : Inv P N k st) (p : Delaying N k st) (Adds_same : j.adds ≡ k.adds) (pending_same : j.pending ≡ k.pending)
-    (Reg_same : (r : ℕ) → reg_of j r ≡ reg_of k r) (grows : (i : ℕ) → tracked k i ≡ true → tracked j i ≡ true) where
+module _ (P N : ℕ) (k j : Model) (st st' : List ℕ) (v : Inv P N k st) (p : Delaying N k st) (adds_same : j.adds ≡ k.adds) (pending_same : j.pending ≡ k.pending)
+    (reg_same : (r : ℕ) → reg_of j r ≡ reg_of k r) (grows : (i : ℕ) → tracked k i ≡ true → tracked j i ≡ true) where
   mono : watermark N k ≤ watermark N j
   mono = watermark_mono N k j grows
 
@@ -188,13 +188,13 @@ module _ (P N : ℕ) (k j : Model) (st st' : List ℕ) (v : Inv P N k st) (p : D
       record {
         sorted = rw rest_left (left_sorted (watermark N j) k.pending p.sorted);
         above = λ w h. over w (rw rest_left at h);
-        others = λ r h. rw (watermark_rest, rest_reg, Reg_same) (go r (p.others r (rw (rest_adds, Adds_same) at h)));
+        others = λ r h. rw (watermark_rest, rest_reg, reg_same) (go r (p.others r (rw (rest_adds, adds_same) at h)));
       }
     where
       over : (w : Pending) → Memᴰ w (left (watermark N j) k.pending) → ready (watermark N (rest N j)) (reg_of (rest N j) w.reg).ins ≡ false
       over w h =
           let o = left_from (watermark N j) k.pending w h in
-          rw (watermark_rest, rest_reg, Reg_same) (ready_off (watermark N k) (watermark N j) (reg_of k w.reg).ins
+          rw (watermark_rest, rest_reg, reg_same) (ready_off (watermark N k) (watermark N j) (reg_of k w.reg).ins
           (omega (arith, left_above (watermark N j) k.pending p.sorted w h, (v.pending_ok w o).1)) (p.above w o))
 
       go : (r : ℕ) → IsPending k r ⊎ (ready (watermark N k) (reg_of k r).ins ≡ true) → IsPending (rest N j) r ⊎ (ready (watermark N j) (reg_of k r).ins ≡ true)

@@ -1,7 +1,9 @@
 -- The invariant of the guide: the order holds the released spans of a history whose last 32 spans are the window, and spans 1 to 31
 -- have at most P entries. Releasing, flushing and putting an entry keep it; the lengths that a release uses are final.
 use Rattle.std.specs.Prelude.{◌≡◌, refl, List, [], ◌∷◌, ◌++◌, ◌⊎◌, ◌≢◌, Bool, true, false, ℕ, zero, suc, ◌+◌, ◌≤◌, ◌<◌, length, take, drop, get_or, set, replicate, eqb}
-use Rattle.std.proofs.Common.{sym, ap, ◌∙◌, append_assoc, append-nil, inl, inr, arith, add-zero, add-suc, suc-add, zero-add, length-append, length-take, length-drop, length-set, take-append-drop, get_or-append-add, get_or-drop, get_or-set_same, get_or-set_other, eqb-true}
+use Rattle.std.proofs.Common.{sym, ap, ◌∙◌, append_assoc, append-nil, inl, inr, arith, add-zero, add-suc, suc-add, zero-add, length-append}
+use Rattle.std.proofs.Common.{length-take, length-drop, length-set, take-append-drop, get_or-append-add, get_or-drop, get_or-set_same}
+use Rattle.std.proofs.Common.{get_or-set_other, eqb-true}
 use Rattle.std.proofs.lemmas.List.{length-replicate, set-append_left}
 use Rattle.std.proofs.Math.ListN.{get_or-append}
 use Rattle.std.proofs.lemmas.Bool.{eqb-false}

@@ -15,7 +15,7 @@ use Rattle.laws.specs.History.{len}
 use Rattle.laws.specs.GuideInv.{Later, len_append}
 use Rattle.laws.specs.ModelBase.{In, bool_cases, member_in, entry_at, no_entry, in_range, top_le, loc_of_none, watermark_le}
 use Rattle.laws.specs.ModelInv.{hist}
-use Rattle.laws.specs.Balance.{hsum, qsum, lsum, below, Balance, core_sum}
+use Rattle.laws.specs.Balance.{hsum, qsum, lsum, Balance, core_sum}
 use Rattle.laws.specs.Once.{hsum_at, one_of, one_same, below_le, wsum_one, qsum_one, hsum_one, below_all}
 use Rattle.laws.specs.Ceiling.{ended}
 use Rattle.laws.specs.Delaying.{Sorted, not_ready}

@@ -54,7 +54,7 @@ module _ (P N W : ℕ) (hP : 1 ≤ P) where
 
   -- the invariants that make up `Sound`, named
   data Part : Type 0 where
-    the_inv the_ceiling the_apart the_delaying the_done the_limits TheInside the_entries : Part
+    the_inv the_ceiling the_apart the_delaying the_done the_limits the_inside the_entries : Part
     the_balance : (ℕ → ℕ) → Part
 
   Says : Part → Model → List ℕ → Type 0
@@ -65,7 +65,7 @@ module _ (P N W : ℕ) (hP : 1 ≤ P) where
   Says the_delaying = Delaying N
   Says the_done = Done
   Says the_limits = Limits N W
-  Says TheInside = Inside N
+  Says the_inside = Inside N
   Says the_entries = Entries N
 
   part_kept : (p : Part) → Kept P N W (Says p)
@@ -77,7 +77,7 @@ module _ (P N W : ℕ) (hP : 1 ≤ P) where
   part_kept the_delaying = delaying_kept P N W hP
   part_kept the_done = done_kept P N W hP
   part_kept the_limits = limits_kept P N W
-  part_kept TheInside = inside_kept P N W
+  part_kept the_inside = inside_kept P N W
   part_kept the_entries = entries_kept P N W hP
 
   joined : (k : Model) (st : List ℕ) → ((p : Part) → Says p k st) → Sound P N W k st
@@ -91,7 +91,7 @@ module _ (P N W : ℕ) (hP : 1 ≤ P) where
         delaying = f the_delaying;
         done = f the_done;
         limits = f the_limits;
-        inside = f TheInside;
+        inside = f the_inside;
         entries = f the_entries;
       }
 
@@ -104,7 +104,7 @@ module _ (P N W : ℕ) (hP : 1 ≤ P) where
   taken_apart k st s the_delaying = s.delaying
   taken_apart k st s the_done = s.done
   taken_apart k st s the_limits = s.limits
-  taken_apart k st s TheInside = s.inside
+  taken_apart k st s the_inside = s.inside
   taken_apart k st s the_entries = s.entries
 
   -- and all of them

@@ -1,1 +1,2 @@
 // What holds of document 01's definitions: all of it stands in specs/.
+#![tactic(auto)]

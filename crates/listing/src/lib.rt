@@ -1,4 +1,6 @@
 // The listing of an accepted job from the session's order and rows, and what a refused job prints.
+#![tactic(auto)]
+
 ghost use Rattle.std.specs.Prelude.{◌≡◌, ◌+◌, ◌*◌, ◌≤◌, ◌<◌, ◌^◌, length};
 ghost use Rattle.rules.specs.Listing.{least as Listing·least, floor as Listing·floor, entry_line, rejection};
 ghost use Rattle.entries.specs.Entries.{entry_of, fits};

@@ -1,7 +1,9 @@
 // A call's lists of places, looked at as arguments. How such a list lies in the pool is said in specs/Part.
+#![tactic(auto)]
+
 ghost use Rattle.std.specs.Prelude.{◌≡◌, ◌||◌, length, leb, ltb};
 ghost use Rattle.rules.specs.Limits.{most_in_a_list};
-ghost use Rattle.rules.specs.Model.{greatest as greatest-of};
+ghost use Rattle.rules.specs.Model.{greatest as greatest_of};
 ghost use Rattle.rules.specs.Checks.{any};
 
 // Whether there are more inputs or outputs than a registration may have.
@@ -30,7 +32,7 @@ pub fn any_at_least(xs: &[u64], bound: u64) -> bool
 
 // The greatest of xs, 0 where there are none.
 pub fn greatest(xs: &[u64]) -> u64
-    ensures { result ≡ greatest-of xs.now }
+    ensures { result ≡ greatest_of xs.now }
 {
     let mut m: u64 = 0;
     let mut i = 0;

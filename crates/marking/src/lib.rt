@@ -1,8 +1,10 @@
 // A set place: its mark and its flag, the watermark, and the registrations that come off.
+#![tactic(auto)]
+
 ghost use Rattle.marking.specs.Marking.{Marking, Marks};
 
 // The watermark, and the top link of the stack of what came off.
-#[derive(Drop)]
+#[derive(Clone, Copy)]
 pub struct Marked {
     pub watermark: usize,
     pub top: u64,

@@ -217,9 +217,9 @@ begins {P} {N} {s} {t} {rs} {m} {l} {w} {t'} {rs'} {m'} {l'} {w'} es c =
     record { opens = λ sp o pool e. opens_done P N sp o t rs m l w pool s t' rs' m' l' w' e es c }
 
 -- what opening promises, of a function's slices and for every pool
-abbrev pub OpensOver : ℕ → ℕ → ℕ → Session → Borrowed → Borrowed → Borrowed → Borrowed → Borrowed → Borrowed → Borrowed → Type 0
+abbrev pub OpensOver : ℕ → ℕ → ℕ → Session → List ℕ → List ℕ → Borrowed → Borrowed → Borrowed → Borrowed → Borrowed → Type 0
 OpensOver P N n s spans order tally rows marks locations waiting =
     (pool : List ℕ)
     → Opens P N n s
-    (storage spans.entry.now order.entry.now tally.entry.now rows.entry.now marks.entry.now locations.entry.now waiting.entry.now pool)
-    (storage spans.exit.now order.exit.now tally.exit.now rows.exit.now marks.exit.now locations.exit.now waiting.exit.now pool)
+    (storage spans order tally.entry.now rows.entry.now marks.entry.now locations.entry.now waiting.entry.now pool)
+    (storage spans order tally.exit.now rows.exit.now marks.exit.now locations.exit.now waiting.exit.now pool)

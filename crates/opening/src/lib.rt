@@ -1,4 +1,6 @@
 // Opening a session on storage that the caller provides: refusals 1 and 2, and the fresh state.
+#![tactic(auto)]
+
 ghost use Rattle.std.specs.Prelude.{◌≡◌, ◌≤◌, length};
 ghost use Rattle.rules.specs.Limits.{most_parallelism, most_places};
 ghost use Rattle.rules.specs.Checks.{verdict, check_open, too_short};
@@ -7,7 +9,7 @@ ghost use Rattle.opening.specs.Opened.{sizes_of, Lengths, ClearsOver, BeginsOver
 use session::Session;
 
 // Opening's number, 0 if it was accepted, and the session. Refused, the session is of parallelism 0 and 0 places.
-#[derive(Drop)]
+#[derive(Clone, Copy)]
 pub struct Opened {
     pub number: u64,
     pub session: Session,
@@ -152,7 +154,7 @@ pub fn open(
     p: u64,
     v: u64,
 ) -> Opened
-    ensures { OpensOver p v result.number result.session spans order tally rows marks locations waiting }
+    ensures { OpensOver p v result.number result.session spans.now order.now tally rows marks locations waiting }
 {
     let n = check_open(
         spans.len(),

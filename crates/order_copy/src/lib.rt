@@ -1,5 +1,7 @@
 // An order of entry structs beside the flat one: one entry copied, and the checks before copying. Crate order_entries has the loop, as
 // the call that hosts make.
+#![tactic(auto)]
+
 ghost use Rattle.std.specs.Prelude.{◌≡◌, ◌<◌, ◌-◌, length, set};
 ghost use Rattle.rules.specs.Calls.{unless_refused};
 ghost use Rattle.entries.specs.Entries.{fits};
@@ -8,7 +10,7 @@ ghost use Rattle.order_copy.specs.Copied.{wide_entry, check_new};
 
 // An entry of the order (the Rust's OrderInfo), laid out as in C: 16 bytes.
 #[repr(C)]
-#[derive(Drop)]
+#[derive(Clone, Copy)]
 pub struct OrderInfo {
     pub value: u32,
     pub added: u32,

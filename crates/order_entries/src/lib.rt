@@ -1,5 +1,7 @@
 // The order as a lent slice of entry structs. The session keeps its order as a flat slice of numbers (crate entries); a caller that wants
 // structs lends a slice of them beside it and after each call has the new entries copied there.
+#![tactic(auto)]
+
 ghost use Rattle.std.specs.Prelude.{◌≡◌, length};
 ghost use Rattle.rules.specs.Calls.{unless_refused};
 ghost use Rattle.order_copy.specs.Copied.{copied, check_new};

@@ -2,7 +2,7 @@
 -- that a contract names each slice once. Assumes nothing.
 use Rattle.std.specs.Prelude.{List, ℕ}
 use denote.Triple.Both.{Both}
-use Rattle.std.specs.Borrow.{Bor}
+use Rattle.std.specs.Borrow.{MutBor}
 use Rattle.rules.specs.Guide.{Guide as GuideModel}
 use Rattle.buffer.specs.declared.Guide.{Guide}
 use Rattle.buffer.specs.View.{view}
@@ -11,7 +11,7 @@ use Rattle.placing.specs.Done.{Done}
 
 -- a slice as it is given to a function; a slice before and after it
 abbrev pub Slice : Type 0
-Slice = Bor (List ℕ)
+Slice = MutBor (List ℕ)
 
 abbrev pub Borrowed : Type 0
 Borrowed = Both Slice Slice

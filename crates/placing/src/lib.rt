@@ -1,17 +1,20 @@
 // The steps of placing over the guide's storage: the release of span 0, and spans opened.
+#![tactic(auto)]
+
 ghost use Rattle.std.specs.Prelude.{◌≡◌, ◌≤◌};
 ghost use Rattle.rules.specs.Guide.{release};
 ghost use Rattle.buffer.specs.Moves.{released_guide};
-ghost use Rattle.placing.specs.Done.{Free, FreeTwo};
-ghost use Rattle.placing.specs.Slices.{Standing, Becomes};
+ghost use Rattle.buffer.specs.View.{view};
+ghost use Rattle.placing.specs.Stands.{Stands};
+ghost use Rattle.placing.specs.Done.{Done, Free, FreeTwo};
 
 use buffer::Guide;
 
 // Releases span 0: its entries are appended to the order and counted, and the window is rotated.
 pub fn release_one(g: Guide, spans: &[u32], order: &mut [u32], tally: &mut [u32]) -> Guide
-    requires standing { Standing g spans order tally }
+    requires standing { Stands g spans.now order.old tally.old }
     requires free { Free g }
-    ensures becomes { Becomes g result spans order tally (release g.p 1) }
+    ensures becomes { Done g result spans.now order.old tally.old spans.now order.new tally.new (release g.p 1 (view g spans.now order.old)) }
     ensures rotated { result ≡ released_guide g }
 {
     let w = g.window;
@@ -24,10 +27,10 @@ pub fn release_one(g: Guide, spans: &[u32], order: &mut [u32], tally: &mut [u32]
 
 // Opens n spans, 1 or 2, releasing as many.
 pub fn open_spans(g: Guide, spans: &[u32], order: &mut [u32], tally: &mut [u32], n: u32) -> Guide
-    requires standing { Standing g spans order tally }
+    requires standing { Stands g spans.now order.old tally.old }
     requires free_two { FreeTwo g }
     requires le_n { (1 ≤ n) × (n ≤ 2) }
-    ensures { Becomes g result spans order tally (release g.p n) }
+    ensures { Done g result spans.now order.old tally.old spans.now order.new tally.new (release g.p n (view g spans.now order.old)) }
 {
     let mut h = release_one(g, spans, order, tally);
     if n == 2 {

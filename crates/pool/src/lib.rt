@@ -1,6 +1,8 @@
 // The lists of accepted registrations: the inputs and then the outputs of each, one after the other, in the pool. A cell of the waiting
 // storage for each registration says where its lists start, how many inputs it has, and its lane. This crate alone knows where a cell lies:
 // of the quarters of v numbers, the third holds them.
+#![tactic(auto)]
+
 ghost use Rattle.std.specs.Prelude.{◌≡◌, ◌≤◌, ◌<◌, length};
 ghost use Rattle.rules.specs.Checks.{waiting_needed};
 ghost use Rattle.pool.specs.Lists.{lane_limit, inputs_limit, start_limit, stored, Storable, with_cell, start_of, inputs_of, lane_of, end_of};

@@ -1,4 +1,6 @@
 // An entry put into a span of the window, or into a newly opened one.
+#![tactic(auto)]
+
 ghost use Rattle.std.specs.Prelude.{◌≡◌, ◌+◌, ◌<◌, ◌≤◌};
 ghost use Rattle.rules.specs.Guide.{put, release, settle};
 ghost use Rattle.entries.specs.Entries.{item_of};
@@ -11,7 +13,7 @@ use entries::Entry;
 use window::Window;
 
 // A guide with the location that a placing gave.
-#[derive(Drop)]
+#[derive(Clone, Copy)]
 pub struct Pushed {
     pub guide: Guide,
     pub span: u32,

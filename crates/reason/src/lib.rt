@@ -1,4 +1,6 @@
 // Why a registration waits, for hosts, by one number: after an encoded list of calls on a fresh session, and after a job.
+#![tactic(auto)]
+
 ghost use Rattle.std.specs.Prelude.{◌≡◌};
 ghost use Rattle.rules.specs.Reason.{reason_number};
 ghost use Rattle.session.specs.Storage.{across};

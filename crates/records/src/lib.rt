@@ -1,5 +1,7 @@
 // Record rows, SIZE numbers each: added, accepted, written, order index, and parallelism and lane in one. When entries were appended to the
 // order, the rows of their registrations are filled, all but written, which is stored apart.
+#![tactic(auto)]
+
 ghost use Rattle.std.specs.Prelude.{◌≡◌, ◌+◌, ◌^◌, ◌<◌};
 ghost use Rattle.entries.specs.Entries.{row, fits};
 ghost use Rattle.records.specs.Filling.{has_row, written_at, with_written, fill_one, filled, Fillable};

@@ -15,6 +15,7 @@ In r (x ∷ l) = (x ≡ r) ⊎ In r l
 
 pub in_occurs : (r : ℕ) (l : List ℕ) → In r l → 1 ≤ occurs r l
 unfolding occurs
+in_occurs r [] h = elim h [ ]
 in_occurs r (x ∷ l) (inl e) = rw (eq-eqb r x (sym e)) (omega arith)
 in_occurs r (x ∷ l) (inr h) = omega (arith, in_occurs r l h)
 
@@ -42,6 +43,7 @@ chain_le w v n h (r ∷ l) c = omega (arith, c.0, c.1)
 
 -- all of a chain are below its bound
 pub chain_below : (w : List ℕ) (v n h : ℕ) (l : List ℕ) → Chain w v n h l → (r : ℕ) → In r l → r < n
+chain_below w v n h [] c r m = elim m [ ]
 chain_below w v n h (q ∷ l) c r (inl e) = omega (arith, c.1)
 chain_below w v n h (q ∷ l) c r (inr m) = omega (arith, c.1, chain_below w v q (link_at w v q) l c.2 r m)
 

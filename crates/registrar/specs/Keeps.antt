@@ -1,6 +1,6 @@
 -- What each function does to the delayed registrations in storage, over plain variables: opening, delaying one, stacking and popping,
 -- advancing after a set and after a placing; and that only heads and links matter. Assumes nothing.
-use Rattle.std.specs.Prelude.{◌≡◌, refl, ◌⊎◌, cond, ℕ, suc, ◌+◌, ◌-◌, ◌*◌, ◌≤◌, ◌<◌, eqb, length, get_or, set}
+use Rattle.std.specs.Prelude.{◌≡◌, refl, ◌⊎◌, [], cond, ℕ, zero, suc, ◌+◌, ◌-◌, ◌*◌, ◌≤◌, ◌<◌, eqb, length, get_or, set}
 use Rattle.std.proofs.Common.{sym, ◌∙◌, inl, inr, suc-ne-zero, get_or-set_same, get_or-set_other, get_or-drop, drop-set-lt, eq-eqb, ne_eqb}
 use Rattle.std.proofs.Math.Path.{ap, subst}
 use Rattle.std.proofs.Math.Logic.{⊎_elim}
@@ -54,6 +54,7 @@ module _ (w : List ℕ) (v lo : ℕ) (ps : List Pending) (top : ℕ) (st : List 
       }
     where
       stacked : (h : ℕ) (s : List ℕ) → Linked w v h s → (r : ℕ) → In r s → r < v
+      stacked h [] k r m = elim m [ ]
       stacked h (q ∷ s) k r (inl e) = omega (arith, k.1)
       stacked h (q ∷ s) k r (inr m) = stacked (link_at w v q) s k.2 r m
 
@@ -199,6 +200,7 @@ in_append r (x ∷ a) b (inr h) = ⊎_elim (λ y. inl (inr y)) (λ y. inr y) (in
 
 -- what is in the chains of some places is in one of them
 in_down : (Q : ℕ → Type 0) (ch : ℕ → List ℕ) (lo n : ℕ) → ((p r : ℕ) → lo ≤ p → p < lo + n → In r (ch p) → Q r) → (r : ℕ) → In r (down ch lo n) → Q r
+in_down Q ch lo zero all r h = elim h [ ]
 in_down Q ch lo (suc n) all r h =
     ⊎_elim (λ k. all (lo + n) r (omega arith) (omega arith) k) (λ k. in_down Q ch lo n (λ p q a b. all p q a (omega arith)) r k) (in_append r (ch (lo + n)) (down ch lo n) h)
 

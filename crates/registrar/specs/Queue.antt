@@ -194,7 +194,7 @@ newest_pends r p [] = omega arith
 newest_pends r p (x ∷ ps) = go (eq_or_ne x.under p) (newest_pends r p ps)
   where
     go : (x.under ≡ p) ⊎ (x.under ≡ p → ⊥) → occurs r (newest p ps) ≤ pends r ps → occurs r (newest p (x ∷ ps)) ≤ pends r (x ∷ ps)
-    go (inl e) i = rw (newest_same p x ps e, occurs_append, pends, occurs) (omega arith)
+    go (inl e) i = rw (newest_same p x ps e, occurs_append r (newest p ps) (x.reg ∷ []), pends, occurs) (omega arith)
     go (inr n) i = rw (newest_other p x ps n, pends) (omega arith)
 
 -- a registration waits under one place at most
@@ -206,8 +206,8 @@ newest_apart r p q (x ∷ ps) k = go (eq_or_ne x.under p) (eq_or_ne x.under q) (
     go : (x.under ≡ p) ⊎ (x.under ≡ p → ⊥) → (x.under ≡ q) ⊎ (x.under ≡ q → ⊥) → occurs r (newest p ps) + occurs r (newest q ps) ≤ pends r ps
         → occurs r (newest p (x ∷ ps)) + occurs r (newest q (x ∷ ps)) ≤ pends r (x ∷ ps)
     go (inl e) (inl d) i = absurd (k (sym e ∙ d))
-    go (inl e) (inr d) i = rw (newest_same p x ps e, newest_other q x ps d, occurs_append, pends, occurs) (omega arith)
-    go (inr e) (inl d) i = rw (newest_other p x ps e, newest_same q x ps d, occurs_append, pends, occurs) (omega arith)
+    go (inl e) (inr d) i = rw (newest_same p x ps e, newest_other q x ps d, occurs_append r (newest p ps) (x.reg ∷ []), pends, occurs) (omega arith)
+    go (inr e) (inl d) i = rw (newest_other p x ps e, newest_same q x ps d, occurs_append r (newest q ps) (x.reg ∷ []), pends, occurs) (omega arith)
     go (inr e) (inr d) i = rw (newest_other p x ps e, newest_other q x ps d, pends) (omega arith)
 
 -- queueing

@@ -2,6 +2,8 @@
 // The waiting storage has a head link for each place and a link for each registration; chains and stack share the registrations' links.
 // A link is 0 for none, else the registration plus 1. This crate alone knows where they lie, by `head`, `set_head`, `link`, `set_link` and
 // `clear`: of the quarters of v numbers, the first holds the heads, the second the links.
+#![tactic(auto)]
+
 ghost use Rattle.std.specs.Prelude.{◌≡◌, ◌≤◌, ◌<◌, length};
 ghost use Rattle.rules.specs.Checks.{waiting_needed};
 ghost use Rattle.zeros.specs.Zeros.{Cleared};

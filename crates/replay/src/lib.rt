@@ -1,5 +1,7 @@
 // An encoded list of calls on a fresh session, for hosts: crate call_list's `replay`, by one number. The two calls do the same and differ
 // in what they tell of the session.
+#![tactic(auto)]
+
 ghost use Rattle.std.specs.Prelude.{◌≡◌};
 ghost use Rattle.session.specs.Storage.{across};
 ghost use Rattle.replay.specs.Exported.{by_number, written, held, Exported};

@@ -1,4 +1,6 @@
 // The listing of a session after final, from its storage and the numbers that the job's end tells.
+#![tactic(auto)]
+
 ghost use Rattle.std.specs.Prelude.{length};
 ghost use Rattle.report.specs.Report.{MayReport, Reports};
 

@@ -1,5 +1,6 @@
 // The limits and the numbers of the refusals for code; specs/Limits and specs/Refusals have them, under the same names, for
 // the definitions, all of which stand in specs/.
+#![tactic(auto)]
 
 // The greatest P and V.
 pub const MOST_PARALLELISM: u64 = 64999;

@@ -36,6 +36,22 @@ after sp o t rs m l w pool = given sp.exit o.exit t.exit rs.exit m.exit l.exit w
 abbrev pub across : Borrowed → Borrowed → Borrowed → Borrowed → Borrowed → Borrowed → Borrowed → Borrowed → (Storage → Storage → Type 0) → Type 0
 across sp o t rs m l w pool said = said (before sp o t rs m l w pool) (after sp o t rs m l w pool)
 
+-- the same where the pool is only read, given by its numbers
+abbrev pub given_read : Slice → Slice → Slice → Slice → Slice → Slice → Slice → List ℕ → Storage
+given_read sp o t rs m l w pool = storage sp.now o.now t.now rs.now m.now l.now w.now pool
+
+abbrev pub across_read : Borrowed → Borrowed → Borrowed → Borrowed → Borrowed → Borrowed → Borrowed → List ℕ → (Storage → Storage → Type 0) → Type 0
+across_read sp o t rs m l w pool said =
+    said (given_read sp.entry o.entry t.entry rs.entry m.entry l.entry w.entry pool) (given_read sp.exit o.exit t.exit rs.exit m.exit l.exit w.exit pool)
+
+-- the same where the waiting storage is only read too
+abbrev pub given_over : Slice → Slice → Slice → Slice → Slice → Slice → List ℕ → List ℕ → Storage
+given_over sp o t rs m l w pool = storage sp.now o.now t.now rs.now m.now l.now w pool
+
+abbrev pub across_over : Borrowed → Borrowed → Borrowed → Borrowed → Borrowed → Borrowed → List ℕ → List ℕ → (Storage → Storage → Type 0) → Type 0
+across_over sp o t rs m l w pool said =
+    said (given_over sp.entry o.entry t.entry rs.entry m.entry l.entry w pool) (given_over sp.exit o.exit t.exit rs.exit m.exit l.exit w pool)
+
 -- a storage with other contents in some of its slices: the waiting storage; the rows; marks and waiting storage, as a set writes them;
 -- waiting storage and pool, as an add does; all three, as either does; spans, order, tally and rows, as a release does
 abbrev pub with_waiting : Storage → List ℕ → Storage

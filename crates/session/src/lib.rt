@@ -1,10 +1,12 @@
 // The session by value, and the placing of registrations over its lent storage.
+#![tactic(auto)]
+
 ghost use Rattle.std.specs.Prelude.{◌≡◌, ◌<◌};
 ghost use Rattle.lists.specs.Part.{part};
 ghost use Rattle.records.specs.Filling.{rows_fit};
 ghost use Rattle.session.specs.Noting.{noted};
 ghost use Rattle.session.specs.Outputs.{Settling, Settled};
-ghost use Rattle.session.specs.Storage.{given, across};
+ghost use Rattle.session.specs.Storage.{given_read, across_read, given_over, across_over};
 ghost use Rattle.session.specs.PlaceNext.{MayPlace, PlacesOne, MayPlaceNext, PlacesNext};
 ghost use Rattle.session.specs.Settle.{MaySettle, Settles};
 ghost use Rattle.session.specs.PlaceOne.{MayFind, Finds};
@@ -13,7 +15,7 @@ ghost use Rattle.session.specs.Poll.{Polls};
 use buffer::Guide;
 use entries::Entry;
 
-#[derive(Drop)]
+#[derive(Clone, Copy)]
 pub struct Session {
     pub guide: Guide,
     // how many leading places are tracked
@@ -41,7 +43,7 @@ pub fn held(s: Session) -> u32
 
 // What placing a registration reads of it: whether it has inputs, the greatest location of them, the n outputs, which lie in the pool from
 // `at` on, and its lane.
-#[derive(Drop)]
+#[derive(Clone, Copy)]
 pub struct After {
     pub has: bool,
     pub span: u32,
@@ -106,14 +108,14 @@ fn settle_outputs(
 }
 
 // A session after a turn of the cascade, and the link of the stack's new top.
-#[derive(Drop)]
+#[derive(Clone, Copy)]
 pub struct CascadeTurn {
     pub session: Session,
     pub top: u64,
 }
 
 // The guide and the watermark after a placing.
-#[derive(Drop)]
+#[derive(Clone, Copy)]
 pub struct Moved {
     pub guide: Guide,
     pub watermark: usize,
@@ -134,8 +136,8 @@ fn place_one(
     r: u32,
     c: u32,
 ) -> Moved
-    requires { MayPlace c s.guide s.watermark s.added s.used (given spans order tally rows marks locations waiting pool) r }
-    ensures { across spans order tally rows marks locations waiting pool (λ σ τ. PlacesOne c r s.guide s.watermark s.added s.used σ result.guide result.watermark τ) }
+    requires { MayPlace c s.guide s.watermark s.added s.used (given_over spans order tally rows marks locations waiting.now pool.now) r }
+    ensures { across_over spans order tally rows marks locations waiting.now pool.now (λ σ τ. PlacesOne c r s.guide s.watermark s.added s.used σ result.guide result.watermark τ) }
 {
     let v = s.guide.v;
     let n = s.guide.written;
@@ -172,8 +174,8 @@ pub fn place_next(
     top: u64,
     c: u32,
 ) -> CascadeTurn
-    requires { MayPlaceNext c s (given spans order tally rows marks locations waiting pool) top }
-    ensures { across spans order tally rows marks locations waiting pool (λ σ τ. PlacesNext c s σ top result.session τ result.top) }
+    requires { MayPlaceNext c s (given_read spans order tally rows marks locations waiting pool.now) top }
+    ensures { across_read spans order tally rows marks locations waiting pool.now (λ σ τ. PlacesNext c s σ top result.session τ result.top) }
 {
     let v = wide(s.guide.v);
     let r = top - 1;
@@ -215,8 +217,8 @@ pub fn settle(
     top: u64,
     c: u32,
 ) -> Session
-    requires { MaySettle c s (given spans order tally rows marks locations waiting pool) top }
-    ensures { across spans order tally rows marks locations waiting pool (λ σ τ. Settles c s σ top result τ) }
+    requires { MaySettle c s (given_read spans order tally rows marks locations waiting pool.now) top }
+    ensures { across_read spans order tally rows marks locations waiting pool.now (λ σ τ. Settles c s σ top result τ) }
 {
     let mut z = s;
     let mut t = top;

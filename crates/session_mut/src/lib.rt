@@ -1,6 +1,8 @@
 // set and add on a session that its caller keeps and lends by `&mut`: thin wrappers over the calls by value of crate sorter, each with
 // the same promise. A refused call leaves session and storage as they were.
-ghost use Rattle.rules.specs.Calls.{set as set-call, add as add-call};
+#![tactic(auto)]
+
+ghost use Rattle.rules.specs.Calls.{set as set_call, add as add_call};
 ghost use Rattle.session.specs.Storage.{given, across};
 ghost use Rattle.admitting.specs.Promise.{Asks, Called};
 
@@ -20,7 +22,7 @@ pub fn set(
     x: u64,
 ) -> u64
     requires { Asks s.old (given spans order tally rows marks locations waiting pool) }
-    ensures { across spans order tally rows marks locations waiting pool (λ σ τ. Called (set-call x) result s.old s.new σ τ) }
+    ensures { across spans order tally rows marks locations waiting pool (λ σ τ. Called (set_call x) result s.old s.new σ τ) }
 {
     let a = sorter::set(
         *s, spans, order, tally, rows, marks, locations, waiting, pool, x,
@@ -45,7 +47,7 @@ pub fn add(
     lane: u64,
 ) -> u64
     requires { Asks s.old (given spans order tally rows marks locations waiting pool) }
-    ensures { across spans order tally rows marks locations waiting pool (λ σ τ. Called (add-call lane ins.now outs.now) result s.old s.new σ τ) }
+    ensures { across spans order tally rows marks locations waiting pool (λ σ τ. Called (add_call lane ins.now outs.now) result s.old s.new σ τ) }
 {
     let a = sorter::add(
         *s, spans, order, tally, rows, marks, locations, waiting, pool, ins, outs, lane,

@@ -2,8 +2,10 @@
 // session and storage, and changes nothing where that is not 0. The storage goes along in eight slices: spans and order of entries, the
 // tally, rows, marks and locations of places, the waiting storage, and the pool of lists. Flush and final touch the first four only and
 // take all eight: a caller makes every call on one storage, and each promises that all of it stands for the model.
+#![tactic(auto)]
+
 ghost use Rattle.std.specs.Prelude.{◌≡◌, [], ◌+◌};
-ghost use Rattle.rules.specs.Calls.{set as set-call, add as add-call, flush as flush-call, final as final-call};
+ghost use Rattle.rules.specs.Calls.{set as set_call, add as add_call, flush as flush_call, final as final_call};
 ghost use Rattle.session.specs.Storage.{given, across};
 ghost use Rattle.admitting.specs.Promise.{Asks, Called};
 ghost use Rattle.rules.specs.Summary.{figures};
@@ -15,7 +17,7 @@ use session::Session;
 use summary::Summary;
 
 // A call's number, 0 if it was accepted, and the session after it.
-#[derive(Drop)]
+#[derive(Clone, Copy)]
 pub struct Answer {
     pub number: u64,
     pub session: Session,
@@ -35,7 +37,7 @@ pub fn set(
     x: u64,
 ) -> Answer
     requires { Asks s (given spans order tally rows marks locations waiting pool) }
-    ensures { across spans order tally rows marks locations waiting pool (λ σ τ. Called (set-call x) result.number s result.session σ τ) }
+    ensures { across spans order tally rows marks locations waiting pool (λ σ τ. Called (set_call x) result.number s result.session σ τ) }
 {
     let a = admitting::admit_set(s, marks, waiting, x);
     if a.number != 0 {
@@ -69,7 +71,7 @@ pub fn add(
     lane: u64,
 ) -> Answer
     requires { Asks s (given spans order tally rows marks locations waiting pool) }
-    ensures { across spans order tally rows marks locations waiting pool (λ σ τ. Called (add-call lane ins.now outs.now) result.number s result.session σ τ) }
+    ensures { across spans order tally rows marks locations waiting pool (λ σ τ. Called (add_call lane ins.now outs.now) result.number s result.session σ τ) }
 {
     let a = admitting::admit_add(s, waiting, pool, ins, outs, lane);
     if a.number != 0 {
@@ -95,8 +97,8 @@ fn do_flush(
     tally: &mut [u32],
     rows: &mut [u32],
 ) -> Session
-    requires { MayFlush flush-call s spans.now order.old tally.old rows.old }
-    ensures { Flushes flush-call s result spans.now order.old tally.old rows.old order.new tally.new rows.new }
+    requires { MayFlush flush_call s spans.now order.old tally.old rows.old }
+    ensures { Flushes flush_call s result spans.now order.old tally.old rows.old order.new tally.new rows.new }
 {
     let g = s.guide;
     let h = flushing::release_all(g, spans, order, tally, rows, s.added);
@@ -126,7 +128,7 @@ pub fn flush(
     pool: &mut [u32],
 ) -> Answer
     requires { Asks s (given spans order tally rows marks locations waiting pool) }
-    ensures { across spans order tally rows marks locations waiting pool (λ σ τ. Called flush-call result.number s result.session σ τ) }
+    ensures { across spans order tally rows marks locations waiting pool (λ σ τ. Called flush_call result.number s result.session σ τ) }
 {
     let n = checking::check_flush(s.closed, s.flushes);
     if n != 0 {
@@ -150,8 +152,8 @@ fn do_final(
     tally: &mut [u32],
     rows: &mut [u32],
 ) -> Session
-    requires { MayFlush final-call s spans.now order.old tally.old rows.old }
-    ensures { Flushes final-call s result spans.now order.old tally.old rows.old order.new tally.new rows.new }
+    requires { MayFlush final_call s spans.now order.old tally.old rows.old }
+    ensures { Flushes final_call s result spans.now order.old tally.old rows.old order.new tally.new rows.new }
 {
     let g = s.guide;
     let h = flushing::release_all(g, spans, order, tally, rows, s.added);
@@ -181,7 +183,7 @@ pub fn close(
     pool: &mut [u32],
 ) -> Answer
     requires { Asks s (given spans order tally rows marks locations waiting pool) }
-    ensures { across spans order tally rows marks locations waiting pool (λ σ τ. Called final-call result.number s result.session σ τ) }
+    ensures { across spans order tally rows marks locations waiting pool (λ σ τ. Called final_call result.number s result.session σ τ) }
 {
     let n = checking::check_final(s.closed, s.delayed);
     if n != 0 {
@@ -198,7 +200,7 @@ pub fn close(
 }
 
 // What final gives: its number, 0 if it was accepted, the session after it, and the summary of the tally, all zeros where it was refused.
-#[derive(Drop)]
+#[derive(Clone, Copy)]
 pub struct Finished {
     pub number: u64,
     pub session: Session,

@@ -1,4 +1,6 @@
 // What final gives of the tally, as one struct, and written into numbers that a host lends.
+#![tactic(auto)]
+
 ghost use Rattle.std.specs.Prelude.{◌≡◌, ◌++◌, ◌+◌, ◌≤◌, ltb, length, take, drop};
 ghost use Rattle.std.proofs.Math.Seq.{paste};
 ghost use Rattle.rules.specs.Limits.{most_places};
@@ -18,7 +20,7 @@ const SIZE: usize = SUMS_AT + rules::SUMS_OF_THOUSANDS;
 const MOST: u32 = rules::MOST_PLACES as u32;
 
 // The summary: counts for 0 to 127, and the sums of the counts for 0 to 999, 1,000 to 1,999 and so on.
-#[derive(Drop)]
+#[derive(Clone, Copy)]
 pub struct Summary {
     pub average: f32,
     pub median: u32,

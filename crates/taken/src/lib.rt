@@ -1,5 +1,7 @@
 // Which places are taken: a flag for each place in the waiting storage, 1 if it is set, written or promised, else 0. This crate alone
 // knows where a flag lies, by `flag`, `set_flag` and `clear`: of the quarters of v numbers, the fourth holds them.
+#![tactic(auto)]
+
 ghost use Rattle.std.specs.Prelude.{◌≡◌, ◌≤◌, ◌<◌, length};
 ghost use Rattle.rules.specs.Checks.{any, waiting_needed};
 ghost use Rattle.lists.specs.Part.{Below};

@@ -1,4 +1,6 @@
 // The tally: each entry that was appended to the order adds 1 at its parallelism.
+#![tactic(auto)]
+
 ghost use Rattle.std.specs.Prelude.{◌≡◌, map, ◌+◌, ◌^◌, ◌<◌, length, get_or, set};
 ghost use Rattle.rules.specs.Guide.{tallied};
 ghost use Rattle.entries.specs.Entries.{row, fits, entry_of};

@@ -1,5 +1,7 @@
 // Marks and locations of places, and the watermark, the count of leading tracked places. A location is one number, so that the greatest
 // location is the greatest number; this crate alone makes it of a span and a position, and takes it apart.
+#![tactic(auto)]
+
 ghost use Rattle.std.specs.Prelude.{◌≡◌, ◌<◌, ◌≤◌, length, set};
 ghost use Rattle.rules.specs.Limits.{mark_set};
 ghost use Rattle.rules.specs.Model.{run_from};

@@ -317,5 +317,6 @@ unfolding runs parallelism parallelism_by last_parallelism annotate released fre
     do_set do_add with_record note_add note_flush note_final with_flush do_flush do_final verdict any repeats written_by taken pooled check_closed check_places check_set check_add
     check_flush check_final checks answer apply_call unless_refused step run alone holds stray worn check_push check_flush_alone requests reply location serve serve_step serve_all
     sum average median_from median counts thousands figures mark_by unfilled fill row_after row_of summary at item keep_zero trimmed window entry held_item joined row rows_from
-    place_row places_from traced figured closing after_calls traced_calls where_to served after_requests traced_requests round size span climb units odd to_bits count_trailing_zeros
+    place_row places_from traced figured closing after_calls traced_calls where_to served after_requests traced_requests round size span climb units odd to_bits
+    count_trailing_zeros
 agree = refl

@@ -56,12 +56,12 @@ beyond_claimed w v (x ∷ xs) b i k = beyond_claimed (with_flag w v x 1) v xs b.
 pub lists_claimed : {w : List ℕ} {v : ℕ} {adds : List Reg} {used : ℕ} {pool : List ℕ} (xs : List ℕ) → Below v xs → Lists v adds used w pool → Lists v adds used (claimed w v xs) pool
 unfolding claimed Below
 lists_claimed [] b l = l
-lists_claimed (x ∷ xs) b l = lists_claimed xs b.1 (lists_flag _ 1 b.0 l)
+lists_claimed {w = w} {v = v} (x ∷ xs) b l = lists_claimed {w = with_flag w v x 1} {v = v} xs b.1 (lists_flag w 1 b.0 l)
 
 pub delayed_claimed : {w : List ℕ} {v lo : ℕ} {ps : List Pending} {top : ℕ} {st : List ℕ} (xs : List ℕ) → Below v xs → Delayed w v lo ps top st → Delayed (claimed w v xs) v lo ps top st
 unfolding claimed Below
 delayed_claimed [] b d = d
-delayed_claimed (x ∷ xs) b d = delayed_claimed xs b.1 (delayed_flag _ 1 b.0 d)
+delayed_claimed {w = w} {v = v} (x ∷ xs) b d = delayed_claimed {w = with_flag w v x 1} {v = v} xs b.1 (delayed_flag w 1 b.0 d)
 
 -- the cell of a registration is stored
 module _ (w : List ℕ) {v r : ℕ} (start inputs lane : ℕ) (h : r < v) where

@@ -1,5 +1,7 @@
 // The waiting storage as a whole. A head for each place and a link for each registration are registrar's, a cell for each registration
 // pool's, a flag for each place taken's; each of those crates alone knows where its part lies, and specs/Apart says that they do not meet.
+#![tactic(auto)]
+
 ghost use Rattle.std.specs.Prelude.{◌≤◌, length};
 ghost use Rattle.rules.specs.Checks.{waiting_needed};
 ghost use Rattle.waiting.specs.Cleared.{Emptied};

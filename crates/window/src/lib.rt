@@ -1,4 +1,6 @@
 // The guide's window by value, and its rotation.
+#![tactic(auto)]
+
 ghost use Rattle.std.specs.Prelude.{◌≡◌, ◌++◌, ◌∷◌, [], ◌+◌, ◌^◌, ◌<◌, drop, get_or};
 ghost use Rattle.window.specs.Rotate.{rotated};
 
@@ -8,7 +10,7 @@ pub const SPANS: usize = 32;
 pub const LAST: usize = SPANS - 1;
 
 // The 32 spans: their numbers, the row of the span storage that each has, and their lengths.
-#[derive(Drop)]
+#[derive(Clone, Copy)]
 pub struct Window {
     pub ids: [u32; SPANS],
     pub rows: [u8; SPANS],

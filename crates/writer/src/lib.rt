@@ -1,4 +1,6 @@
 // Text appended to bytes: each function puts its text at `at` and returns the place after it; what stands before `at` stays.
+#![tactic(auto)]
+
 ghost use Rattle.std.specs.Prelude.{◌≡◌, ◌+◌, ◌≤◌, ◌<◌, length};
 ghost use Rattle.std.proofs.Math.Seq.{paste};
 ghost use Rattle.rules.specs.Listing.{decimal, field, line};

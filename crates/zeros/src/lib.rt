@@ -1,4 +1,6 @@
 // Part of a slice filled with zeros, for each width of the storage.
+#![tactic(auto)]
+
 ghost use Rattle.std.specs.Prelude.{◌≤◌, length};
 ghost use Rattle.zeros.specs.Zeros.{Cleared};
 

@@ -1,0 +1,93 @@
+-- `ascending_list::admit_call` meets its contract: a set has its place and an add both its lists, and its number is worked out.
+use mathlib.Core.Path.{refl, ap}
+use native.Mathlib.Omega.{arith}
+use Prim.Native.Nat.{ℕ, ◌+◌, ◌≤◌}
+use lib.ListN.{length}
+use Rattle.call_runs.specs.Making.{set_inside, says_set, ins_there, outs_there, add_inside, says_add}
+use mathlib.Core.List.{List}
+use Rattle.ascending_calls.specs.Numbers.{add_number, may_check}
+use Rattle.ascending_calls.specs.Setting.{marked}
+use Rattle.ascending_list.specs.Made.{admits_set, admits_add}
+use Rattle.ascending_list.proofs.admit_call.Goals as goal
+use Rattle.ascending_list.proofs.admit_call.Goals.{After-past_list-next}
+
+pub offset_bounds-calls-at : goal.offset_bounds-calls-at
+offset_bounds-calls-at c = omega (arith, c.requires.readable.0.inside)
+
+pub bounds-calls-at : goal.bounds-calls-at
+bounds-calls-at c = c.requires.readable.0.inside
+
+pub overflow_add-at : goal.overflow_add-at
+overflow_add-at c = omega (arith, set_inside c.requires.readable.0 c.if-calls-at-eq-SET.true)
+
+pub offset_bounds-calls-at-then-calls-at-eq-SET : goal.offset_bounds-calls-at-then-calls-at-eq-SET
+offset_bounds-calls-at-then-calls-at-eq-SET c = omega (arith, set_inside c.requires.readable.0 c.if-calls-at-eq-SET.true)
+
+pub bounds-calls-at-then-calls-at-eq-SET : goal.bounds-calls-at-then-calls-at-eq-SET
+bounds-calls-at-then-calls-at-eq-SET c = set_inside c.requires.readable.0 c.if-calls-at-eq-SET.true
+
+pub admit_set-n-requires : goal.admit_set-n-requires
+admit_set-n-requires c = c.requires.asks_call
+
+pub overflow_add-result : goal.overflow_add-result
+overflow_add-result c = omega (arith, set_inside c.requires.readable.0 c.if-calls-at-eq-SET.true)
+
+pub returns-then-calls-at-eq-SET : goal.returns-then-calls-at-eq-SET
+returns-then-calls-at-eq-SET c = λ σ q. admits_set (says_set c.requires.readable.0 c.if-calls-at-eq-SET.true) refl (c.admit_set-n.ensures σ q)
+
+pub add_start-d-requires : goal.add_start-d-requires
+add_start-d-requires c = (c.requires.readable.0, c.requires.readable.1, c.if-calls-at-eq-SET.false)
+
+pub past_list-middle-requires : goal.past_list-middle-requires
+past_list-middle-requires c = ins_there c.requires.readable.0 c.add_start-d.ensures
+
+pub past_list-next-requires : goal.past_list-next-requires
+past_list-next-requires c = outs_there c.requires.readable.0 c.add_start-d.ensures _ c.past_list-middle.ensures
+
+-- the two lists lie within the numbers
+inside : (c : After-past_list-next) →
+    (c.add_start-d.result.lists + 1 ≤ c.past_list-middle.result) × ((c.past_list-middle.result + 1 ≤ c.past_list-next.result) × (c.past_list-next.result ≤ length c.args.calls.now))
+inside c = add_inside c.requires.readable.0 c.add_start-d.ensures _ c.past_list-middle.ensures _ c.past_list-next.ensures
+
+pub overflow_add-ins : goal.overflow_add-ins
+overflow_add-ins c = omega (arith, inside (goal.at.overflow_add-ins c).After-past_list-next)
+
+pub offset_bounds-calls-d : goal.offset_bounds-calls-d
+offset_bounds-calls-d c = omega (arith, inside (goal.at.offset_bounds-calls-d c).After-past_list-next)
+
+pub slice_bounds-ins-count : goal.slice_bounds-ins-count
+slice_bounds-ins-count c = omega (arith, inside (goal.at.slice_bounds-ins-count c).After-past_list-next)
+
+pub slice_bounds-ins-start : goal.slice_bounds-ins-start
+slice_bounds-ins-start c = (inside (goal.at.slice_bounds-ins-start c).After-past_list-next).0
+
+pub slice_bounds-ins-end : goal.slice_bounds-ins-end
+slice_bounds-ins-end c = omega (arith, inside (goal.at.slice_bounds-ins-end c).After-past_list-next)
+
+pub overflow_add-outs : goal.overflow_add-outs
+overflow_add-outs c = omega (arith, inside (goal.at.overflow_add-outs c).After-past_list-next)
+
+pub offset_bounds-calls-middle : goal.offset_bounds-calls-middle
+offset_bounds-calls-middle c = omega (arith, inside (goal.at.offset_bounds-calls-middle c).After-past_list-next)
+
+pub slice_bounds-outs-count : goal.slice_bounds-outs-count
+slice_bounds-outs-count c = omega (arith, inside (goal.at.slice_bounds-outs-count c).After-past_list-next)
+
+pub slice_bounds-outs-start : goal.slice_bounds-outs-start
+slice_bounds-outs-start c = (inside (goal.at.slice_bounds-outs-start c).After-past_list-next).1.0
+
+pub slice_bounds-outs-end : goal.slice_bounds-outs-end
+slice_bounds-outs-end c = (inside (goal.at.slice_bounds-outs-end c).After-past_list-next).1.1
+
+pub check_add-n-requires : goal.check_add-n-requires
+check_add-n-requires c = rw c.wide-v.ensures (may_check c.requires.asks_call.asks)
+
+pub overflow_add-result-2 : goal.overflow_add-result-2
+overflow_add-result-2 c = omega (arith, inside (goal.at.overflow_add-result-2 c).After-past_list-next)
+
+pub returns : goal.returns
+returns c = λ σ q.
+    let within = inside (goal.at.returns c).After-past_list-next in
+    let checked = c.check_add-n.ensures in
+    admits_add (says_add c.requires.readable.0 c.add_start-d.ensures _ c.past_list-middle.ensures _ c.past_list-next.ensures) refl within.0 within.1.0
+    (add_number c.wide-v.ensures c.wide-r.ensures checked) (ap (λ (m : List ℕ). marked σ m) checked.same)

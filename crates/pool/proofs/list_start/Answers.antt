@@ -1,0 +1,8 @@
+-- The cell as it is read. Assumes nothing.
+use borrow.Author.Rules.{rules}
+use Rattle.pool.specs.Lists.{start_of, cell_at}
+use Rattle.pool.proofs.list_start.Goals as goal
+
+pub returns : goal.returns
+unfolding start_of cell_at
+returns c = search rules

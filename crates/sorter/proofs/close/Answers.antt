@@ -1,0 +1,15 @@
+-- `sorter::close` meets its contract: the number is the model's, and 0 lets the work be done.
+use Rattle.admitting.specs.Numbers.{final_number}
+use Rattle.admitting.specs.Promise.{called_refused, called_does, may_do}
+use Rattle.sorter.specs.FlushWork.{may_flush, flushes}
+use Rattle.sorter.proofs.close.Goals as goal
+
+pub returns-then-n-ne0 : goal.returns-then-n-ne0
+returns-then-n-ne0 c = called_refused _ _ _ _ c.if-n-ne0.true (final_number _ _ _ c.check_final-n.ensures)
+
+pub do_final-t-requires : goal.do_final-t-requires
+do_final-t-requires c = may_flush (may_do _ _ _ _ (final_number _ _ _ c.check_final-n.ensures) c.if-n-ne0.false
+    c.requires)
+
+pub returns : goal.returns
+returns c = called_does _ _ _ _ _ _ (final_number _ _ _ c.check_final-n.ensures) c.if-n-ne0.false (flushes c.do_final-t.ensures)
