@@ -13,7 +13,7 @@ FENCE = re.compile(r"^(```|~~~).*?^\1", re.MULTILINE | re.DOTALL)
 
 def documents():
     for folder, folders, files in os.walk("."):
-        folders[:] = sorted(name for name in folders if name not in (".git", "target"))
+        folders[:] = sorted(name for name in folders if name not in (".git", "target", "out"))
         for name in sorted(files):
             if name.endswith(".md"):
                 yield os.path.join(folder, name)

@@ -27,13 +27,14 @@ ROOMS = "./docs/ARCHITECTURE.md"
 
 def documents():
     for folder, folders, files in os.walk("."):
-        folders[:] = sorted(name for name in folders if name not in (".git", "target"))
+        folders[:] = sorted(name for name in folders if name not in (".git", "target", "out"))
         yield from (os.path.join(folder, name) for name in sorted(files) if name.endswith(".md"))
 
 
 def comments():
     """(path, comments) of each source, specification and proof."""
-    for folder, _, files in os.walk("crates"):
+    for folder, folders, files in os.walk("crates"):
+        folders[:] = [name for name in folders if name != "out"]
         for name in sorted(files):
             mark = {".rt": "//", ".antt": "--"}.get(os.path.splitext(name)[1])
             if mark:
@@ -44,7 +45,7 @@ def comments():
 
 def listed():
     with open("crates.txt", encoding="utf-8") as text:
-        return {line.split(":")[0].strip() for line in text if ":" in line and not line.startswith("#")}
+        return {line.split(":")[0].split()[0] for line in text if ":" in line and not line.startswith("#")}
 
 
 def names_of(line):
@@ -56,11 +57,12 @@ def names_of(line):
 
 
 def modules():
-    """Of each crate and module of specifications the names that it defines."""
+    """Of each crate and module of specifications, or of lemmas beside its proofs, the names that it defines."""
     found = {}
     for crate in sorted(os.listdir("crates")):
-        for folder, _, files in os.walk(os.path.join("crates", crate, "specs")):
-            for name in files:
+        for part in ("specs", "proofs"):
+            folder = os.path.join("crates", crate, part)
+            for name in sorted(os.listdir(folder)) if os.path.isdir(folder) else []:
                 if name.endswith(".antt"):
                     with open(os.path.join(folder, name), encoding="utf-8") as text:
                         defined = {word for line in text if not line.lstrip().startswith(("--", "use ")) for word in names_of(line)}

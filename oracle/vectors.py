@@ -122,9 +122,9 @@ def trace(lines):
 
 def compared(name, lines, got, tables):
     if lines[1] == "trace":
-        got, tables = "traced-" + got, [list(trace(lines))] + tables
+        got, tables = "traced_" + got, [list(trace(lines))] + tables
     else:
-        got = "after-" + got
+        got = "after_" + got
     return "\n".join([
         f"    -- {name}",
         "    record {",
@@ -169,51 +169,49 @@ def chosen_guides():
 
 # what the theorem computes with, by module of `rules` and of this crate
 RULES = {
-    "Guide": "parallelism parallelism-by last-parallelism annotate released fresh release flush seek found begin choose put settle apply place tallied tally",
-    "Model": "initial member marked tracked run-from watermark greatest ready loc-of later top after spotted reg-of place-one due left queue keep push off rest with-set with-add cascade settle-all do-set do-add with-record note-add note-flush note-final with-flush do-flush do-final",
-    "Checks": "verdict any repeats written-by taken pooled check-closed check-places check-set check-add check-flush check-final",
-    "Calls": "checks answer apply-call unless-refused step run",
-    "Alone": "alone holds stray worn check-push check-flush-alone requests reply location serve serve-step serve-all",
-    "Summary": "sum average median-from median counts thousands figures",
-    "Record": "mark-by unfilled fill row-after row-of summary",
+    "Guide": "parallelism parallelism_by last_parallelism annotate released fresh release flush seek found begin choose put settle apply place tallied tally",
+    "Model": "initial member marked tracked run_from watermark greatest ready loc_of later top after spotted reg_of place_one due left queue keep push off rest with_set with_add cascade settle_all do_set do_add with_record note_add note_flush note_final with_flush do_flush do_final",
+    "Checks": "verdict any repeats written_by taken pooled check_closed check_places check_set check_add check_flush check_final",
+    "Calls": "checks answer apply_call unless_refused step run",
+    "Alone": "alone holds stray worn check_push check_flush_alone requests reply location serve serve_step serve_all",
+    "Summary": "sum average median_from median counts thousands figures",
+    "Record": "mark_by unfilled fill row_after row_of summary",
 }
 # and of the library's floats
-FLOATS = "round size span climb units odd toBits"
+FLOATS = "round size span climb units odd to_bits"
 
-SHOWN = "at item keep-zero trimmed window entry held-item joined row rows-from place-row places-from traced figured closing after-calls traced-calls where-to served after-requests traced-requests"
-OTHER = {"Guide": {"flush": "flush-guide"}, "Model": {"push": "push-stack"}}
+SHOWN = "at item keep_zero trimmed window entry held_item joined row rows_from place_row places_from traced figured closing after_calls traced_calls where_to served after_requests traced_requests"
+OTHER = {"Guide": {"flush": "flush_guide"}, "Model": {"push": "push_stack"}}
 
 TOP = """\
 -- Recorded runs of the Rust, written by oracle/vectors.py: what the definitions give after each is what the oracle answered. Assumes nothing.
-use mathlib.Core.Path.{_≡_, refl}
-use mathlib.Core.List.{List, [], _∷_, map}
-use mathlib.Core.Option.{none}
-use Prim.Native.Nat.{ℕ}
-use lib.Count.{trailingZeros}
+use Rattle.std.specs.Prelude.{◌≡◌, refl, List, [], ◌∷◌, map}
+use Rattle.std.proofs.Math.Option.{none}
+use Rattle.std.specs.Int.Count.{count_trailing_zeros}
 """
 
 BEGIN = "\npub runs : List Compared\nruns =\n"
 
 END = """
 -- each run's two sides are the same
-pub agree : map (λ r. r .got) runs ≡ map (λ r. r .want) runs
+pub agree : map (λ r. r.got) runs ≡ map (λ r. r.want) runs
 unfolding runs %s
 agree = refl
 """
 
 
 def head(constructors):
-    lines = [TOP, f"use lib.Ieee.{{{', '.join(FLOATS.split())}}}\n"]
+    lines = [TOP, f"use Rattle.std.specs.Float.Ieee.{{{', '.join(FLOATS.split())}}}\n"]
     for module, names in RULES.items():
         other = OTHER.get(module, {})
         words = [f"{name} as {other[name]}" if name in other else name for name in names.split()] + constructors.get(module, [])
-        lines.append(f"use Rattle·rules.specs.{module}.{{{', '.join(words)}}}\n")
-    lines.append(f"use Rattle·vectors·specs.specs.Shown.{{Compared, add, {', '.join(SHOWN.split())}}}\n")
+        lines.append(f"use Rattle.rules.specs.{module}.{{{', '.join(words)}}}\n")
+    lines.append(f"use Rattle.vectors.specs.Shown.{{Compared, add, {', '.join(SHOWN.split())}}}\n")
     return "".join(lines)
 
 
 def unfolded():
-    return " ".join(OTHER.get(module, {}).get(name, name) for module, names in RULES.items() for name in names.split()) + " " + SHOWN + " " + FLOATS + " trailingZeros"
+    return " ".join(OTHER.get(module, {}).get(name, name) for module, names in RULES.items() for name in names.split()) + " " + SHOWN + " " + FLOATS + " count_trailing_zeros"
 
 
 def written():

@@ -6,10 +6,10 @@
                               status is 1
     --root FOLDER             of another repository than the one that this tool stands in
 
-A crate uses those that its files mention (`rules::MOST_PLACES` in code, `Rattle·rules.specs.Guide` in
+A crate uses those that its files mention (`rules::MOST_PLACES` in code, `Rattle.rules.specs.Guide` in
 contracts, specifications and proofs), and those whose types its values hold: a struct's fields, and what the
 functions and methods take and give that it calls. The names, their order and the comments are those of crates.txt as it
-stands, but that a crate comes after all that it uses. A new crate begins as a line `name:    # what it holds`."""
+stands, but that a crate comes after all that it uses. A new crate begins as a line `name:    # what it holds`, a static library as `name staticlib:    # what it holds`."""
 
 import difflib
 import pathlib
@@ -28,7 +28,7 @@ def mentioned(crate, known):
     names = set(re.findall(r"\b([a-z][a-z0-9_]*)::", code))
     for part in ("src", "specs", "proofs"):
         for path in crate.files(part):
-            names |= set(re.findall(r"Rattle·([a-z][a-z0-9_]*)", crate.plain(path)))
+            names |= set(re.findall(r"Rattle\.([a-z][a-z0-9_]*)", crate.plain(path)))
     return (names & (known | set(KIT))) - {crate.name}
 
 
@@ -51,7 +51,7 @@ class Types:
         """The crate of a type, by the word that a crate uses for it; None of what is no type of a crate."""
         if (crate, word) in self.body:
             return crate
-        brought = re.search(rf"(?m)^use (\w+)::{word};", self.source[crate])
+        brought = re.search(rf"(?m)(?:^|(?<=; ))use (\w+)::{word};", self.source[crate])
         return brought[1] if brought and (brought[1], word) in self.body else None
 
     def named(self, crate, text):
@@ -79,7 +79,7 @@ class Types:
         """The crates whose types a crate's values hold: those that it names, and those of the calls that it makes."""
         text = self.source[crate]
         kinds = self.named(crate, text)
-        brought = [(home, word) for home, word in re.findall(r"(?m)^use (\w+)::([a-z]\w*);", text)]
+        brought = [(home, word) for home, word in re.findall(r"(?m)(?:^|(?<=; ))use (\w+)::([a-z]\w*);", text)]
         for home, function in set(re.findall(r"\b([a-z]\w*)::([a-z]\w*)\(", text) + brought):
             if home in self.source:
                 kinds |= self.named(home, self.signature(home, function))
@@ -121,7 +121,8 @@ def written(root):
         if not crates[name].comment:
             raise Wrong(f"crates.txt: {name} has no comment: say after a # what it holds")
         named = [other for other in order + list(KIT) if other in needs[name]]
-        text += " ".join([name + ":"] + named) + f"    # {crates[name].comment}\n"
+        head = f"{name} {crates[name].kind}:" if crates[name].kind else f"{name}:"
+        text += " ".join([head] + named) + f"    # {crates[name].comment}\n"
     return text
 
 

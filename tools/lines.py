@@ -11,11 +11,11 @@ between its arguments. `rt fmt` indents what comes of it; that goes on until no 
 
 import sys
 
-from antt import CLOSE, OPEN, ROOT, crates_named, depths, files_of, is_projection, tokens_of, write
+from antt import CLOSE, OPEN, ROOT, crates_named, depths, files_of, tokens_of, write
 
 WIDE = 200                  # no line is longer
 FULL = 140                  # a line that is broken is filled up to here
-GENERATED = {"vectors", "session_mut", "flush_mut"}     # crates that a program wrote: their lines may be long
+GENERATED = {"vectors"}     # crates that a program wrote: their lines may be long
 ROUNDS = 12
 AFTER = ("→", "$")          # a line is broken after these; before any other operator
 
@@ -127,7 +127,7 @@ def may_break(line, tokens, index, operators):
     token, before = tokens[index], tokens[index - 1]
     if operators:
         return before.text in AFTER if operators == AFTER else token.text in operators
-    if token.start == before.end or is_projection(line, token) or token.text in CLOSE or before.text in OPEN:
+    if token.start == before.end or token.text in CLOSE or before.text in OPEN:
         return False
     if token.text in ("=", ":", ".", ",", ";", "in", "↦", "!", *AFTER) or before.text in ("λ", "let", "=", ":"):
         return False

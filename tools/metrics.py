@@ -7,8 +7,7 @@
                                     which is another's; the status is then 1
     --root FOLDER                   of another repository than the one that this tool stands in
 
-Counted are contracts of more than 400 characters; chains of `.before` in proofs and specifications; lines of
-more than 200 characters; functions of more than 40 lines (from `fn` to the closing bracket, without the
+Counted are contracts of more than 400 characters; lines of more than 200 characters; functions of more than 40 lines (from `fn` to the closing bracket, without the
 contract) or with more than 8 parameters; the crates that spell a layout out which is another's (`4 *` or `/ 4` for an
 entry, `5 *` or `/ 5` for a row, `2 * v` to `4 * v` for the waiting storage), rules and laws aside, which define them;
 unused names (tools/unused.py); and the uses that crates.txt lists."""
@@ -73,23 +72,12 @@ def counts(root):
     every = [one for crate in crates.values() for one in functions(crate)]
     long = sorted((one for one in every if one.contract > 400), key=lambda one: -one.contract)
     yield "contracts over 400 characters", len(long), [f"{one.place} {one.contract}" for one in long]
-    chains = collections.Counter()
-    places, longest = collections.Counter(), 0
     wide = collections.Counter()
     for crate in crates.values():
         for part in ("src", "specs", "proofs"):
             for path in crate.files(part):
                 for line in sources.read(path).split("\n"):
                     wide[f"{crate.name}/{part}"] += len(line) > 200
-                    for chain in re.findall(r"(?: \.before)+", line):
-                        length = chain.count(".before")
-                        chains[length] += 1
-                        longest = max(longest, length)
-                        places[crate.name] += length > 5
-    yield "words .before", sum(length * count for length, count in chains.items()), []
-    yield "chains of .before", sum(chains.values()), []
-    yield "chains of .before over 5", sum(count for length, count in chains.items() if length > 5), [f"{name} {count}" for name, count in places.most_common() if count]
-    yield "longest chain of .before", longest, []
     yield "lines over 200 characters", sum(wide.values()), [f"{name} {count}" for name, count in wide.most_common() if count]
     large = sorted((one for one in every if one.lines > 40), key=lambda one: -one.lines)
     yield "functions", len(every), []

@@ -2,8 +2,7 @@
 """Host code, not proved: what moved and what stayed between two commits, for a change's page in docs/changes.
 
     tools/moved.py BEFORE [AFTER]         two commits (AFTER: HEAD); a table, then the names
-    tools/moved.py --times BEFORE AFTER   two logs of .ci/run: the seconds of each crate that differs,
-                                          of all crates and of all steps of the gate
+    tools/moved.py --times BEFORE AFTER   two logs of .ci/run: the seconds of each step that differs, and of all
 
 Counted are:
     definition      a record, data, abbrev or unfoldable in specs/, and everything in crates/rules
@@ -184,28 +183,26 @@ def compare(before, after):
 
 
 def seconds(path):
-    """The seconds of each crate that a log names; and those of all steps, or None where it names none."""
+    """The seconds of each step that a log names."""
     try:
         with open(path, encoding="utf-8", errors="replace") as log:
             text = log.read()
     except OSError as error:
         sys.exit(f"moved: {error}")
-    found = re.findall(r"(?m)^rt: (\w+) proved \((\d+) s\)", text)
+    found = re.findall(r"(?m)^   (\S.*): ok, (\d+) s$", text)
     if not found:
-        sys.exit(f"moved: {path} names no proved crate")
-    steps = re.findall(r"(?m)^   \S.*: ok, (\d+) s$", text)
-    return {crate: int(count) for crate, count in found}, sum(map(int, steps)) if steps else None
+        sys.exit(f"moved: {path} names no step that ended")
+    return {step: int(count) for step, count in found}
 
 
 def times(before, after):
-    (old, old_gate), (new, new_gate) = seconds(before), seconds(after)
-    print("| crate | before, s | after, s |")
+    old, new = seconds(before), seconds(after)
+    print("| step | before, s | after, s |")
     print("|---|---:|---:|")
-    for crate in dict.fromkeys([*old, *new]):
-        if crate not in old or crate not in new or abs(old[crate] - new[crate]) > 1:
-            print(f"| {crate} | {old.get(crate, '–')} | {new.get(crate, '–')} |")
+    for step in dict.fromkeys([*old, *new]):
+        if step not in old or step not in new or abs(old[step] - new[step]) > 1:
+            print(f"| {step} | {old.get(step, '–')} | {new.get(step, '–')} |")
     print(f"| all | {sum(old.values())} | {sum(new.values())} |")
-    print(f"| gate | {'–' if old_gate is None else old_gate} | {'–' if new_gate is None else new_gate} |")
 
 
 def main(words):

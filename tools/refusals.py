@@ -282,11 +282,11 @@ def value(text, place):
 def defined(path):
     """The numbers that a specification gives names to, by name, with underscores for the dashes."""
     text = re.sub(r"--.*", "", read(path))
-    names = re.findall(r"^abbrev pub ([a-z-]+) : ℕ$", text, re.M)
-    values = dict(re.findall(r"^([a-z-]+) = (.+)$", text, re.M))
+    names = re.findall(r"^abbrev pub ([a-z_]+) : ℕ$", text, re.M)
+    values = dict(re.findall(r"^([a-z_]+) = (.+)$", text, re.M))
     if not names or set(names) != set(values):
         raise Wrong(f"{path}: not `abbrev pub NAME : ℕ` and `NAME = NUMBER` for each name")
-    return {name.replace("-", "_"): value(values[name], path) for name in names}
+    return {name: value(values[name], path) for name in names}
 
 
 def constants():
@@ -311,7 +311,7 @@ def given():
     names = set()
     for path in sorted((ROOT / "crates/rules/specs").glob("*.antt")):
         text = re.sub(r"--.*", "", read(path))
-        names |= {name.replace("-", "_") for name in re.findall(r"\brefusal\.([a-z-]+)", text)}
+        names |= set(re.findall(r"\brefusal\.([a-z_]+)", text))
     return names
 
 
@@ -333,7 +333,7 @@ def check(rows):
     wrong += unlike(SOURCE, source, DEFINED, numbers)
     wrong += unlike(DEFINED, numbers, CODE, {name: code[name] for name in code if name not in limits})
     wrong += unlike(LIMITS, limits, CODE, {name: code[name] for name in code if name in limits})
-    wrong += [f"no definition of crates/rules/specs gives refusal.{name.replace('_', '-')}" for name in numbers if name not in given()]
+    wrong += [f"no definition of crates/rules/specs gives refusal.{name}" for name in numbers if name not in given()]
     return wrong, len(limits)
 
 

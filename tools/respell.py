@@ -1,5 +1,5 @@
 #!/usr/bin/env python3
-"""Brings the repository's own definitions and lemmas to snake case: `clear-start` becomes `clear_start`. Run once, after port.py.
+"""Host code, not proved: brings the repository's own definitions and lemmas to snake case: `clear-start` becomes `clear_start`.
 
 usage: tools/respell.py [--check] [FILE..]     without FILE every .rt, .antt and .edit file below crates/
 
@@ -14,7 +14,7 @@ import sys
 
 IDENT = r"[^\W\d][\w'\-₀-₉]*"
 TOKEN = re.compile(r"(?<![\w'\-.])\.?" + IDENT + r"|\." + IDENT)
-DECLARED = re.compile(r"\s*(?:abbrev |unfoldable |pub |data |record )*(" + IDENT + r")(?: [^:]*)? : ")
+DECLARED = re.compile(r"\s*(?:abbrev |unfoldable |pub |data |record )*(" + IDENT + r"(?: " + IDENT + r")*)(?: [^:]*)? : ")
 USE = re.compile(r"^\s*(?:pub )?(?:ghost )?use ([^\s{;]+?)(?:\.\{([^}]*)\}|\s+as\s+\S+)?;?\s*$")
 
 
@@ -29,8 +29,8 @@ def own():
         with open(path, encoding="utf-8") as f:
             for line in f:
                 m = DECLARED.match(line)
-                if m and "-" in m[1]:
-                    names.add(m[1])
+                if m:
+                    names.update(name for name in m[1].split() if "-" in name)
     return names
 
 
@@ -75,6 +75,8 @@ def turned(path, text, names, crates, taken):
     rt = path.endswith(".rt") or path.endswith(".edit")
     lemmas = path.endswith(".antt") and (f"{os.sep}specs{os.sep}" in path or path.count(os.sep) == 3)
     kept = foreign(text, crates)
+    if rt:
+        names = names | set(re.findall(r"\bas ([a-z]\w*(?:-\w+)+)", text))
 
     def one(m):
         dot, name = ("." if m[0][0] == "." else ""), m[0].lstrip(".")
@@ -122,6 +124,12 @@ def renamed():
 
 
 def main(argv):
+    if argv == ["--help"]:
+        print(__doc__.strip())
+        return
+    wrong = [a for a in argv if a.startswith("-") and a != "--check"]
+    if wrong:
+        sys.exit(f"tools/respell.py: unknown option {wrong[0]} (see --help)")
     check = "--check" in argv
     named = [a for a in argv if not a.startswith("--")]
     crates = {os.path.basename(c) for c in files("crates/*")}

@@ -1,6 +1,6 @@
 """Host code, not proved: what the other tools read of a repository's crates.
 
-No command of its own; crates.py, rooms.py, unused.py, metrics.py and wrap.py import it, and oracle/vectors.py. It reads
+No command of its own; crates.py, exported.py, rooms.py, unused.py and metrics.py import it, and oracle/vectors.py. It reads
 crates.txt, and of sources (.rt) and specifications (.antt) their words, their imports and what they
 declare. It knows the layout that `rt fmt` gives the files, and no types: a word is a word. Below that stands
 what tools need that write specifications and proofs: long lines broken, the layout of `rt fmt`, differences told."""
@@ -11,13 +11,13 @@ import re
 import subprocess
 import tempfile
 
-KIT = ("check", "io", "libc", "os", "bytes")  # the toolchain's libraries that a crate may use
+KIT = ()  # the toolchain's libraries that a crate may list; std is always there and never listed
 MODIFIERS = ("pub", "abbrev", "unfoldable", "axiom", "opaque", "private", "instance")
-# A word of a specification, with the dots in it: `tie.close`, `.before`, `x.` after a λ.
+# A word of a specification, with the dots in it: `tie.close`, `r.number`, `x.` after a λ.
 WORD = re.compile(r'[^\s(){};,@"«»]+')
 # A clause of a contract, which may take several lines: up to a bracket at the end of one.
 CLAUSE = re.compile(r"^ *(?:requires|ensures|decreases)\b.*?\}$", re.M | re.S)
-IMPORT = re.compile(r"^\s*(?:ghost )?use (Rattle·)?(\S+?)(?:\.\{(.*)\}| as (\S+?))?;?$")
+IMPORT = re.compile(r"^\s*(?:ghost )?use (\S+?)(?:\.\{(.*)\}| as (\S+?))?;?$")
 
 
 class Wrong(Exception):
@@ -46,10 +46,10 @@ def uncommented(text, mark):
 
 
 class Crate:
-    """A crate: its line of crates.txt, and its files."""
+    """A crate: its line of crates.txt, with the kind where it is no library and no program (`staticlib`), and its files."""
 
-    def __init__(self, root, name, uses, comment):
-        self.name, self.uses, self.comment = name, uses, comment
+    def __init__(self, root, name, kind, uses, comment):
+        self.name, self.kind, self.uses, self.comment = name, kind, uses, comment
         self.folder = root / "crates" / name
         self.root = root
         self.texts = {}
@@ -65,9 +65,16 @@ class Crate:
             self.texts[path] = uncommented(read(path), "//" if path.suffix == ".rt" else "--")
         return self.texts[path]
 
+    def source_as_it_is(self):
+        """The text of all its files, comments too."""
+        return "\n".join(read(path) for path in self.files("src"))
+
     def source(self):
-        """The code and contracts of all its files."""
-        return "\n".join(self.plain(path) for path in self.files("src"))
+        """The code and contracts of all its files; what one line brings of a crate stands there one by one."""
+        def apart(found):
+            return " ".join(f"use {found[1]}::{name.strip()};" for name in found[2].split(",") if name.strip())
+
+        return re.sub(r"(?m)^use ([\w:]+)::\{([^}]*)\};", apart, "\n".join(self.plain(path) for path in self.files("src")))
 
 
 def crates(root):
@@ -78,13 +85,14 @@ def crates(root):
         body, _, comment = line.partition("#")
         if not body.strip():
             continue
-        name, colon, uses = body.partition(":")
-        name = name.strip()
-        if not colon or not re.fullmatch(r"[a-z][a-z0-9_]*", name):
-            raise Wrong(f"crates.txt:{number}: not `name: uses  # comment`")
+        head, colon, uses = body.partition(":")
+        named = re.fullmatch(r"([a-z][a-z0-9_]*)( staticlib)?", head.strip())
+        if not colon or not named:
+            raise Wrong(f"crates.txt:{number}: not `name: uses  # comment` or `name staticlib: uses  # comment`")
+        name, kind = named[1], (named[2] or "").strip()
         if name in found:
             raise Wrong(f"crates.txt:{number}: {name} stands there twice")
-        found[name] = Crate(root, name, uses.split(), comment.strip())
+        found[name] = Crate(root, name, kind, uses.split(), comment.strip())
     folders = {folder.name for folder in (root / "crates").iterdir() if folder.is_dir()}
     for name in sorted(found.keys() - folders):
         raise Wrong(f"crates.txt lists {name}, and there is no crates/{name}")
@@ -100,13 +108,13 @@ def imports(line):
     found = IMPORT.match(line)
     if not found:
         return None
-    module = (found[1] or "") + found[2]
-    if found[4]:
-        return module, [(None, found[4])]
-    if found[3] is None:
+    module = found[1]
+    if found[3]:
+        return module, [(None, found[3])]
+    if found[2] is None:
         return module, []
     pairs = []
-    for item in found[3].split(","):
+    for item in found[2].split(","):
         words = item.split()
         if words:
             pairs.append((words[0], words[-1]))
@@ -114,9 +122,8 @@ def imports(line):
 
 
 def module_file(root, module):
-    """The file of the repository that a module's path names, or None: `Rattle·rules.specs.Guide` from another
-    crate, `Rattle·rules·specs.specs.Guide` from its own."""
-    found = re.match(r"Rattle·([a-z][a-z0-9_]*)(?:·(?:specs|proofs))?\.(specs|proofs)\.(.+)$", module)
+    """The file of the repository that a module's path names, `Rattle.rules.specs.Guide`, or None."""
+    found = re.match(r"Rattle\.([a-z][a-z0-9_]*)\.(specs|proofs)\.(.+)$", module)
     if not found:
         return None
     path = root / "crates" / found[1] / found[2] / (found[3].replace(".", "/") + ".antt")
@@ -124,10 +131,8 @@ def module_file(root, module):
 
 
 def parts_of(name):
-    """The words by which a name is used: itself, or an operator's parts (`_++_` is written `++`)."""
-    if "_" not in name or set(name) == {"_"}:
-        return [name]
-    return [part for part in name.split("_") if part]
+    """The words by which a name is used: itself, or an operator's parts (`◌++◌` is written `++`)."""
+    return [part for part in name.split("◌") if part] if "◌" in name else [name]
 
 
 def first_words(text):
@@ -314,17 +319,17 @@ def formatted(texts):
     """Files by their paths below crates/, as `rt fmt` lays them out."""
     with tempfile.TemporaryDirectory() as folder:
         root = pathlib.Path(folder)
-        (root / "crates.txt").write_text("", encoding="utf-8")
         for name, text in texts.items():
-            (root / "crates" / name).parent.mkdir(parents=True, exist_ok=True)
-            (root / "crates" / name).write_text(text, encoding="utf-8")
-        try:
-            done = subprocess.run(["rt", "fmt"], cwd=root, capture_output=True, text=True, check=False)
-        except OSError as error:
-            raise Wrong(f"the toolchain (rt), which lays the files out, cannot be run: {error}") from error
-        if done.returncode:
-            raise Wrong(f"rt fmt: {done.stdout}{done.stderr}")
-        return {name: read(root / "crates" / name) for name in texts}
+            (root / name).parent.mkdir(parents=True, exist_ok=True)
+            (root / name).write_text(text, encoding="utf-8")
+        for crate in {name.split("/")[0] for name in texts}:
+            try:
+                done = subprocess.run(["rt", "fmt"], cwd=root / crate, capture_output=True, text=True, check=False)
+            except OSError as error:
+                raise Wrong(f"the toolchain (rt), which lays the files out, cannot be run: {error}") from error
+            if done.returncode:
+                raise Wrong(f"rt fmt: {done.stdout}{done.stderr}")
+        return {name: read(root / name) for name in texts}
 
 
 def differences(kept, written, source):

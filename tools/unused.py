@@ -4,12 +4,14 @@
     tools/unused.py                          says each, and ends with status 1 if there is one
     tools/unused.py --remove-imports [CRATE..]  removes imported names that their file does not use, in all
                                              crates or in some; `rt check` decides then whether one was needed
+    tools/unused.py --keep REASON            adds what specs/ and proofs/ declare unused to those kept with a reason
     --root FOLDER                            of another repository than the one that this tool stands in
 
 Used is, of
     an imported name   what occurs in its file, an operator by its parts, a module as `name.`
-    a declaration      of specs/ and proofs/: what a contract, a function's proof or docs/STATEMENTS.md names, or
-                       a declaration that is itself used; a line `unfolding` uses nothing
+    a declaration      of specs/ and proofs/: what a contract, a function's proof (its invariants and answers, and what its
+                       tactics are given by `using` and `unfolding`) or docs/STATEMENTS.md names, or a declaration
+                       that is itself used; a line `unfolding` uses nothing
     an item of src/    a function, constant, struct or enum: what some code names, of a program, of a crate or of
                        the tests in Rattle; what is exported to hosts; and `main`
 What is kept unused stands in tools/unused.txt, each with its reason."""
@@ -22,6 +24,8 @@ import sources
 from sources import WORD, Wrong
 
 KEPT = "tools/unused.txt"
+# The files of a function's proof, whose public names the check asks for.
+OF_A_FUNCTION = ("Invariants.antt", "Answers.antt", "Proof.antt")
 CITING = "docs/STATEMENTS.md"
 ITEM = re.compile(r'(?m)^(?:#\[.*\]\n)?(?:pub )?(extern "C" )?(fn|const|struct|enum) (\w+)')
 
@@ -40,10 +44,13 @@ def unused_imports(crate):
             text = crate.plain(path)
             words = sources.first_words(without_imports(text))
             for number, line in enumerate(text.split("\n"), 1):
-                code = re.match(r"use (\w+)::(\w+);", line)
-                if code and not re.search(rf"\b{code[2]}\b", without_imports(text)):
-                    yield path, number, code[2]
-                if not code:
+                code = re.match(r"use (\w+)::[\w:]*?(?:(\w+)|\{([^}]*)\});", line)
+                if code:
+                    # of std also traits are brought, whose methods alone are named
+                    for item in (code[2] or code[3]).split(",") if (crate.root / "crates" / code[1]).is_dir() else []:
+                        if not re.search(rf"\b{item.split()[-1]}\b", without_imports(text)):
+                            yield path, number, item.split()[-1]
+                else:
                     for name in sources.idle(line, words):
                         yield path, number, name
 
@@ -117,6 +124,11 @@ class Source(File):
         for line in text.split("\n"):
             self.bring(root, line)
         self.words = WORD.findall(without_imports(text))
+        # what tactics are given, by its path in the code: `crate::proofs::Runs::lemma`
+        for of, part, modules, name in re.findall(r"\b(\w+)::(specs|proofs)::((?:\w+::)+)([^\s,()]+)", text):
+            target = sources.module_file(root, f"Rattle.{crate.name if of == 'crate' else of}.{part}.{modules[:-2].replace('::', '.')}")
+            if target:
+                self.names[f"{of}::{part}::{modules}{name}"] = (target, name)
 
 
 def cited(root):
@@ -137,7 +149,7 @@ def unused_declarations(root, crates):
     headlines = cited(root)
     for file in files.values():
         for one in file.declarations:
-            if (file.path.name == "Proof.antt" and one.public) or ("specs" in file.path.parts and one.name in headlines):
+            if (file.path.name in OF_A_FUNCTION and one.public) or one.name in headlines:
                 todo.append((file, one))
     for crate in crates.values():
         for path in crate.files("src"):
@@ -202,6 +214,15 @@ def kept(root):
     return found
 
 
+def keep(root, reason):
+    """Adds what is declared and unused to the list, with this reason."""
+    known = kept(root)
+    names = [name for name, _, _ in unused_declarations(root, sources.crates(root)) if not {name, name.rsplit(".", 1)[0]} & known.keys()]
+    with open(root / KEPT, "a", encoding="utf-8") as file:
+        file.writelines(f"{name} | {reason}\n" for name in names)
+    print(f"unused: {len(names)} declarations more are kept")
+
+
 def report(root):
     """Sentences on what is unused, and the counts by kind."""
     crates = sources.crates(root)
@@ -228,7 +249,7 @@ def report(root):
 
 
 def main():
-    words, root, remove, names = sys.argv[1:], sources.own_repository(), False, []
+    words, root, remove, reason, names = sys.argv[1:], sources.own_repository(), False, None, []
     while words:
         word = words.pop(0)
         if word == "--help":
@@ -238,13 +259,18 @@ def main():
             root = pathlib.Path(words.pop(0))
         elif word == "--remove-imports":
             remove = True
+        elif word == "--keep" and words and words[0].strip():
+            reason = words.pop(0).strip()
         elif remove and not word.startswith("-"):
             names.append(word)
         else:
-            sys.exit("usage: tools/unused.py [--remove-imports [CRATE..]] [--root FOLDER]")
+            sys.exit("usage: tools/unused.py [--remove-imports [CRATE..] | --keep REASON] [--root FOLDER]")
     try:
         if remove:
             remove_imports(root, names)
+            return
+        if reason:
+            keep(root, reason)
             return
         lines, counts, exceptions = report(root)
     except (Wrong, OSError) as error:

@@ -6,7 +6,7 @@
 #   tests/ascending/run.sh --long    ten times as many random lists
 #
 # ASCENDING_SEED chooses the random lists (default 1). ASCENDING_LIBRARY names a library to link instead of the one that
-# `rt staticlib ascending_replay` proves and writes.
+# `tools/archives ascending_replay` proves and writes.
 set -euo pipefail
 trap 'echo "$0: line $LINENO ended with $?" >&2' ERR
 cd "$(dirname "$0")/../.."

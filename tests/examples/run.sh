@@ -1,11 +1,12 @@
 #!/bin/bash
 # Every job of examples/ gives the listing that is kept beside it, the generated ones are what their
 # commands write, lanes change nothing else, and examples/README.md tells the answers of the refused ones, one for every number. Needs
-# target/bin/order and order_reason, which the proofs' step builds.
+# target/bin/order and order_reason.
 set -euo pipefail
 trap 'echo "$0: line $LINENO ended with $?" >&2' ERR
 cd "$(dirname "$0")/../.."
 
+tools/archives order order_reason || { echo "tests/examples: no programs" >&2; exit 1; }
 order=target/bin/order
 failed=0 count=0
 for job in examples/*.job examples/refused/*.job; do

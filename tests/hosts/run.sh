@@ -34,36 +34,57 @@ refuses 1 "no crate nosuch" tools/archives nosuch
 refuses 2 "unknown option --force" tools/archives --force
 refuses 2 "unknown option -x" tools/archives host -x
 tests/prints.sh NAME.. tools/archives --help || fail "tools/archives --help"
+# Copies of the repository's parts lie outside it: a toolchain takes a crate or a crates.txt below its top for a mistake.
+outside=$(mktemp -d)
+trap 'rm -rf "$outside"' EXIT
 # A source edited while the archive is made is newer than it: by a toolchain that edits one, in a copy.
-toy=$work/toy
-mkdir -p "$toy"/{tools,bin,crates/toy/src} && cp tools/archives "$toy/tools/" && touch "$toy/crates.txt"
-echo 'pub extern "C" fn toy() {}' >"$toy/crates/toy/src/lib.rt"
-printf '%s\n' '#!/bin/bash' 'echo made >>made; sleep 0.1; [ -f edited ] || touch edited crates/toy/src/lib.rt' \
-  'sleep 0.1; echo archive >target/staticlib/libtoy.a' >"$toy/bin/rt"
+toy=$outside/toy
+mkdir -p "$toy"/{tools,bin,crates/toy_c/src} && cp tools/archives "$toy/tools/" && echo 'toy_c staticlib:' >"$toy/crates.txt"
+echo 'pub extern "C" fn toy() {}' >"$toy/crates/toy_c/src/lib.rt"
+printf '%s\n' '#!/bin/bash' 'echo made >>../../made; sleep 0.1; [ -f ../../edited ] || touch ../../edited src/lib.rt' \
+  'sleep 0.1; mkdir -p out; echo archive >out/libtoy_c.a' >"$toy/bin/rt"
 chmod +x "$toy/bin/rt"
 for expected in 1 2 2; do
   PATH=$toy/bin:$PATH "$toy/tools/archives" || fail "tools/archives in a copy"
   [ "$(wc -l <"$toy/made")" = $expected ] || fail "tools/archives made the archive $(wc -l <"$toy/made") times, not $expected"
 done
-# Two at a time, each by a toolchain with notes of its own, once what they use is proved; one that fails stops no other.
-toys=$work/toys
-mkdir -p "$toys"/{tools,bin,crates/{base,one,two}/src} && cp tools/archives "$toys/tools/"
-printf '%s\n' 'base:' 'one: base kits    # of two' 'two: base' >"$toys/crates.txt"
-for name in one two; do echo 'pub extern "C" fn toy() {}' >"$toys/crates/$name/src/lib.rt"; done
-printf '%s\n' '#!/bin/bash' 'echo "$@" >>'"$toys"'/said; [ $1 != check ] || exit 0' \
-  'mkdir -p target/log && mkdir target/log/busy && sleep 0.2 && [ $2 != $(cat '"$toys"'/wrong) ] && echo archive >target/staticlib/lib$2.a' >"$toys/bin/rt"
-chmod +x "$toys/bin/rt" && echo one >"$toys/wrong"
-PATH=$toys/bin:$PATH refuses 1 "rt staticlib one failed" "$toys/tools/archives"
-[ "$(cd "$toys/target/staticlib" && echo *.a)" = libtwo.a ] || fail "tools/archives: the archive that was made is not there"
+# Two at a time, archives and a program; one that fails stops no other. What a library, rt ci and other commands left of a crate
+# is told apart: over what rt ci has proved of these very files a static library is built by the compiler itself.
+toys=$outside/toys
+mkdir -p "$toys"/{tools,bin,kit/bin,crates/{base,one_c,two_c,show}/src} && cp tools/archives "$toys/tools/"
+printf '%s\n' 'base:' 'one_c staticlib: base    # of two' 'two_c staticlib: base' 'show: base' >"$toys/crates.txt"
+for name in one_c two_c; do echo 'pub extern "C" fn toy() {}' >"$toys/crates/$name/src/lib.rt"; done
+echo 'fn main() {}' >"$toys/crates/show/src/main.rt"
+printf '%s\n' '#!/bin/bash' "[ \$1 != doc ] || { echo $toys/kit/START; exit; }" 'name=$(basename "$PWD")' \
+  "echo \"\$1 \$name\" >>$toys/said; [ \$name != \$(cat $toys/wrong) ] || exit 1" 'mkdir -p out' \
+  'case $1 in lib) echo archive >out/lib$name.a ;; run) echo program >out/$name ;; esac' >"$toys/bin/rt"
+printf '%s\n' '#!/bin/bash' "echo \"\$1 \$3 \$(grep -c -- '^--extern base=../base/out/rlib/base.rlib -L dependency=../base/out/rlib ' <<<\"\${*:9}\")\" >>$toys/said" \
+  'echo kept >"${@: -1}"' >"$toys/kit/bin/rattle"
+chmod +x "$toys"/{bin/rt,kit/bin/rattle} && echo one_c >"$toys/wrong"
+PATH=$toys/bin:$PATH refuses 1 "crate one is not proved or not built" "$toys/tools/archives"
+[ "$(cd "$toys/target" && echo staticlib/*.a bin/*)" = 'staticlib/libtwo.a bin/show' ] || fail "tools/archives: the archive that was made is not there"
 echo none >"$toys/wrong"
 PATH=$toys/bin:$PATH "$toys/tools/archives" || fail "tools/archives after one that failed"
-sort "$toys/said" | tests/same.sh - <(printf '%s\n' 'check base' 'staticlib one' 'staticlib one' 'staticlib two') ||
-  fail "tools/archives asks for something else"
-echo "hosts: tools/archives: a source edited meanwhile is seen, three misuses refused; two at a time"
+asked() { # LINE..
+  sort "$toys/said" | tests/same.sh - <(printf '%s\n' "$@") || fail "tools/archives asks for something else"
+  rm "$toys/said"
+}
+asked 'lib one_c' 'lib one_c' 'lib two_c' 'run show'
+touch "$toys/crates/base/src/lib.rt" && mkdir -p "$toys/crates/base/out/rlib" && "$toys/tools/archives" --proved
+PATH=$toys/bin:$PATH "$toys/tools/archives" || fail "tools/archives after rt ci"
+asked 'build one_c 1' 'build two_c 1'
+[ "$(cat "$toys"/target/{staticlib/libone.a,bin/show} | paste -sd' ')" = 'kept program' ] || fail "tools/archives after rt ci: another file"
+sleep 0.1 && touch "$toys/crates/base/src/lib.rt" "$toys/crates/base/out/rlib/stamp"
+PATH=$toys/bin:$PATH "$toys/tools/archives" one || fail "tools/archives over another command's library"
+asked 'lib one_c'
+echo '// changed' >"$toys/crates/base/src/lib.rt" && rm "$toys/crates/base/out/rlib/stamp"
+PATH=$toys/bin:$PATH "$toys/tools/archives" one show || fail "tools/archives after a change"
+asked 'lib one_c' 'run show'
+echo "hosts: tools/archives: a source edited meanwhile is seen, three misuses refused; two at a time; what rt ci left is taken while it is of the same files"
 
 # The refusals: the lists are those of the source, and the comparison finds what it must.
 tools/refusals.py --check
-copy=$work/copy
+copy=$outside/copy
 mkdir -p "$copy"/{crates/rules,docs,hosts/rust/src,hosts/python/witness_order,tools}
 fresh() {
   cp -r crates/rules/specs crates/rules/src "$copy/crates/rules/" && cp docs/JOB.md "$copy/docs/" && cp tools/refusals.py "$copy/tools/"
@@ -79,16 +100,16 @@ next=$(($(grep -o '^[0-9]*' hosts/refusals.txt | tail -n 1) + 1))
 fresh && echo "$next | one_more | a test adds it | nothing" >>"$copy/hosts/refusals.txt"
 "$copy/tools/refusals.py"
 refuses 1 "hosts/refusals.txt has one_more ($next), which crates/rules/specs/Refusals.antt has not" "$copy/tools/refusals.py" --check
-printf '%s\n' 'abbrev pub one-more : ℕ' "one-more = $next" >>"$copy/crates/rules/specs/Refusals.antt"
-refuses 1 "no definition of crates/rules/specs gives refusal.one-more" "$copy/tools/refusals.py" --check
-echo "x = record { fails = true; number = refusal.one-more }" >>"$copy/crates/rules/specs/Checks.antt"
+printf '%s\n' 'abbrev pub one_more : ℕ' "one_more = $next" >>"$copy/crates/rules/specs/Refusals.antt"
+refuses 1 "no definition of crates/rules/specs gives refusal.one_more" "$copy/tools/refusals.py" --check
+echo "x = record { fails = true; number = refusal.one_more }" >>"$copy/crates/rules/specs/Checks.antt"
 refuses 1 "Refusals.antt has one_more ($next), which crates/rules/src/lib.rt has not" "$copy/tools/refusals.py" --check
 echo "pub const ONE_MORE: u64 = $next;" >>"$copy/crates/rules/src/lib.rt"
 "$copy/tools/refusals.py" --check >/dev/null || fail "a line in each of four places is not enough for one more refusal"
 fresh && sed -i '/^8 /d' "$copy/hosts/refusals.txt"
 "$copy/tools/refusals.py"
 refuses 1 "Refusals.antt has taken_place (8), which hosts/refusals.txt has not" "$copy/tools/refusals.py" --check
-fresh && sed -i 's/^least-flagged = .*/least-flagged = 2 ^ 61/' "$copy/crates/rules/specs/Limits.antt"
+fresh && sed -i 's/^least_flagged = .*/least_flagged = 2 ^ 61/' "$copy/crates/rules/specs/Limits.antt"
 refuses 1 "least_flagged is 2305843009213693952 in" "$copy/tools/refusals.py" --check
 fresh && sed -i 's/LAST_SPAN_LIMIT: u32 = 4294967264/LAST_SPAN_LIMIT: u32 = 4294967263/' "$copy/crates/rules/src/lib.rt"
 refuses 1 "4294967263 in crates/rules/src/lib.rt" "$copy/tools/refusals.py" --check
@@ -120,7 +141,7 @@ for compiler in 'gcc -std=c99' 'g++ -std=c++11 -x c++' 'clang -std=c99' 'clang++
     echo "hosts: no ${compiler%% *}: NOTHING is compiled by it"
   fi
 done
-archives=$(printf 'target/staticlib/lib%s.a ' $(grep -l 'pub extern "C" fn' crates/*/src/lib.rt | cut -d/ -f2))
+archives=$(printf 'target/staticlib/lib%s.a ' $(tools/archives --list))
 printf '%s\n' registrations=4 pool=7 flushes=0 most_spans=40 >"$work/j1.needs"
 { printf 'call %s breaches the profile\n' 4 5 && grep ^order= crates/order/stdout; } >"$work/j1.ascending"
 cat >"$work/j1.lines" <<'TEXT'
@@ -229,7 +250,7 @@ echo "hosts: $headers headers, eight examples and replay_storage's test by: ${co
 
 # A host with nothing but pkg-config from the installation, in a folder of its own: shared, static and C++.
 elsewhere=$(mktemp -d)
-trap 'rm -rf "$elsewhere"' EXIT
+trap 'rm -rf "$elsewhere" "$outside"' EXIT
 outside() (
   set -e
   trap 'echo "$0: line $LINENO ended with $?: $BASH_COMMAND" >&2' ERR
@@ -279,7 +300,7 @@ ORDER_LIBS=$prefix/lib CARGO_TARGET_DIR=$elsewhere/cargo cargo build --offline -
 diff crates/order/stdout <("$elsewhere/cargo/debug/order-large" crates/order/stdin) || fail "order-large over the installed library"
 echo "hosts: the crate for Rust over the installed library: J1"
 exported=$(nm -D --defined-only "$prefix/lib/liborder.so" | awk '$2 == "T" {print $3}' | sort | paste -sd' ')
-wanted=$(sed -n 's/^pub extern "C" fn \([a-z_]*\).*/\1/p' crates/*/src/lib.rt | sort | paste -sd' ')
+wanted=$(sed -n 's/^pub extern "C" fn \([a-z_]*\).*/\1/p' crates/*_c/src/lib.rt | sort | paste -sd' ')
 [ "$exported" = "$wanted" ] || fail "liborder.so exports '$exported', not '$wanted'"
 for call in $exported; do
   grep -qw "$call" hosts/*.h || fail "$call is exported and no header has it"

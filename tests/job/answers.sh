@@ -22,8 +22,7 @@ work=target/job
 mkdir -p $work
 if [ -z "$target" ]; then
   target=$PWD/target
-  tools/archives host jobneeds || fail "no library"
-  flock target/rt.lock rt check order >$work/order.log 2>&1 || { tail -n 20 $work/order.log >&2; fail "rt check order"; }
+  tools/archives host jobneeds order || fail "no library or no program"
 fi
 rustc --edition 2021 -O -D warnings -C link-arg="$target/staticlib/libhost.a" \
   -C link-arg="$target/staticlib/libjobneeds.a" -o $work/answers tests/job/answers.rs

@@ -21,8 +21,7 @@ seed=${JOB_SEED:-1}
 
 work=target/job
 mkdir -p $work
-tools/archives host || fail "no library"
-flock target/rt.lock rt check order >$work/order.log 2>&1 || { tail -n 20 $work/order.log >&2; fail "rt check order"; }
+tools/archives host order || fail "no library or no program"
 library=$(realpath target/staticlib/libhost.a)
 order=target/bin/order
 

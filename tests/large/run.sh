@@ -47,7 +47,7 @@ cargo build --release --offline --quiet --manifest-path $manifest || fail "cargo
 large=target/cargo/release/order-large
 
 # The program beside the program.
-[ -x target/bin/order ] || flock target/rt.lock rt check order >$work/order.log 2>&1 || { tail -n 20 $work/order.log >&2; fail "no order"; }
+tools/archives order || fail "no order"
 reference=target/reference/reference
 tests/reference/build.sh
 $reference jobs "$LARGE_SEED" 200 >$work/random.cases

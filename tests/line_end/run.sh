@@ -6,7 +6,7 @@
 #   tests/line_end/run.sh --long    ten times as many random texts
 #
 # LINE_END_SEED chooses the random texts (default 1). LINE_END_LIBRARY names a library to link instead of the one that
-# `rt staticlib jobtext` proves and writes. Where valgrind is at hand a part of it runs under it.
+# `tools/archives jobtext` proves and writes. Where valgrind is at hand a part of it runs under it.
 set -euo pipefail
 trap 'echo "$0: line $LINENO ended with $?" >&2' ERR
 cd "$(dirname "$0")/../.."

@@ -27,8 +27,8 @@ module _ (m : ℕ)
 TEXT
 cat >crates/toy/src/lib.rt <<'TEXT'
 pub fn twice(x: u32) -> u32
-    requires { ⌜ x ≤ 9 ⌝ }
-    ensures { λ r. ⌜ r ≡ double x ⌝ }
+    requires { x ≤ 9 }
+    ensures { result ≡ double x }
 {
     x + x
 }
@@ -39,18 +39,18 @@ pub fn same(x: u32) -> u32
 }
 
 pub fn wide(x: u32) -> u64
-    ensures { λ r. ⌜ r ≡ x ⌝ }
+    ensures { result ≡ x }
 {
     x as u64
 }
 
 pub fn least(x: u32) -> u32
-    requires { ⌜ x ≤ 5 ⌝ }
+    requires { x ≤ 5 }
 {
     x
 }
 TEXT
-echo 'proof' >crates/toy/proofs/twice/Proof.antt
+echo 'proof' >crates/toy/proofs/twice/Answers.antt
 echo 'edit' >crates/toy/must-fail/thrice.edit
 git init -q . && commit before
 sed -i 's/-- a comment/-- another/; s/(n : ℕ)/(n : ℕ) (h : n ≤ 9)/; s/m ≤ 9/m ≤ 8/' crates/toy/specs/Toy.antt
@@ -91,16 +91,18 @@ wrong program, gone: toy: thrice.edit
 TEXT
 "$tool" HEAD~1 HEAD | diff expected - || { echo "tests/moved: the table differs" >&2; exit 1; }
 
-# The logs as .ci/run writes them; one that ends before its first step has no time for the gate.
-printf '%s\n' '== links' '   links: ok, 1 s' '== proofs' 'rt: a proved (3 s)' 'rt: b proved (4 s)' '   proofs (log): ok, 8 s' >before.log
-printf '%s\n' '== links' '   links: ok, 0 s' '== proofs' 'rt: a proved (9 s)' 'rt: b proved (4 s)' '   proofs (log): ok, 14 s' >after.log
-printf '%s\n' 'rt: a proved (9 s)' 'rt: b proved (4 s)' >short.log
-times() { # LOG GATE
-  printf '%s\n' '| crate | before, s | after, s |' '|---|---:|---:|' '| a | 3 | 9 |' '| all | 7 | 13 |' "| gate | 9 | $2 |" |
-    diff - <("$tool" --times before.log "$1") || { echo "tests/moved: the times of $1 differ" >&2; exit 1; }
+# The logs as .ci/run writes them; one that ends before its last step has fewer.
+printf '%s\n' '== links' '   links: ok, 1 s' '== proofs' 'rt: a proved' 'rt: b proved' '   proofs (log): ok, 8 s' '   tests: ok, 5 s' >before.log
+printf '%s\n' '== links' '   links: ok, 0 s' '== proofs' 'rt: a proved' 'rt: b proved' '   proofs (log): ok, 14 s' '   tests: ok, 5 s' >after.log
+printf '%s\n' '== links' '   links: ok, 0 s' '== proofs' 'rt: a proved' >short.log
+times() { # LOG LINE..
+  local log=$1
+  shift
+  printf '%s\n' '| step | before, s | after, s |' '|---|---:|---:|' "$@" |
+    diff - <("$tool" --times before.log $log) || { echo "tests/moved: the times of $log differ" >&2; exit 1; }
 }
-times after.log 14
-times short.log –
+times after.log '| proofs (log) | 8 | 14 |' '| all | 14 | 19 |'
+times short.log '| proofs (log) | 8 | – |' '| tests | 5 | – |' '| all | 14 | 0 |'
 
 for words in 'no-such-commit' '--times before.log no-such.log' '--times expected after.log' '' '--what' \
   'HEAD~1 --times' 'HEAD -v' '--times before.log -v' '--help HEAD'; do

@@ -7,7 +7,7 @@
 #   tests/needs/run.sh --long    ten times as many random jobs
 #
 # NEEDS_SEED chooses the random jobs (default 1). NEEDS_LIBRARY names a library to link instead of the one that
-# `rt staticlib jobneeds` proves and writes.
+# `tools/archives jobneeds` proves and writes.
 set -euo pipefail
 trap 'echo "$0: line $LINENO ended with $?" >&2' ERR
 cd "$(dirname "$0")/../.."

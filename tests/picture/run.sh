@@ -1,12 +1,13 @@
 #!/bin/bash
 # The pictures of docs/GUARANTEE.md are what their commands draw, and tools/picture.py says plainly what
-# it can't draw. Needs target/bin/order, which the proofs' step builds; order-large is built if it is missing.
+# it can't draw. Needs target/bin/order; order-large is built if it is missing.
 set -euo pipefail
 trap 'echo "$0: line $LINENO ended with $?" >&2' ERR
 cd "$(dirname "$0")/../.."
 
 order=target/bin/order
 fail() { echo "tests/picture: $*" >&2; exit 1; }
+tools/archives order || fail "no order"
 
 $order <docs/example.job | tools/picture.py --svg docs/example.job | diff docs/example.svg - ||
   fail "docs/example.svg is not what its command draws"

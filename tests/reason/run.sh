@@ -8,7 +8,7 @@
 #   tests/reason/run.sh --time PLACES    no test: how long replay_reason takes beside replay_calls
 #
 # REASON_SEED chooses the random lists and jobs (default 1). REASON_LIBRARY names a library to link instead of the one that
-# `rt staticlib reason` proves and writes; the program is then left out.
+# `tools/archives reason` proves and writes; the program is then left out.
 set -euo pipefail
 trap 'echo "$0: line $LINENO ended with $?" >&2' ERR
 cd "$(dirname "$0")/../.."
@@ -75,8 +75,7 @@ echo "reason: two registrations that wait from C"
 
 # The program.
 program=target/bin/order_reason
-flock target/rt.lock rt check order_reason >$work/program.log 2>&1 ||
-  { tail -n 20 $work/program.log >&2; fail "rt check order_reason"; }
+tools/archives order_reason || fail "no program"
 $work/reason program $program "$seed" $((100 * times))
 said() { [ -s $work/said ] || fail "$1: nothing on standard error"; }
 $program 0 <. 2>$work/said >$work/out || true

@@ -7,7 +7,7 @@
 #   tests/session/run.sh --long    more than 100,000 lists and two million calls
 #
 # SESSION_SEED chooses the random lists (default 1). SESSION_LIBRARY names a library to link instead of
-# the one that `rt staticlib replay` proves and writes.
+# the one that `tools/archives replay` proves and writes.
 set -euo pipefail
 trap 'echo "$0: line $LINENO ended with $?" >&2' ERR
 cd "$(dirname "$0")/../.."

@@ -1,7 +1,7 @@
 #!/bin/bash
 # Holds the exported call of crate `summary` to two other computations, on tallies at the limits and one
 # past them, and on random ones; a refused call must write nothing. SUMMARY_SEED chooses the random ones
-# (default 1), SUMMARY_LIBRARY names a library to link instead of the one that `rt staticlib summary`
+# (default 1), SUMMARY_LIBRARY names a library to link instead of the one that `tools/archives summary`
 # proves and writes. Beside the Rust's own summaries it is held by tests/session/run.sh.
 set -euo pipefail
 trap 'echo "$0: line $LINENO ended with $?" >&2' ERR

@@ -1,8 +1,7 @@
 #!/bin/bash
-# The tools that write or count what stands in the crates, on a small repository: crates.py, rooms.py, unused.py, edits.py,
-# metrics.py, lines.py, places.py, wrap.py, and oracle's vectors.py and generate.py. Each finds what it must, says it, and writes nothing
-# when it only compares; wrong words get a sentence. That the repository itself is as they write it is
-# looked at by steps of .ci/run.
+# The tools that write or count what stands in the crates, on a small repository: crates.py, exported.py, rooms.py, unused.py,
+# edits.py, metrics.py, lines.py, and oracle's vectors.py and generate.py. Each finds what it must, says it, and writes nothing when it
+# only compares; wrong words get a sentence. That the repository itself is as they write it is looked at by steps of .ci/run.
 set -euo pipefail
 trap 'echo "$0: line $LINENO ended with $?" >&2' ERR
 cd "$(dirname "$0")/../.."
@@ -23,8 +22,8 @@ fresh() {
   printf '%s\n' 'pub mod Base' >"$toy/crates/base/specs/Lib.antt"
   cat >"$toy/crates/base/specs/Base.antt" <<'TEXT'
 -- a comment with double
-use Prim.Native.Nat.{ℕ, _+_, suc}
-use lib.ListN as lists
+use Rattle.std.specs.Prelude.{ℕ, ◌+◌, suc}
+use Rattle.std.specs.Prelude as lists
 
 unfoldable pub double : ℕ → ℕ
 double n = n + n
@@ -45,16 +44,17 @@ pub struct Held {
 }
 TEXT
   cat >"$toy/crates/mid/src/lib.rt" <<'TEXT'
-ghost use Rattle·base.specs.Base.{double};
-use base::Held;
+ghost use Rattle.base.specs.Base.{double};
+use base::{Held};
 
 pub struct Pair {
     pub held: Held,
 }
 
+#[tactic(auto, using(crate::proofs::Given::helper))]
 pub fn twice(x: u32, a: u32, b: u32, c: u32, d: u32, e: u32, f: u32, g: u32, h: u32) -> Pair
-    requires { ⌜ x ≤ 9 ⌝ }
-    ensures { λ r. ⌜ r .held .number ≡ double x ⌝ }
+    requires { x ≤ 9 }
+    ensures { result.held.number ≡ double x }
 {
     let i = 4 * k + order / 4 + 5 * r + 3 * v;
     Pair { held: Held { number: x + x } }
@@ -64,19 +64,19 @@ fn idle(x: u32) -> u32 {
     x
 }
 TEXT
-  cat >"$toy/crates/mid/proofs/twice/Proof.antt" <<'TEXT'
-use Rattle·mid·proofs.proofs.twice.Tie as tie
+  cat >"$toy/crates/mid/proofs/twice/Answers.antt" <<'TEXT'
+use Rattle.mid.proofs.twice.Goals as goal
+use Rattle.mid.proofs.Given.{cited}
 
-returns : tie.Need-returns
-returns c = c .before .before .before .before .before .before .args
-
-pub twice-spec : statement
-twice-spec = tie.close returns
+pub returns : goal.returns
+returns c = cited c.args
 TEXT
+  echo 'mod Given' >"$toy/crates/mid/proofs/Lib.antt"
+  printf '%s\n' 'pub helper : Unit' 'helper = tt' '' 'pub cited : Unit' 'cited = tt' '' 'pub idle : Unit' 'idle = tt' >"$toy/crates/mid/proofs/Given.antt"
   cat >"$toy/crates/top/src/main.rt" <<'TEXT'
 fn main() {
     let p = mid::twice(1, 2, 3, 4, 5, 6, 7, 8, 9);
-    io::print(p.held.number);
+    show(p.held.number);
 }
 TEXT
 }
@@ -95,15 +95,15 @@ says() {
 # crates.txt: what is named and what values hold, in an order that stands; comments stay.
 fresh
 says 1 'crates.txt is not what the crates use' "$toy/tools/crates.py" --check
-says 0 '3 crates with 4 uses' "$toy/tools/crates.py"
+says 0 '3 crates with 3 uses' "$toy/tools/crates.py"
 diff - <(tail -n +2 "$toy/crates.txt") <<'TEXT' || fail "crates.txt is written otherwise"
 base:    # what is meant
 mid: base    # doubled
-top: base mid io    # the program
+top: base mid    # the program
 TEXT
-says 0 '3 crates with 4 uses' "$toy/tools/crates.py" --check
+says 0 '3 crates with 3 uses' "$toy/tools/crates.py" --check
 echo '// mid::MOST' >>"$toy/crates/base/src/lib.rt"
-says 0 '3 crates with 4 uses' "$toy/tools/crates.py" --check
+says 0 '3 crates with 3 uses' "$toy/tools/crates.py" --check
 echo 'pub const LEAST: u32 = mid::MOST;' >>"$toy/crates/base/src/lib.rt"
 says 1 'in a circle' "$toy/tools/crates.py" --check
 fresh && mkdir "$toy/crates/new"
@@ -112,6 +112,51 @@ fresh && echo 'gone:    # nothing' >>"$toy/crates.txt"
 says 1 'there is no crates/gone' "$toy/tools/crates.py"
 fresh && sed -i 's/ *# doubled//' "$toy/crates.txt"
 says 1 'mid has no comment' "$toy/tools/crates.py"
+
+# A static library says so on its line.
+fresh && mkdir -p "$toy/crates/mid_c/src" && echo 'mid_c staticlib:    # exported' >>"$toy/crates.txt"
+echo 'pub extern "C" fn idle(x: u32) -> u32 { mid::twice(x, 2, 3, 4, 5, 6, 7, 8, 9).held.number }' >"$toy/crates/mid_c/src/lib.rt"
+says 0 '4 crates with 5 uses' "$toy/tools/crates.py"
+grep -qx 'mid_c staticlib: base mid    # exported' "$toy/crates.txt" || fail "the line of a static library is another"
+fresh && echo 'mid_c library:    # exported' >>"$toy/crates.txt"
+says 1 'crates.txt:4: not `name: uses' "$toy/tools/crates.py"
+
+# An exported call stands in the static library with the same parameters and clauses.
+fresh && mkdir -p "$toy/crates/mid_c/src" && echo 'mid_c staticlib:    # exported' >>"$toy/crates.txt"
+cat >>"$toy/crates/mid/src/lib.rt" <<'TEXT'
+
+// Twice, for hosts.
+#[unsafe(no_mangle)]
+pub extern "C" fn mid_twice(x: u32, into: &mut [u32]) -> u32
+    requires { x ≤ 9 }
+    ensures { result ≡ double x }
+{
+    x + x
+}
+TEXT
+says 1 'crates/mid_c/src/lib.rt is not what tools/exported.py writes' "$toy/tools/exported.py" --check
+says 0 'exported: 1 calls of 1 crates' "$toy/tools/exported.py"
+diff - "$toy/crates/mid_c/src/lib.rt" <<'TEXT' || fail "the static library is written otherwise"
+// The exported calls of crate mid, by their C names.
+#![tactic(auto)]
+
+ghost use Rattle.base.specs.Base.{double};
+
+// Twice, for hosts.
+#[unsafe(no_mangle)]
+pub extern "C" fn mid_twice(x: u32, into: &mut [u32]) -> u32
+    requires { x ≤ 9 }
+    ensures { result ≡ double x }
+{
+    mid::mid_twice(x, into)
+}
+TEXT
+sed -i 's/^\/\/ Twice.*/\/\/ Twice as much./' "$toy/crates/mid_c/src/lib.rt"
+says 0 'the same in their static libraries' "$toy/tools/exported.py" --check
+sed -i 's/requires { x ≤ 9 }/requires { x ≤ 8 }/' "$toy/crates/mid_c/src/lib.rt"
+says 1 '+    requires { x ≤ 9 }' "$toy/tools/exported.py" --check
+sed -i '/^mid_c/d' "$toy/crates.txt" && rm -r "$toy/crates/mid_c"
+says 1 'mid has exported calls, and there is no mid_c' "$toy/tools/exported.py" --check
 
 # The picture: every crate in a layer, no arrow to a layer further down.
 fresh && "$toy/tools/crates.py" >"$toy/said"
@@ -129,23 +174,29 @@ says 1 'top uses mid, which the table' "$toy/tools/rooms.py"
 sed -i 's/| layer/| level/' "$toy/docs/ARCHITECTURE.md"
 says 1 'has no table' "$toy/tools/rooms.py"
 
-# Unused: an import, a law, a function and a constant; a law that is cited or kept is none.
+# Unused: an import, a law, a lemma, a function and a constant; a law that is cited or kept is none, and no lemma that an answer
+# cites or a tactic is given.
 fresh && "$toy/tools/crates.py" >"$toy/said"
 status=0
 "$toy/tools/unused.py" >"$toy/found" || status=$?
 diff - "$toy/found" <<'TEXT' || fail "other names are found unused"
 crates/base/specs/Base.antt:8: nothing uses base/Base.lonely
+crates/mid/proofs/Given.antt:7: nothing uses mid/proofs/Given.idle
 crates/base/src/lib.rt:2: nothing uses base::MOST
-crates/mid/src/lib.rt:16: nothing uses mid::idle
+crates/mid/src/lib.rt:17: nothing uses mid::idle
 crates/base/specs/Base.antt:2: imports suc, and does not use it
 crates/base/specs/Base.antt:3: imports lists, and does not use it
-unused: 1 declaration, 2 items, 2 imported names; 0 kept with a reason
+unused: 2 declarations, 2 items, 2 imported names; 0 kept with a reason
 TEXT
 [ $status = 1 ] || fail "unused names are no failure"
 printf '%s\n' 'base/Base.lonely | a test' 'base::MOST | a test' 'mid::idle | a test' >"$toy/tools/unused.txt"
+says 0 '1 declarations more are kept' "$toy/tools/unused.py" --keep 'a reason'
+grep -qx 'mid/proofs/Given.idle | a reason' "$toy/tools/unused.txt" || fail "another name is kept"
 says 0 '2 imported names removed' "$toy/tools/unused.py" --remove-imports base
-says 0 'unused: 0 declarations, 0 items, 0 imported names; 3 kept' "$toy/tools/unused.py"
-grep -qx 'use Prim.Native.Nat.{ℕ, _+_}' "$toy/crates/base/specs/Base.antt" || fail "another import is left"
+says 0 'unused: 0 declarations, 0 items, 0 imported names; 4 kept' "$toy/tools/unused.py"
+grep -qx 'use Rattle.std.specs.Prelude.{ℕ, ◌+◌}' "$toy/crates/base/specs/Base.antt" || fail "another import is left"
+sed -i 's/use base::{Held}/use base::{Held, MOST}/' "$toy/crates/mid/src/lib.rt" && sed -i '/^base::MOST/d' "$toy/tools/unused.txt"
+says 1 'crates/mid/src/lib.rt:2: imports MOST, and does not use it' "$toy/tools/unused.py"
 echo 'base/Base.double | a test' >>"$toy/tools/unused.txt"
 says 1 'base/Base.double is used or gone' "$toy/tools/unused.py"
 echo 'nonsense' >>"$toy/tools/unused.txt"
@@ -170,16 +221,16 @@ says 1 'usage' tools/edits.py --nothing
 # The counts.
 fresh && "$toy/tools/crates.py" >"$toy/said"
 "$toy/tools/metrics.py" >"$toy/found"
-for count in '0  contracts over 400' '6  words .before' '1  chains of .before over 5' '6  longest chain' '1  functions with more than 8' \
-  '1  crates that spell a layout out: entry, in code' '1  crates that spell a layout out: row, in code' \
-  '1  crates that spell a layout out: waiting storage, in code' '4  uses that crates.txt lists'; do
+for count in '0  contracts over 400' '1  functions with more than 8' '1  crates that spell a layout out: entry, in code' \
+  '1  crates that spell a layout out: row, in code' '1  crates that spell a layout out: waiting storage, in code' \
+  '3  uses that crates.txt lists'; do
   grep -qF " $count" "$toy/found" || { cat "$toy/found" >&2; fail "metrics: not $count"; }
 done
-says 0 'crates/mid/src/lib.rt:8 twice 9' "$toy/tools/metrics.py" --names
+says 0 'crates/mid/src/lib.rt:9 twice 9' "$toy/tools/metrics.py" --names
 says 0 'contracts over 400' tools/metrics.py --root "$toy"
 says 1 'crates that spell a layout out: entry, in code: mid 2' "$toy/tools/metrics.py" --check
 
-# Long lines are broken, and say what they said; a chain of `.before` that is too long is named.
+# Long lines are broken, and say what they said.
 fresh
 long=$(printf ' + double (n + %d)' $(seq 20))
 printf '%s\n' '' 'pub wide : ℕ → ℕ' "wide n = n$long" >>"$toy/crates/base/specs/Base.antt"
@@ -190,25 +241,10 @@ says 1 'crates/base/specs/Base.antt:16: ' "$toy/tools/lines.py" --check
 echo "// $long" >>"$toy/crates/base/src/lib.rt"
 says 1 'crates/base/src/lib.rt:7: ' "$toy/tools/lines.py" --check
 says 0 'crates/base/src/lib.rt:7: ' "$toy/tools/lines.py" base
-says 1 'crates/mid/proofs/twice' "$toy/tools/places.py" --check
-for tool in lines places; do
-  says 2 "tools/$tool.py: a crate is needed" "$toy/tools/$tool.py"
-  says 2 "tools/$tool.py: there is no crate nosuch" "$toy/tools/$tool.py" mid nosuch
-  says 2 "tools/$tool.py: there is no crate ../crates" "$toy/tools/$tool.py" ../crates
-  says 2 "tools/$tool.py: unknown option --nothing" "$toy/tools/$tool.py" --nothing
-done
-
-# The walks: what is kept is compared; a walks.json that is none is said.
-fresh && cp -r crates/session_mut crates/flush_mut "$toy/crates/"
-says 0 '4 proofs of 2 crates' "$toy/tools/wrap.py" --check
-sed -i 's/^-- Assumes nothing.$/-- Assumes much./' "$toy/crates/session_mut/proofs/set/Proof.antt"
-says 1 '+-- Assumes nothing.' "$toy/tools/wrap.py" --check
-says 0 '4 proofs of 2 crates' "$toy/tools/wrap.py"
-diff -r crates/session_mut/proofs "$toy/crates/session_mut/proofs" || fail "wrap.py does not mend a proof"
-sed -i 's/"answer"/"anser"/' "$toy/crates/session_mut/walks.json"
-says 1 "walks.json has not what is needed" "$toy/tools/wrap.py"
-echo '{' >"$toy/crates/session_mut/walks.json"
-says 1 "walks.json is no JSON" "$toy/tools/wrap.py"
+says 2 "tools/lines.py: a crate is needed" "$toy/tools/lines.py"
+says 2 "tools/lines.py: there is no crate nosuch" "$toy/tools/lines.py" mid nosuch
+says 2 "tools/lines.py: there is no crate ../crates" "$toy/tools/lines.py" ../crates
+says 2 "tools/lines.py: unknown option --nothing" "$toy/tools/lines.py" --nothing
 
 # The recorded runs.
 fresh && mkdir -p "$toy/oracle" "$toy/crates/vectors" && cp -r oracle/*.py oracle/sample "$toy/oracle/" && cp -r crates/vectors/specs "$toy/crates/vectors/"
@@ -260,7 +296,7 @@ for tool in tools/* oracle/vectors.py; do
   ! "$tool" --nothing >"$toy/help" 2>"$toy/said" </dev/null || fail "$tool --nothing: taken"
   [ -s "$toy/said" ] && [ ! -s "$toy/help" ] || fail "$tool --nothing: no sentence, or not on standard error"
 done
-for tool in tools/{crates,rooms,unused,metrics,wrap,refusals}.py oracle/vectors.py; do
+for tool in tools/{crates,exported,rooms,unused,metrics,refusals}.py oracle/vectors.py; do
   says 1 'usage' "$here/$tool" --nothing
 done
 says 2 'bench/large.sh: REPETITIONS is a number from 1 to 9999, not x' bench/large.sh x
@@ -268,7 +304,7 @@ says 2 'bench/large.sh: REPETITIONS is a number from 1 to 9999, not 0' bench/lar
 says 2 'bench/large.sh: one number at most' bench/large.sh 3 3
 says 2 'large.py: REPETITIONS is a number from 1 to 9999' python3 bench/large.py x
 says 2 'large.py: REPETITIONS is a number from 1 to 9999' python3 bench/large.py
-for tool in tools/{crates,rooms,unused,metrics}.py; do
+for tool in tools/{crates,exported,rooms,unused,metrics}.py; do
   says 1 'cannot be read' "$here/$tool" --root "$toy/nowhere"
 done
-echo "tools: crates, rooms, unused names, counts, walks and recorded runs: $findings answers as expected; $commands commands with their help"
+echo "tools: crates, exported calls, rooms, unused names, counts and recorded runs: $findings answers as expected; $commands commands with their help"
