@@ -40,4 +40,6 @@ returns-then-room-used c =
     (none (goal.at.returns-then-room-used c).Else-any_taken) c.if-v-added.false c.if-room-used.true
 
 pub returns : goal.returns
-returns c = state_good _ c.requires (same (goal.at.returns c).After-repeats) (single (goal.at.returns c).Else-repeats) (none (goal.at.returns c).Else-any_taken) c.if-v-added.false c.if-room-used.false
+returns c =
+    let free : any (taken_at c.repeats.new.waiting c.args.v) c.args.outs.now ≡ false = cc in
+    state_good _ c.requires (same (goal.at.returns c).After-repeats) (single (goal.at.returns c).Else-repeats) free c.if-v-added.false c.if-room-used.false

@@ -2,7 +2,6 @@
 -- Assumes nothing.
 use Rattle.tally.specs.Counting.{parallelism_from, count_begins, count_turn, count_ends, counted_one}
 use lib.ListN.{length, get_or, length-set}
-use Prim.Native.Nat.{ℕ}
 use mathlib.Core.Path.{refl, sym, ap, ◌∙◌}
 use native.Mathlib.Omega.{arith}
 use Rattle.tally.proofs.tally_new.Goals as goal
@@ -12,11 +11,11 @@ loop-q-init c = let a = c.args in
     (omega arith, (refl, (λ k z. omega (arith, c.requires.countable.small k z), count_begins a.order.now a.n a.a a.tally.now)))
 
 pub count_one-requires : goal.count_one-requires
-count_one-requires c = let w = c.parallelism_at.ensures in
-    let l = c.loop-q in
+count_one-requires c = let l = c.loop-q in
     let k = c.loop-q-test.true in
-    let count = ap (λ (x : ℕ). get_or l.tally x 0) w in
-    (omega (arith, w, c.requires.countable.known l.q k, l.invariant.1.0), omega (arith, count, l.invariant.1.1.0 l.q k, k))
+    let known = c.requires.countable.known l.q k in
+    let small = l.invariant.1.1.0 l.q k in
+    (grind (arith, known, l.invariant.1.0), grind (arith, small, k))
 
 pub loop-q-preserved : goal.loop-q-preserved
 loop-q-preserved c = let w = c.parallelism_at in
