@@ -1,6 +1,6 @@
 #!/bin/bash
 # The tools that write or count what stands in the crates, on a small repository: crates.py, exported.py, rooms.py, unused.py,
-# edits.py, metrics.py, lines.py, and oracle's vectors.py and generate.py. Each finds what it must, says it, and writes nothing when it
+# edits.py, metrics.py, lines.py, places.py, and oracle's vectors.py and generate.py. Each finds what it must, says it, and writes nothing when it
 # only compares; wrong words get a sentence. That the repository itself is as they write it is looked at by steps of .ci/run.
 set -euo pipefail
 trap 'echo "$0: line $LINENO ended with $?" >&2' ERR
@@ -241,6 +241,10 @@ says 1 'crates/base/specs/Base.antt:16: ' "$toy/tools/lines.py" --check
 echo "// $long" >>"$toy/crates/base/src/lib.rt"
 says 1 'crates/base/src/lib.rt:7: ' "$toy/tools/lines.py" --check
 says 0 'crates/base/src/lib.rt:7: ' "$toy/tools/lines.py" base
+says 0 'no chain of .before over 5' "$toy/tools/places.py" --check
+sed -i 's/^returns c = cited c.args/returns c = cited c.before.before.before.before.before.before.args/' "$toy/crates/mid/proofs/twice/Answers.antt"
+says 1 'crates/mid/proofs/twice' "$toy/tools/places.py" --check
+says 2 'tools/places.py takes --check alone' "$toy/tools/places.py" mid
 says 2 "tools/lines.py: a crate is needed" "$toy/tools/lines.py"
 says 2 "tools/lines.py: there is no crate nosuch" "$toy/tools/lines.py" mid nosuch
 says 2 "tools/lines.py: there is no crate ../crates" "$toy/tools/lines.py" ../crates
