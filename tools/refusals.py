@@ -4,7 +4,7 @@
     tools/refusals.py           writes the lists again from hosts/refusals.txt and crates/rules/specs/Limits.antt
     tools/refusals.py --check   compares them with the sources; the names and numbers of refusals with those of
                                 crates/rules, for definitions (specs/Refusals.antt) and for code
-                                (src/lib.rt); and the limits with those for code. On a
+                                (the enum in src/lib.rt); and the limits with those for code. On a
                                 difference it says what differs, and the status is 1
 
 The lists: the enum in C with order_code_text (hosts/refusals.h), the enum in Rust
@@ -290,9 +290,19 @@ def defined(path):
 
 
 def constants():
-    """The constants for code, by name in lower case."""
+    """The limits for code, constants, by name in lower case."""
     found = re.findall(r"^pub const ([A-Z_]+): \w+ = (.+);$", read(CODE), re.M)
     return {name.lower(): value(number, CODE) for name, number in found}
+
+
+def variants():
+    """The refusals for code, an enum's variants, by name in lower case with underscores."""
+    enum = re.search(r"^pub enum Refusal \{\n((?:    .*\n)+)\}$", read(CODE), re.M)
+    rows = re.findall(r"^    (.*)$", enum[1], re.M) if enum else []
+    found = [re.fullmatch(r"([A-Z][a-z]+(?:[A-Z][a-z]+)*) = (.+),", row) for row in rows]
+    if not found or not all(found):
+        raise Wrong(f"{CODE}: not `pub enum Refusal` with `NAME = NUMBER,` for each refusal")
+    return {re.sub(r"(?<=[a-z])([A-Z])", r"_\1", row[1]).lower(): value(row[2], CODE) for row in found}
 
 
 def unlike(here, named, there, other):
@@ -329,10 +339,10 @@ def check(rows):
         if kept != text:
             wrong.append(f"{name} is not what its source gives: run tools/refusals.py\n{difference(name, kept, text)}")
     source = {name: number for number, name, _, _ in rows}
-    numbers, limits, code = defined(DEFINED), defined(LIMITS), constants()
+    numbers, limits = defined(DEFINED), defined(LIMITS)
     wrong += unlike(SOURCE, source, DEFINED, numbers)
-    wrong += unlike(DEFINED, numbers, CODE, {name: code[name] for name in code if name not in limits})
-    wrong += unlike(LIMITS, limits, CODE, {name: code[name] for name in code if name in limits})
+    wrong += unlike(DEFINED, numbers, CODE, variants())
+    wrong += unlike(LIMITS, limits, CODE, constants())
     wrong += [f"no definition of crates/rules/specs gives refusal.{name}" for name in numbers if name not in given()]
     return wrong, len(limits)
 

@@ -104,7 +104,7 @@ printf '%s\n' 'abbrev pub one_more : ℕ' "one_more = $next" >>"$copy/crates/rul
 refuses 1 "no definition of crates/rules/specs gives refusal.one_more" "$copy/tools/refusals.py" --check
 echo "x = record { fails = true; number = refusal.one_more }" >>"$copy/crates/rules/specs/Checks.antt"
 refuses 1 "Refusals.antt has one_more ($next), which crates/rules/src/lib.rt has not" "$copy/tools/refusals.py" --check
-echo "pub const ONE_MORE: u64 = $next;" >>"$copy/crates/rules/src/lib.rt"
+sed -i "s/^    ProfileBreach = .*/&\n    OneMore = $next,/" "$copy/crates/rules/src/lib.rt"
 "$copy/tools/refusals.py" --check >/dev/null || fail "a line in each of four places is not enough for one more refusal"
 fresh && sed -i '/^8 /d' "$copy/hosts/refusals.txt"
 "$copy/tools/refusals.py"

@@ -22,7 +22,7 @@ done
 cp tests/mut/calls.rattle "$scratch/crates/mut_calls/src/main.rt"
 # What call_list, session_mut and flush_mut use, and they themselves.
 sed 's/#.*//' crates.txt >"$scratch/crates.txt"
-uses=$(sed -n 's/^call_list: *//p' "$scratch/crates.txt")
+uses="lists $(sed -n 's/^call_list: *//p' "$scratch/crates.txt")"
 echo "mut_calls: $uses call_list session_mut flush_mut" >>"$scratch/crates.txt"
 cd "$scratch/crates/mut_calls"
 rt try --steps 2000000000 --seconds 300 >"$scratch/out" 2>"$scratch/try.log" || { tail -n 40 "$scratch/try.log" >&2; exit 1; }

@@ -2,3 +2,4 @@
 pub mod Promises
 pub mod ListChecks
 pub mod StateChecks
+pub mod ListWays

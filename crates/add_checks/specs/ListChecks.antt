@@ -39,18 +39,13 @@ lists_verdict closed N lane ins outs a b c d u x y z = rw (u, x, y, z)
 
 -- the number of check-places
 module _ (ins outs : List ℕ) where
-  pub flagged_ins : any_flagged ins ≡ true → refusal.flagged_place ≡ place_number ins outs
+  pub flagged_some : any_flagged (ins ++ outs) ≡ true → refusal.flagged_place ≡ place_number ins outs
   unfolding place_number
-  flagged_ins h = rw (any_append (λ y. leb least_flagged y) ins outs, h)
+  flagged_some h = rw h
 
-  module _ (c : any_flagged ins ≡ false) where
-    pub flagged_outs : any_flagged outs ≡ true → refusal.flagged_place ≡ place_number ins outs
-    unfolding place_number
-    flagged_outs h = rw (any_append (λ y. leb least_flagged y) ins outs, c, h)
-
-    pub flagged_none : any_flagged outs ≡ false → refusal.unknown_place ≡ place_number ins outs
-    unfolding place_number
-    flagged_none h = rw (any_append (λ y. leb least_flagged y) ins outs, c, h)
+  pub flagged_none : any_flagged (ins ++ outs) ≡ false → refusal.unknown_place ≡ place_number ins outs
+  unfolding place_number
+  flagged_none h = rw h
 
 -- places below N are below a greater bound
 near : (N M : ℕ) (xs : List ℕ) → N ≤ M → any_unknown N xs ≡ false → any_unknown M xs ≡ false
@@ -71,29 +66,21 @@ module _ (N lane : ℕ) (ins outs : List ℕ) {closed : Bool} where
     lists_many h = rw (e, le-ltb most_lane lane low, h)
 
     module _ (few : many ins outs ≡ false) where
-      outside : any_unknown N (ins ++ outs) ≡ true → place_number ins outs ≡ verdict (list_checks closed N lane ins outs)
+      pub outside : any_unknown N (ins ++ outs) ≡ true → (n : ℕ) → n ≡ place_number ins outs → n ≡ verdict (list_checks closed N lane ins outs)
       unfolding verdict place_number
-      outside h = rw e (two (any_flagged (ins ++ outs)) ∙ lists_verdict false N lane ins outs false false _ true (le-ltb most_lane lane low) few refl h)
+      outside h n q = q ∙ rw e (two (any_flagged (ins ++ outs)) ∙ lists_verdict false N lane ins outs false false _ true (le-ltb most_lane lane low) few refl h)
         where
           two : (f : Bool) → cond {A = ℕ} f refusal.flagged_place refusal.unknown_place
               ≡ verdict (record { fails = f; number = refusal.flagged_place } ∷ (record { fails = true; number = refusal.unknown_place } ∷ []))
           two true = refl
           two false = refl
 
-      pub outside_ins : any_unknown N ins ≡ true → (n : ℕ) → n ≡ place_number ins outs → n ≡ verdict (list_checks closed N lane ins outs)
-      outside_ins h n q = q ∙ outside (any_append (λ y. leb N y) ins outs ∙ rw h)
+      pub inside : any_unknown N (ins ++ outs) ≡ false → N ≤ least_flagged → 0 ≡ verdict (list_checks closed N lane ins outs)
+      unfolding verdict
+      inside h m = rw e (lists_verdict false N lane ins outs false false false false (le-ltb most_lane lane low) few (near N least_flagged (ins ++ outs) m h) h)
 
-      module _ (f : any_unknown N ins ≡ false) where
-        pub outside_outs : any_unknown N outs ≡ true → (n : ℕ) → n ≡ place_number ins outs → n ≡ verdict (list_checks closed N lane ins outs)
-        outside_outs h n q = q ∙ outside (any_append (λ y. leb N y) ins outs ∙ rw (f, h))
-
-        pub lists_good : any_unknown N outs ≡ false → N ≤ least_flagged → 0 ≡ verdict (list_checks closed N lane ins outs)
-        unfolding verdict
-        lists_good h m =
-            rw e
-            (lists_verdict false N lane ins outs false false false false (le-ltb most_lane lane low) few
-            (any_append (λ y. leb least_flagged y) ins outs ∙ rw (near N least_flagged ins m f, near N least_flagged outs m h))
-            (any_append (λ y. leb N y) ins outs ∙ rw (f, h)))
+      pub lists_good : any_unknown N ins ≡ false → any_unknown N outs ≡ false → N ≤ least_flagged → 0 ≡ verdict (list_checks closed N lane ins outs)
+      lists_good f h m = inside (any_append (λ y. leb N y) ins outs ∙ rw (f, h)) m
 
 -- no check has the number 0
 abbrev Numbered : List Check → Type 0

@@ -1,11 +1,17 @@
 -- What the checks of add ask and promise: whatever test the flags are those of, the number is that of the checks with this test, and the
 -- storage is as it was. Definitions only. Assumes nothing.
-use Rattle.std.specs.Prelude.{◌≡◌, List, Bool, ℕ, ◌≤◌}
-use Rattle.rules.specs.Limits.{most_in_a_list}
+use Rattle.std.specs.Prelude.{◌≡◌, List, Bool, not, ◌&&◌, ℕ, ◌+◌, ◌≤◌, length, leb, ltb}
+use Rattle.rules.specs.Limits.{most_lane, most_in_a_list}
 use Rattle.rules.specs.Checks.{verdict}
 use Rattle.lists.specs.Part.{Below}
 use Rattle.taken.specs.Flags.{Flags}
 use Rattle.checking.specs.Parts.{state_checks, add_checks}
+use Rattle.add_checks.specs.ListChecks.{many}
+
+-- what add's checks ask but of the places: the session open, the lane, the counts of inputs and outputs, a registration left, and room for
+-- their numbers in what the pool has left
+abbrev pub fits : Bool → ℕ → List ℕ → List ℕ → ℕ → ℕ → ℕ → Bool
+fits closed lane ins outs v added left = not closed && (leb lane most_lane && (not (many ins outs) && (ltb added v && leb (length ins + length outs) left)))
 
 -- `check_state`: the flags are those of some test
 pub record MayCheck (w outs : List ℕ) (v used inputs room : ℕ) : Type 0 where

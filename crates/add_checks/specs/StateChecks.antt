@@ -1,11 +1,13 @@
 -- The laws by which the proofs of add's later checks go, one for each way out, and those of all its checks. Assumes nothing.
-use Rattle.std.specs.Prelude.{◌≡◌, List, [], ◌∷◌, Bool, ℕ, ◌+◌, ◌-◌, ◌≤◌, ◌<◌, leb}
+use Rattle.std.specs.Prelude.{◌≡◌, List, [], ◌∷◌, Bool, not, ℕ, ◌+◌, ◌-◌, ◌≤◌, ◌<◌, leb}
 use Rattle.std.proofs.Math.Path.{refl}
 use Rattle.std.proofs.Common.{sym, ap, ◌∙◌, arith}
 use Rattle.std.proofs.Math.Bool.{true, false}
 use Rattle.std.proofs.Math.ListN.{length}
 use Rattle.std.proofs.Math.Dec.{ltb}
-use borrow.Author.Tests.{lt-ltb, le-ltb, le-leb, lt-leb}
+use Rattle.std.proofs.lemmas.Bool.{false≢true, and_parts}
+use borrow.Author.Tests.{lt-ltb, le-ltb, le-leb, lt-leb, leb-true, ltb-true}
+use Rattle.rules.specs.Limits.{most_lane}
 use Rattle.rules.specs.Refusals as refusal
 use Rattle.rules.specs.Checks.{verdict, any, repeats, waiting_needed}
 use Rattle.laws.specs.Accepted.{verdict_first}
@@ -13,8 +15,8 @@ use Rattle.lists.specs.Part.{Below}
 use Rattle.taken.specs.Flags.{Flags, Flagged, taken_at}
 use Rattle.taken.specs.FlagLaws.{flags_any, flagged_of}
 use Rattle.checking.specs.Parts.{list_checks, state_checks}
-use Rattle.add_checks.specs.Promises.{MayCheck, ChecksState, MayAdd, ChecksAdd}
-use Rattle.add_checks.specs.ListChecks.{verdict_rest, lists_numbered, lists_passed}
+use Rattle.add_checks.specs.Promises.{fits, MayCheck, ChecksState, MayAdd, ChecksAdd}
+use Rattle.add_checks.specs.ListChecks.{many, verdict_rest, lists_numbered, lists_passed}
 
 -- the verdict by the four tests
 pub state_verdict : (N : ℕ) (t : ℕ → Bool) (outs : List ℕ) (added used inputs W : ℕ) (a b c d : Bool) → repeats outs ≡ a → any t outs ≡ b → leb N added ≡ c → ltb W (used + inputs + length outs) ≡ d
@@ -80,3 +82,27 @@ module _ (w : List ℕ) (lane : ℕ) (ins outs : List ℕ) (closed : Bool) (v ad
           is = λ t f. s.is t f ∙ sym (verdict_rest (list_checks closed v lane ins outs) (state_checks v t outs added used (length ins) room) (lists_numbered closed v lane ins outs) (sym e ∙ z));
           same = s.same;
         }
+
+-- what fits, test by test
+pub record Fits (closed : Bool) (lane : ℕ) (ins outs : List ℕ) (v added left : ℕ) : Type 0 where
+  pub not_closed : closed ≡ false
+  pub low : lane ≤ most_lane
+  pub few : many ins outs ≡ false
+  pub more : added < v
+  pub room : length ins + length outs ≤ left
+
+module _ (closed : Bool) (lane : ℕ) (ins outs : List ℕ) (v added left : ℕ) where
+  pub fits_of : Fits closed lane ins outs v added left → fits closed lane ins outs v added left ≡ true
+  fits_of f = rw (f.not_closed, le-leb lane most_lane f.low, f.few, lt-ltb added v f.more, le-leb (length ins + length outs) left f.room)
+
+  pub of_fits : fits closed lane ins outs v added left ≡ true → Fits closed lane ins outs v added left
+  of_fits e =
+      let a = and_parts (not closed) _ e in
+      let b = and_parts (leb lane most_lane) _ a.1 in
+      let c = and_parts (not (many ins outs)) _ b.1 in
+      let d = and_parts (ltb added v) _ c.1 in
+      record { not_closed = down closed a.0; low = leb-true lane most_lane b.0; few = down (many ins outs) c.0; more = ltb-true added v d.0; room = leb-true (length ins + length outs) left d.1 }
+    where
+      down : (x : Bool) → not x ≡ true → x ≡ false
+      down true q = absurd (false≢true q)
+      down false q = refl

@@ -1,95 +1,93 @@
-// The checks of add, in document 01's order: the number of the first that fails, or 0. Storage is as it was: the flags that are raised to
-// find a repeated output are lowered again.
+// The checks of add, in document 01's order: the refusal of the first that fails. Storage is as it was: the flags that are raised to find a
+// repeated output are lowered again.
 #![tactic(auto)]
 
-ghost use Rattle.std.specs.Prelude.{◌≡◌, ◌≤◌};
+ghost use Rattle.std.specs.Prelude.{◌≡◌, ◌++◌, ◌-◌, ◌≤◌, length, leb};
+ghost use Rattle.rules.specs.Answer.{number, number_of};
 ghost use Rattle.rules.specs.Limits.{least_flagged};
-ghost use Rattle.rules.specs.Checks.{verdict};
+ghost use Rattle.rules.specs.Checks.{verdict, any};
 ghost use Rattle.checking.specs.Parts.{place_number, list_checks};
-ghost use Rattle.add_checks.specs.Promises.{MayCheck, ChecksState, MayAdd, ChecksAdd};
+ghost use Rattle.add_checks.specs.Promises.{fits, MayCheck, ChecksState, MayAdd, ChecksAdd};
 
-// The number of lists of which one has a place of v or more: 4 where a place has bit 62 or 63, else 5.
-fn place_number(ins: &[u64], outs: &[u64]) -> u64
-    ensures { result ≡ place_number ins.now outs.now }
+use checking::State;
+use lists::Registration;
+use rules::Refusal;
+
+// Whether add passes the checks that look at no place: 7, 18, 3, 9, 10.
+pub fn fits(r: Registration, at: State) -> bool
+    requires { at.used ≤ at.room }
+    ensures { result ≡ fits at.closed r.entry.lane r.entry.inputs.now r.entry.outputs.now at.v at.added (at.room - at.used) }
 {
-    if lists::any_at_least(ins, rules::LEAST_FLAGGED) {
-        return rules::FLAGGED_PLACE;
+    !at.closed
+        && r.lane <= rules::MOST_LANE
+        && !lists::too_many(r)
+        && at.added < at.v
+        && r.inputs.len() + r.outputs.len() <= at.room - at.used
+}
+
+// Whether one of the places is at least the bound.
+fn any_at_least(r: Registration, bound: u64) -> bool
+    ensures { result ≡ any (λ x. leb bound x) (r.entry.inputs.now ++ r.entry.outputs.now) }
+{
+    lists::any_at_least(r.inputs, bound) || lists::any_at_least(r.outputs, bound)
+}
+
+// The refusal of lists of which one has a place of v or more: 4 where a place has bit 62 or 63, else 5.
+fn place_refusal(r: Registration) -> Refusal
+    ensures { number_of result ≡ place_number r.entry.inputs.now r.entry.outputs.now }
+{
+    if any_at_least(r, rules::LEAST_FLAGGED) {
+        Refusal::FlaggedPlace
+    } else {
+        Refusal::UnknownPlace
     }
-    if lists::any_at_least(outs, rules::LEAST_FLAGGED) {
-        return rules::FLAGGED_PLACE;
-    }
-    rules::UNKNOWN_PLACE
 }
 
 // The first checks, which look at the lane and the lists alone: 7, 18, 3, 4, 5. Lists of places below v, which is small, pass 4 and 5.
-pub fn check_lists(ins: &[u64], outs: &[u64], lane: u64, closed: bool, v: usize) -> u64
+pub fn check_lists(r: Registration, closed: bool, v: usize) -> Result<(), Refusal>
     requires { v ≤ least_flagged }
-    ensures { result ≡ verdict (list_checks closed v lane ins.now outs.now) }
+    ensures { number result ≡ verdict (list_checks closed v r.entry.lane r.entry.inputs.now r.entry.outputs.now) }
 {
     if closed {
-        return rules::CLOSED;
+        return Err(Refusal::Closed);
     }
-    if lane > rules::MOST_LANE {
-        return rules::UNKNOWN_LANE;
+    if r.lane > rules::MOST_LANE {
+        return Err(Refusal::UnknownLane);
     }
-    if lists::too_many(ins, outs) {
-        return rules::TOO_MANY_NUMBERS;
+    if lists::too_many(r) {
+        return Err(Refusal::TooManyNumbers);
     }
-    if lists::any_at_least(ins, v as u64) {
-        return place_number(ins, outs);
+    if any_at_least(r, v as u64) {
+        return Err(place_refusal(r));
     }
-    if lists::any_at_least(outs, v as u64) {
-        return place_number(ins, outs);
-    }
-    0
+    Ok(())
 }
 
-// The later checks: 6, 8, 9, 10. Of the pool's `room` numbers `used` are taken.
-fn check_state(
-    waiting: &mut [u64],
-    outs: &[u64],
-    v: usize,
-    added: usize,
-    used: usize,
-    inputs: usize,
-    room: usize,
-) -> u64
-    requires { MayCheck waiting.old outs.now v used inputs room }
-    ensures { ChecksState waiting.old outs.now v added used inputs room result waiting.new }
+// The later checks: 6, 8, 9, 10.
+fn check_state(waiting: &mut [u64], r: Registration, at: State) -> Result<(), Refusal>
+    requires { MayCheck waiting.old r.outputs.now at.v at.used (length r.inputs.now) at.room }
+    ensures { ChecksState waiting.old r.entry.outputs.now at.v at.added at.used (length r.entry.inputs.now) at.room (number result) waiting.new }
 {
-    if taken::repeats(outs, waiting, v) {
-        return rules::REPEATED_OUTPUT;
+    if taken::repeats(r.outputs, waiting, at.v) {
+        return Err(Refusal::RepeatedOutput);
     }
-    if taken::any_taken(outs, waiting, v) {
-        return rules::TAKEN_PLACE;
+    if taken::any_taken(r.outputs, waiting, at.v) {
+        return Err(Refusal::TakenPlace);
     }
-    if v <= added {
-        return rules::TOO_MANY_REGISTRATIONS;
+    if at.v <= at.added {
+        return Err(Refusal::TooManyRegistrations);
     }
-    if room - used < inputs + outs.len() {
-        return rules::FULL_POOL;
+    if at.room - at.used < r.inputs.len() + r.outputs.len() {
+        return Err(Refusal::FullPool);
     }
-    0
+    Ok(())
 }
 
 // add: 7, 18, 3, 4, 5, 6, 8, 9, 10.
-pub fn check_add(
-    waiting: &mut [u64],
-    ins: &[u64],
-    outs: &[u64],
-    lane: u64,
-    closed: bool,
-    v: usize,
-    added: usize,
-    used: usize,
-    room: usize,
-) -> u64
-    requires { MayAdd waiting.old v used room }
-    ensures { ChecksAdd waiting.old lane ins.now outs.now closed v added used room result waiting.new }
+pub fn check_add(waiting: &mut [u64], r: Registration, at: State) -> Result<(), Refusal>
+    requires { MayAdd waiting.old at.v at.used at.room }
+    ensures { ChecksAdd waiting.old r.entry.lane r.entry.inputs.now r.entry.outputs.now at.closed at.v at.added at.used at.room (number result) waiting.new }
 {
-    let n = check_lists(ins, outs, lane, closed, v);
-    if n != 0 {
-        return n;
-    }
-    check_state(waiting, outs, v, added, used, ins.len(), room)
+    check_lists(r, at.closed, at.v)?;
+    check_state(waiting, r, at)
 }

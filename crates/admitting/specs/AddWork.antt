@@ -27,7 +27,7 @@ use Rattle.session.specs.PlaceNext.{waiting_frame}
 use Rattle.session.specs.Settle.{Along}
 use Rattle.session.specs.Rep.{Rep}
 use Rattle.session.specs.Noting.{noted_one}
-use Rattle.admitting.specs.declared.Admitted.{Admitted}
+use Rattle.admitting.specs.Told.{Told}
 use Rattle.admitting.specs.Promise.{Asks, MayDo, Does, may_do, framed}
 use Rattle.admitting.specs.Numbers.{Number}
 use Rattle.session.specs.Recording.{frame_noted}
@@ -131,7 +131,7 @@ module _ (lane : ℕ) (ins outs : List ℕ) (s : Session) (σ : Storage) where
 
         module _ (t : ℕ) (x : List ℕ) (lx : length x ≡ length w) (L : Links w u s.watermark ins r t x) where
           -- what is admitted
-          abbrev linked : Admitted
+          abbrev linked : Told
           linked = record { number = 0; watermark = s.watermark; added = s.added + 1; used = s.used + (length ins + length outs); delayed = s.delayed + 1; top = t }
 
           module _ (a : MayDo (add_call lane ins outs) s σ) where

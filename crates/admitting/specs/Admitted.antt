@@ -9,11 +9,11 @@ use Rattle.session.specs.Storage.{Storage, with_rows, with_marks, with_lists}
 use Rattle.session.specs.Settle.{MaySettle, Settles}
 use Rattle.session.specs.Rep.{Rep}
 use Rattle.session.specs.Noting.{noted}
-use Rattle.admitting.specs.declared.Admitted.{Admitted}
+use Rattle.admitting.specs.Told.{Told}
 use Rattle.admitting.specs.Promise.{Asks, Called, Does, called_refused, called_does}
 
 -- the session with the counts of an admitted call
-abbrev pub counted : Session → Admitted → Session
+abbrev pub counted : Session → Told → Session
 counted s a =
     record {
       guide = s.guide;
@@ -28,19 +28,19 @@ counted s a =
     }
 
 -- what was admitted is placed, with all that it sets off, and the row of an added registration notes the order's length
-pub record Places (s : Session) (a : Admitted) (s' : Session) (σ τ : Storage) : Type 0 where
+pub record Places (s : Session) (a : Told) (s' : Session) (σ τ : Storage) : Type 0 where
   pub settled : Storage
   pub settles : Settles s.added (counted s a) σ a.top s' settled
   pub is : τ ≡ with_rows settled (noted s.added a.added s'.guide.written settled.rows)
 
 -- the call c was admitted or refused: the number is the model's; refused, nothing has changed; admitted, placing makes the call
-pub record Admits (c : Call) (s : Session) (a : Admitted) (σ τ : Storage) : Type 0 where
+pub record Admits (c : Call) (s : Session) (a : Told) (σ τ : Storage) : Type 0 where
   pub number_is : (P N : ℕ) (k : Model) → Rep P N k s σ → a.number ≡ answer N (length σ.pool) c k
   pub refused : (a.number ≡ 0 → ⊥) → τ ≡ σ
   pub may : a.number ≡ 0 → MaySettle s.added (counted s a) τ a.top
   pub does : a.number ≡ 0 → (s' : Session) (υ : Storage) → Places s a s' τ υ → Does c s s' σ υ
 
-module _ (c : Call) (s : Session) (a : Admitted) (σ τ : Storage) (A : Admits c s a σ τ) where
+module _ (c : Call) (s : Session) (a : Told) (σ τ : Storage) (A : Admits c s a σ τ) where
   pub admitted_refused : (a.number ≡ 0 → ⊥) → Called c a.number s s σ τ
   admitted_refused h =
       subst (λ (x : Storage). Called c a.number s s σ x) (sym (A.refused h)) (called_refused c a.number s σ h A.number_is)
@@ -55,14 +55,14 @@ pub record AsksSet (s : Session) (m w : List ℕ) : Type 0 where
   pub around : Storage
   pub asks : Asks s (with_marks around m w)
 
-abbrev pub AdmitsSet : ℕ → Session → Admitted → List ℕ → List ℕ → List ℕ → List ℕ → Type 0
+abbrev pub AdmitsSet : ℕ → Session → Told → List ℕ → List ℕ → List ℕ → List ℕ → Type 0
 AdmitsSet x s a m w m' w' = (σ : Storage) → Asks s (with_marks σ m w) → Admits (set_call x) s a (with_marks σ m w) (with_marks σ m' w')
 
 pub record AsksAdd (s : Session) (w pool : List ℕ) : Type 0 where
   pub around : Storage
   pub asks : Asks s (with_lists around w pool)
 
-abbrev pub AdmitsAdd : ℕ → List ℕ → List ℕ → Session → Admitted → List ℕ → List ℕ → List ℕ → List ℕ → Type 0
+abbrev pub AdmitsAdd : ℕ → List ℕ → List ℕ → Session → Told → List ℕ → List ℕ → List ℕ → List ℕ → Type 0
 AdmitsAdd lane ins outs s a w pool w' pool' =
     (σ : Storage) → Asks s (with_lists σ w pool) → Admits (add_call lane ins outs) s a (with_lists σ w pool) (with_lists σ w' pool')
 
@@ -71,12 +71,12 @@ module _ {s : Session} {σ : Storage} (q : Asks s σ) where
   pub set_asked : AsksSet s σ.marks σ.waiting
   set_asked = record { around = σ; asks = q }
 
-  pub set_admitted : {x : ℕ} {a : Admitted} {m w : List ℕ} → AdmitsSet x s a σ.marks σ.waiting m w → Admits (set_call x) s a σ (with_marks σ m w)
+  pub set_admitted : {x : ℕ} {a : Told} {m w : List ℕ} → AdmitsSet x s a σ.marks σ.waiting m w → Admits (set_call x) s a σ (with_marks σ m w)
   set_admitted h = h σ q
 
   pub add_asked : AsksAdd s σ.waiting σ.pool
   add_asked = record { around = σ; asks = q }
 
-  pub add_admitted : {lane : ℕ} {ins outs : List ℕ} {a : Admitted} {w pool : List ℕ} → AdmitsAdd lane ins outs s a σ.waiting
+  pub add_admitted : {lane : ℕ} {ins outs : List ℕ} {a : Told} {w pool : List ℕ} → AdmitsAdd lane ins outs s a σ.waiting
       σ.pool w pool → Admits (add_call lane ins outs) s a σ (with_lists σ w pool)
   add_admitted h = h σ q

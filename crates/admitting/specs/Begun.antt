@@ -10,17 +10,17 @@ use Rattle.session.specs.Storage.{Storage, with_rows, Frame, frame_trans}
 use Rattle.session.specs.Settle.{MaySettle, Settles, Along}
 use Rattle.session.specs.Rep.{Rep}
 use Rattle.session.specs.Noting.{noted}
-use Rattle.admitting.specs.declared.Admitted.{Admitted}
+use Rattle.admitting.specs.Told.{Told}
 use Rattle.admitting.specs.Promise.{Asks, MayDo, Does, may_do}
 use Rattle.admitting.specs.Numbers.{Number}
 use Rattle.admitting.specs.Admitted.{counted, Places, Admits}
 
 -- from the counts of a, with its stack, the cascade leads to the model's `goal`, whichever model was meant before the call
-pub record Begun (c : Call) (goal : ℕ → ℕ → Model → Model) (s : Session) (a : Admitted) (σ τ : Storage) : Type 0 where
+pub record Begun (c : Call) (goal : ℕ → ℕ → Model → Model) (s : Session) (a : Told) (σ τ : Storage) : Type 0 where
   pub along : (m : MayDo c s σ) → Along m.parallelism m.places (length σ.pool) s.added (goal m.parallelism m.places m.model) (counted s a) τ a.top
   pub frame : Frame s.guide.p s.guide.v s.guide.written s.guide.written σ τ
 
-module _ (c : Call) (goal : ℕ → ℕ → Model → Model) (s : Session) (a : Admitted) (σ τ : Storage) (D : Begun c goal s a σ τ) where
+module _ (c : Call) (goal : ℕ → ℕ → Model → Model) (s : Session) (a : Told) (σ τ : Storage) (D : Begun c goal s a σ τ) where
   may_settle : MayDo c s σ → MaySettle s.added (counted s a) τ a.top
   may_settle m =
       let A = D.along m in
@@ -41,11 +41,11 @@ module _ (c : Call) (goal : ℕ → ℕ → Model → Model) (s : Session) (a : 
   admits n h z e q d =
       record { number_is = λ P N k R. e ∙ sym z ∙ h P N k R; refused = λ x. absurd (x e); may = λ x. may_settle (may_do c n s σ h z q); does = λ x. d }
 
-pub admits_not : (c : Call) (s : Session) (a : Admitted) (σ τ : Storage) → Number c a.number s σ → (a.number ≡ 0 → ⊥) → τ ≡ σ → Admits c s a σ τ
+pub admits_not : (c : Call) (s : Session) (a : Told) (σ τ : Storage) → Number c a.number s σ → (a.number ≡ 0 → ⊥) → τ ≡ σ → Admits c s a σ τ
 admits_not c s a σ τ h z e = record { number_is = h; refused = λ x. e; may = λ x. absurd (z x); does = λ x. absurd (z x) }
 
 -- the cascade has run, and what an add notes is noted
-module _ (s : Session) (a : Admitted) (s' : Session) (σ τ : Storage) (Z : Settles s.added (counted s a) σ a.top s' τ) where
+module _ (s : Session) (a : Told) (s' : Session) (σ τ : Storage) (Z : Settles s.added (counted s a) σ a.top s' τ) where
   pub places : (rs : List ℕ) → rs ≡ noted s.added a.added s'.guide.written τ.rows → Places s a s' σ (with_rows τ rs)
   places rs e = record { settled = τ; settles = Z; is = ap (λ (x : List ℕ). with_rows τ x) e }
 

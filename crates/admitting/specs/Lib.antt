@@ -2,6 +2,7 @@
 pub mod Promise
 pub mod Numbers
 pub mod Noting
+pub mod Told
 pub mod Admitted
 pub mod Begun
 pub mod Setting

@@ -25,7 +25,7 @@ use Rattle.session.specs.Storage.{Storage, with_rows, with_marks, Frame, frame_r
 use Rattle.session.specs.Settle.{Along}
 use Rattle.session.specs.Rep.{RepSt, Rep}
 use Rattle.session.specs.Noting.{noted_none}
-use Rattle.admitting.specs.declared.Admitted.{Admitted}
+use Rattle.admitting.specs.Told.{Told}
 use Rattle.admitting.specs.Promise.{Asks, MayDo, Does, may_do, framed, positive}
 use Rattle.admitting.specs.Numbers.{Number}
 use Rattle.admitting.specs.Admitted.{counted, Places, Admits}
@@ -123,7 +123,7 @@ module _ (x : ℕ) (s : Session) (σ : Storage) (u : ℕ) (eu : u ≡ s.guide.v)
 
   module _ (to top : ℕ) (m w : List ℕ) (lw : length w ≡ length σ.waiting) (M : Marks σ.marks σ.waiting u s.watermark x to top m w) where
     -- what is admitted
-    abbrev marked : Admitted
+    abbrev marked : Told
     marked = record { number = 0; watermark = to; added = s.added; used = s.used; delayed = s.delayed; top = top }
 
     module _ (a : MayDo (set_call x) s σ) where

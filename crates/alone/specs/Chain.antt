@@ -6,7 +6,7 @@ use Rattle.rules.specs.Guide.{tally}
 use Rattle.rules.specs.Alone.{Alone as AloneModel, alone, Request, serve_step, serve_all, replies}
 use Rattle.placing.specs.GuideFrame.{GuideFrame, frame_refl, frame_trans}
 use Rattle.alone.specs.declared.Alone.{Alone}
-use Rattle.alone.specs.declared.Reply.{Reply}
+use Rattle.alone.specs.Reply.{Reply}
 use Rattle.alone.specs.Held.{model, Held, number, given, tally_is}
 use Rattle.alone.specs.Served.{Served, locations_given}
 use Rattle.alone.specs.Opening.{Opens, open_frame}

@@ -13,7 +13,7 @@ use Rattle.buffer.specs.View.{number_of, view}
 use Rattle.placing.specs.Done.{Done}
 use Rattle.alone_checks.specs.Numbers.{flush_checks}
 use Rattle.alone.specs.declared.Alone.{Alone}
-use Rattle.alone.specs.declared.Reply.TheVariants.{Released, Rejected}
+use Rattle.alone.specs.Reply.{Released, Rejected}
 use Rattle.alone.specs.Held.{model, Held, number, given}
 use Rattle.alone.specs.Served.{Served, given_by}
 use Rattle.alone.specs.Pushing.{carried, refused, last_is}

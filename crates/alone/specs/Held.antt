@@ -13,8 +13,8 @@ use Rattle.placing.specs.Stands.{Stands}
 use Rattle.placing.specs.Done.{order_view}
 use Rattle.placing.specs.Slices.{Slice}
 use Rattle.alone.specs.declared.Alone.{Alone}
-use Rattle.alone.specs.declared.Reply.{Reply}
-use Rattle.alone.specs.declared.Reply.TheVariants.{At, Released, Rejected}
+use Rattle.alone.specs.Reply.{Reply}
+use Rattle.alone.specs.Reply.{At, Released, Rejected}
 
 unfoldable pub model : Alone → List ℕ → List ℕ → AloneModel
 model x s o = record { guide = view x.guide s o; pushes = x.pushes }

@@ -1,9 +1,10 @@
 -- What opening the guide alone promises, accepted or refused, and why it holds. Assumes nothing.
-use Rattle.std.specs.Prelude.{◌≡◌, List, ◌≢◌, ℕ, ◌+◌, ◌-◌, ◌≤◌, ◌<◌, length, get_or, take, replicate, ltb}
+use Rattle.std.specs.Prelude.{◌≡◌, List, ◌≢◌, ℕ, ◌+◌, ◌-◌, ◌≤◌, ◌<◌, length, get_or, take, replicate, ltb, Result, Ok, Err}
 use Rattle.std.proofs.Math.Path.{refl, sym, ap}
 use Rattle.std.proofs.Common.{◌∙◌, arith, length-take, get_or-take, get_or-drop, ext_get_or, ltb-false}
 use Rattle.std.proofs.lemmas.List.{length-replicate, get_or-replicate}
 use Rattle.rules.specs.Limits.{most_parallelism, most_places}
+use Rattle.rules.specs.declared.Refusal.{Refusal}
 use Rattle.rules.specs.Checks.{verdict, any, check_range, spans_needed, tally_needed}
 use Rattle.rules.specs.Alone.{alone, check_alone}
 use Rattle.laws.specs.Accepted.{verdict_head, or_false}
@@ -25,6 +26,11 @@ opening_number p v s o t = verdict (check_alone p v (capacity s) (capacity o) (l
 -- a guide just opened
 abbrev pub first_alone : ℕ → ℕ → Alone
 first_alone p v = record { guide = first_guide p v; pushes = 0 }
+
+-- the state after opening: refused, it is that of P 0 and V 0
+abbrev pub alone_opened : Result Alone Refusal → Alone
+alone_opened (Ok x) = x
+alone_opened (Err e) = first_alone 0 0
 
 -- P, V and the tally's length are within their limits
 pub record Fits (p v t : ℕ) : Type 0 where

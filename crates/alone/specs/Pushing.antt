@@ -22,13 +22,18 @@ use Rattle.guide.specs.Ready.{Ready, Near, after_of}
 use Rattle.guide.specs.Pushes.{Pushes}
 use Rattle.alone_checks.specs.Numbers.{origin_not, stray_by, stray_after, push_checks}
 use Rattle.alone.specs.declared.Alone.{Alone}
-use Rattle.alone.specs.declared.Reply.TheVariants.{At, Rejected}
+use Rattle.alone.specs.Reply.{At, Rejected}
 use Rattle.alone.specs.Held.{model, Held, number, given}
 use Rattle.alone.specs.Served.{Served, given_by}
 
 -- the request that the code's arguments make
 unfoldable pub pushing : Bool → ℕ → ℕ → ℕ → ℕ → ℕ → Request
 pushing has span pos value added accepted = push (after_of has span pos) (pushed value added accepted)
+
+-- where there is no location, its numbers say nothing
+pub pushing_none : (span pos value added accepted : ℕ) → pushing false span pos value added accepted ≡ pushing false 0 0 value added accepted
+unfolding pushing after_of
+pushing_none span pos value added accepted = refl
 
 -- invariants by other names of what they are of
 pub carried : {P Q N M : ℕ} {a b : AloneModel} → Q ≡ P → M ≡ N → b ≡ a → AloneSound P N a → AloneSound Q M b

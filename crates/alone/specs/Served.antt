@@ -7,7 +7,7 @@ use Rattle.rules.specs.Alone.{Alone as AloneModel, Request, push, flush, reply, 
 use Rattle.placing.specs.GuideFrame.{GuideFrame}
 use Rattle.placing.specs.Slices.{Borrowed}
 use Rattle.alone.specs.declared.Alone.{Alone}
-use Rattle.alone.specs.declared.Reply.{Reply}
+use Rattle.alone.specs.Reply.{Reply}
 use Rattle.alone.specs.Held.{model, Held, number, given}
 
 -- the location that a request is given: a push's, where it is accepted

@@ -1,16 +1,22 @@
 // The guide alone: opened over spans, order and tally; push with value, added and accepted from the caller, and lane 0; flush. Every call
-// checks its own refusals and leaves state and storage as they were where it refuses.
+// checks its own refusals and leaves state and storage as they were where it refuses. Spans, order and tally stay three slices: so they come
+// from the caller of `guide_replay`, the C interface.
 #![tactic(auto)]
 
 ghost use Rattle.std.specs.Prelude.{◌≡◌, length};
 ghost use Rattle.rules.specs.Alone.{Request};
+ghost use Rattle.rules.specs.Answer.{number};
+ghost use Rattle.window.specs.Location.{has, span_of, pos_of};
 ghost use Rattle.alone.specs.Held.{HeldOver};
+ghost use Rattle.alone.specs.Reply.{push_reply, alone_pushed, flush_reply, alone_flushed};
 ghost use Rattle.alone.specs.Served.{ServedOver};
 ghost use Rattle.alone.specs.Pushing.{pushing};
-ghost use Rattle.alone.specs.Opening.{opening_number, first_alone, Fits, Begins, OpensOver};
+ghost use Rattle.alone.specs.Opening.{opening_number, alone_opened, Fits, Begins, OpensOver};
 
 use buffer::Guide;
 use entries::Entry;
+use rules::Refusal;
+use window::Location;
 
 // The guide and how many pushes were accepted.
 #[derive(Clone, Copy)]
@@ -19,42 +25,22 @@ pub struct Alone {
     pub pushes: u32,
 }
 
-// A location for an accepted push, nothing for an accepted flush, or the number of the refusal.
+// The state after an accepted push, and the location that it was given.
 #[derive(Clone, Copy)]
-pub enum Reply {
-    At(u32, u32),
-    Released,
-    Rejected(u32),
-}
-
-// The state after a request, and the reply to it.
-#[derive(Clone, Copy)]
-pub struct Answer {
+pub struct Pushed {
     pub alone: Alone,
-    pub reply: Reply,
+    pub at: Location,
 }
 
-// The number of the refusal or 0, and a fresh guide: the one asked for where it is 0, else one of P 0 and V 0.
-#[derive(Clone, Copy)]
-pub struct Opened {
-    pub number: u32,
-    pub alone: Alone,
-}
-
-// A guide of parallelism p and v pushes just opened.
-fn fresh(p: u32, v: u32) -> Alone
-    ensures { result ≡ first_alone p v }
-{
-    let g = guide::fresh(p, v);
-    Alone {
-        guide: g,
-        pushes: 0,
-    }
-}
-
-// The number of opening a guide over this storage: 0, or that of the refusal.
-pub fn check_open(spans: &[u32], order: &[u32], tally: &[u32], p: u64, v: u64) -> u32
-    ensures { result ≡ opening_number p v spans.now order.now tally.now }
+// Whether opening a guide over this storage is refused, and with what.
+pub fn check_open(
+    spans: &[u32],
+    order: &[u32],
+    tally: &[u32],
+    p: u64,
+    v: u64,
+) -> Result<(), Refusal>
+    ensures { number result ≡ opening_number p v spans.now order.now tally.now }
 {
     alone_checks::check_open(
         entries::capacity(spans),
@@ -70,27 +56,25 @@ pub fn begin(tally: &mut [u32], p: u64, v: u64) -> Alone
     requires { Fits p v (length tally.old) }
     ensures { Begins p v result tally.old tally.new }
 {
-    zeros::clear32(tally, 0, p as usize + 1);
-    fresh(p as u32, v as u32)
+    tally[..p as usize + 1].fill(0);
+    Alone {
+        guide: guide::fresh(p as u32, v as u32),
+        pushes: 0,
+    }
 }
 
-// Opens a guide over its storage; its counts are set to 0. Refused, it is a guide of P 0 and V 0.
-pub fn open(spans: &[u32], order: &[u32], tally: &mut [u32], p: u64, v: u64) -> Opened
-    ensures { OpensOver p v result.number result.alone spans.now order.now tally }
+// Opens a guide over its storage; its counts are set to 0.
+pub fn open(
+    spans: &[u32],
+    order: &[u32],
+    tally: &mut [u32],
+    p: u64,
+    v: u64,
+) -> Result<Alone, Refusal>
+    ensures { OpensOver p v (number result) (alone_opened result) spans.now order.now tally }
 {
-    let n = check_open(spans, order, tally, p, v);
-    if n != 0 {
-        let x = fresh(0, 0);
-        return Opened {
-            number: n,
-            alone: x,
-        };
-    }
-    let x = begin(tally, p, v);
-    Opened {
-        number: 0,
-        alone: x,
-    }
+    check_open(spans, order, tally, p, v)?;
+    Ok(begin(tally, p, v))
 }
 
 // Places a value, after a location where there is one.
@@ -99,65 +83,46 @@ pub fn push(
     spans: &mut [u32],
     order: &mut [u32],
     tally: &mut [u32],
-    has: bool,
-    span: u32,
-    pos: u32,
+    after: Option<Location>,
     value: u32,
     added: u32,
     accepted: u32,
-) -> Answer
+) -> Result<Pushed, Refusal>
     requires { HeldOver x spans order tally }
-    ensures { ServedOver (pushing has span pos value added accepted) x result.alone spans order tally result.reply }
+    ensures { let q = pushing (has after) (span_of after) (pos_of after) value added accepted in ServedOver q x (alone_pushed x result) spans order tally (push_reply result) }
 {
     let g = x.guide;
     let w = g.window;
-    let last = w.ids[window::LAST];
-    let first = w.ids[0];
-    let n = alone_checks::check_push(last, first, w.lens, g.v, x.pushes, has, span, pos);
-    if n != 0 {
-        return Answer {
-            alone: x,
-            reply: Reply::Rejected(n),
-        };
-    }
+    alone_checks::check_push(w.ids[window::LAST], w.ids[0], w.lens, g.v, x.pushes, after)?;
     let e = Entry {
-        value: value,
-        added: added,
-        accepted: accepted,
+        value,
+        added,
+        accepted,
         parallelism: 0,
         lane: 0,
     };
-    let r = guide::push(g, spans, order, tally, has, span, pos, e);
-    let h = r.guide;
-    let mut y = x;
-    y.guide = h;
-    y.pushes = x.pushes + 1;
-    Answer {
-        alone: y,
-        reply: Reply::At(r.span, r.pos),
-    }
+    let r = guide::push(g, spans, order, tally, after, e);
+    let alone = Alone {
+        guide: r.guide,
+        pushes: x.pushes + 1,
+    };
+    Ok(Pushed { alone, at: r.at })
 }
 
 // Releases all 32 spans.
-pub fn flush(x: Alone, spans: &mut [u32], order: &mut [u32], tally: &mut [u32]) -> Answer
+pub fn flush(
+    x: Alone,
+    spans: &mut [u32],
+    order: &mut [u32],
+    tally: &mut [u32],
+) -> Result<Alone, Refusal>
     requires { HeldOver x spans order tally }
-    ensures { ServedOver Request.flush x result.alone spans order tally result.reply }
+    ensures { ServedOver Request.flush x (alone_flushed x result) spans order tally (flush_reply result) }
 {
-    let g = x.guide;
-    let w = g.window;
-    let n = alone_checks::check_flush(w.ids[window::LAST]);
-    if n != 0 {
-        return Answer {
-            alone: x,
-            reply: Reply::Rejected(n),
-        };
-    }
-    let y = Alone {
-        guide: guide::flush(g, spans, order, tally),
-        pushes: x.pushes,
-    };
-    Answer {
-        alone: y,
-        reply: Reply::Released,
-    }
+    let w = x.guide.window;
+    alone_checks::check_flush(w.ids[window::LAST])?;
+    Ok(Alone {
+        guide: guide::flush(x.guide, spans, order, tally),
+        ..x
+    })
 }

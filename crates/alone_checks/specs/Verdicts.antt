@@ -1,10 +1,11 @@
 -- How a verdict comes about: the first check that fails gives its number, and those that pass are skipped. Assumes nothing.
-use Rattle.std.specs.Prelude.{◌≡◌, refl, Bool, true, false, ◌&&◌, ◌||◌, ℕ, ◌-◌, ◌≤◌, ◌<◌, get_or, ltb}
+use Rattle.std.specs.Prelude.{◌≡◌, refl, Bool, true, false, not, ◌&&◌, ◌||◌, ℕ, ◌-◌, ◌≤◌, ◌<◌, get_or, ltb}
 use Rattle.std.proofs.Math.Path.{sym}
-use Rattle.std.proofs.Common.{ap, ◌∙◌, true≢false}
+use Rattle.std.proofs.Common.{ap, ◌∙◌, true≢false, arith}
 use mathlib.Core.List.{List, [], ◌∷◌}
 use Rattle.std.proofs.Math.Bool.{or-false}
 use Rattle.std.proofs.Math.Dec.{leb}
+use Rattle.std.proofs.Math.Decide.{dec_lt}
 use borrow.Author.Tests.{le-leb, lt-leb, le-ltb, lt-ltb, ltb-false}
 use Rattle.rules.specs.Limits.{most_parallelism, most_places, last_span_limit}
 use Rattle.rules.specs.Refusals as refusal
@@ -29,17 +30,10 @@ pub within : (x most : ℕ) → (ltb x 1 || ltb most x) ≡ false → x ≤ most
 within x most e = ltb-false most x (or_none (ltb x 1) (ltb most x) e).1
 
 module _ (p v s o t : ℕ) where
-  pub short_spans : s < spans_needed p → true ≡ any_short p v s o t
+  -- the test of lengths that the code makes
+  pub short_is : (ltb s (spans_needed p) || (ltb o v || ltb t (tally_needed p))) ≡ any_short p v s o t
   unfolding any
-  short_spans h = rw (lt-ltb s (spans_needed p) h)
-
-  pub short_order : spans_needed p ≤ s → o < v → ltb o v ≡ any_short p v s o t
-  unfolding any
-  short_order h k = rw (le-ltb s (spans_needed p) h, lt-ltb o v k)
-
-  pub short_tally : spans_needed p ≤ s → v ≤ o → ltb t (tally_needed p) ≡ any_short p v s o t
-  unfolding any
-  short_tally h k = rw (le-ltb s (spans_needed p) h, le-ltb o v k, or-false (ltb t (tally_needed p)))
+  short_is = rw or-false
 
   abbrev bad_p : Bool
   bad_p = ltb p 1 || ltb most_parallelism p
@@ -121,23 +115,53 @@ pub flush_good : (last : ℕ) → leb last_span_limit last ≡ false → 0 ≡ v
 unfolding flush_checks verdict
 flush_good last e = passes_here (leb last_span_limit last) refusal.guide_exhausted [] e refl
 
+not_below : (a b : ℕ) → not (ltb a b) ≡ leb b a
+not_below a b = elim (dec_lt a b) [ yes h ↦ rw (lt-ltb a b h, lt-leb b a h) | no h ↦ rw (le-ltb a b (omega arith), le-leb b a (omega arith)) ]
+
 -- an `after`
 module _ (first : ℕ) (lens : List ℕ) (span pos : ℕ) where
   and_false : (b : Bool) → (b && false) ≡ false
   and_false true = refl
   and_false false = refl
 
-  and_true : (b : Bool) → (b && true) ≡ b
-  and_true true = refl
-  and_true false = refl
-
   pub stray_old : span < first → false ≡ stray_by first lens span pos
   unfolding stray_by
   stray_old h = sym (rw (lt-leb first span h) (and_false (origin_not span pos)))
 
+  pub stray_home : origin_not span pos ≡ false → false ≡ stray_by first lens span pos
+  unfolding stray_by
+  stray_home e = sym (rw e)
+
+  module _ (e : origin_not span pos ≡ true) (h : first ≤ span) where
+    pub stray_beyond : 32 ≤ span - first → true ≡ stray_by first lens span pos
+    unfolding stray_by
+    stray_beyond k = sym (rw (e, le-leb first span h, le-ltb (span - first) 32 k))
+
+    pub stray_near : span - first < 32 → leb (get_or lens (span - first) 0) pos ≡ stray_by first lens span pos
+    unfolding stray_by
+    stray_near k = sym (rw (e, le-leb first span h, lt-ltb (span - first) 32 k) (not_below pos (get_or lens (span - first) 0)))
+
+module _ (p v s o t : ℕ) where
+  pub short_spans : s < spans_needed p → true ≡ any_short p v s o t
+  unfolding any
+  short_spans h = rw (lt-ltb s (spans_needed p) h)
+
+  pub short_order : spans_needed p ≤ s → o < v → ltb o v ≡ any_short p v s o t
+  unfolding any
+  short_order h k = rw (le-ltb s (spans_needed p) h, lt-ltb o v k)
+
+  pub short_tally : spans_needed p ≤ s → v ≤ o → ltb t (tally_needed p) ≡ any_short p v s o t
+  unfolding any
+  short_tally h k = rw (le-ltb s (spans_needed p) h, le-ltb o v k, or-false (ltb t (tally_needed p)))
+
+module _ (first : ℕ) (lens : List ℕ) (span pos : ℕ) where
+  and_true : (b : Bool) → (b && true) ≡ b
+  and_true true = refl
+  and_true false = refl
+
   pub stray_in : first ≤ span → span - first < 32 → pos < get_or lens (span - first) 0 → false ≡ stray_by first lens span pos
   unfolding stray_by
-  stray_in h k l = sym (rw (le-leb first span h, lt-ltb (span - first) 32 k, lt-ltb pos (get_or lens (span - first) 0) l) (and_false (origin_not span pos)))
+  stray_in h k l = sym (rw (le-leb first span h, lt-ltb (span - first) 32 k, lt-ltb pos (get_or lens (span - first) 0) l) (and_false first lens span pos (origin_not span pos)))
 
   pub stray_out : first ≤ span → span - first < 32 → get_or lens (span - first) 0 ≤ pos → origin_not span pos ≡ stray_by first lens span pos
   unfolding stray_by

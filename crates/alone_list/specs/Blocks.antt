@@ -8,8 +8,7 @@ use Rattle.buffer.specs.View.{view}
 use Rattle.buffer.specs.Rows.{spans_lengths}
 use Rattle.placing.specs.Done.{order_view}
 use Rattle.alone.specs.declared.Alone.{Alone}
-use Rattle.alone.specs.declared.Reply.{Reply}
-use Rattle.alone.specs.declared.Reply.TheVariants.{At, Released, Rejected}
+use Rattle.alone.specs.Reply.{Reply, At, Released, Rejected}
 use Rattle.alone.specs.Held.{model, number, given}
 use Rattle.alone.specs.Served.{Served, given_by}
 use Rattle.alone_list.specs.Requests.{located, answer_to}

@@ -15,7 +15,7 @@ use Rattle.rules.specs.Alone.{Alone as AloneModel, alone, check_alone, Request, 
 use Rattle.laws.specs.Accepted.{verdict_head, verdict_first}
 use Rattle.entries.specs.Entries.{capacity}
 use Rattle.alone.specs.declared.Alone.{Alone}
-use Rattle.alone.specs.declared.Reply.{Reply}
+use Rattle.alone.specs.Reply.{Reply}
 use Rattle.alone.specs.Held.{model, Held, written_is, order_is, tally_is}
 use Rattle.alone.specs.Served.{Served, given_by}
 use Rattle.placing.specs.GuideFrame.{GuideFrame, frame_refl, frame_trans}

@@ -1,104 +1,90 @@
 // A list of requests to the guide alone, as numbers, run on a freshly opened guide.
 #![tactic(auto)]
 
-ghost use Rattle.std.specs.Prelude.{◌≡◌, ◌∷◌, [], ◌+◌, ◌*◌, ◌≤◌, length};
+ghost use Rattle.std.specs.Prelude.{◌≡◌, ◌+◌, ◌*◌, ◌/◌, ◌≤◌, length};
+ghost use Rattle.rules.specs.Answer.{number};
 ghost use Rattle.alone.specs.Held.{HeldOver};
 ghost use Rattle.alone.specs.Served.{ServedOver};
-ghost use Rattle.alone_list.specs.Requests.{request_size, answer_size, has_request, request_at, well_formed};
+ghost use Rattle.alone_list.specs.Requests.{request_size, answer_size, request_at, well_formed};
 ghost use Rattle.alone_list.specs.Replay.{ReplaysOver};
 ghost use Rattle.alone_list.specs.Put.{Put};
+ghost use Rattle.alone_list.specs.Told.{reply_of};
 ghost use Rattle.alone_list.specs.Blocks.{Head, block_of};
 ghost use Rattle.alone_list.specs.Running.{RunsOver};
 
-use alone::{Alone, Answer, Reply};
+use alone::Alone;
+use rules::Refusal;
+use window::Location;
 
 // The numbers of a request, and of the answer to one.
 pub const REQUEST_SIZE: usize = 6;
 
 pub const ANSWER_SIZE: usize = 37;
 
-// The kinds of requests: a flush, a push with no `after`, a push after (span, position).
+// The kinds of requests: a flush, a push with no `after`, a push after (span, position). They stand in the caller's list: the C interface.
 const FLUSH: u32 = 0;
 
 const PUSH: u32 = 1;
 
 const PUSH_AFTER: u32 = 2;
 
-// Serves the k-th request: kind, span, position, value, added, accepted.
+// The state after a request, with the location that it was given, or its refusal.
+#[derive(Clone, Copy)]
+struct Served {
+    alone: Alone,
+    reply: Result<Option<Location>, Refusal>,
+}
+
+// Serves a request: kind, span, position, value, added, accepted.
 fn serve(
     x: Alone,
     spans: &mut [u32],
     order: &mut [u32],
     tally: &mut [u32],
-    requests: &[u32],
-    k: usize,
-) -> Answer
-    requires held_over { HeldOver x spans order tally }
-    requires has_request { has_request requests.now k }
-    ensures { ServedOver (request_at requests.now k) x result.alone spans order tally result.reply }
+    request: [u32; REQUEST_SIZE],
+) -> Served
+    requires { HeldOver x spans order tally }
+    ensures { ServedOver (request_at request 0) x result.alone spans order tally (reply_of result.reply) }
 {
-    let i = REQUEST_SIZE * k;
-    let kind = requests[i];
-    let span = requests[i + 1];
-    let pos = requests[i + 2];
-    let value = requests[i + 3];
-    let added = requests[i + 4];
-    let accepted = requests[i + 5];
+    let [kind, span, pos, value, added, accepted] = request;
     if kind == FLUSH {
-        return alone::flush(x, spans, order, tally);
+        return match alone::flush(x, spans, order, tally) {
+            Ok(alone) => Served {
+                alone,
+                reply: Ok(None),
+            },
+            Err(e) => Served {
+                alone: x,
+                reply: Err(e),
+            },
+        };
     }
-    let has = kind != PUSH;
-    alone::push(
-        x, spans, order, tally, has, span, pos, value, added, accepted,
-    )
-}
-
-// The three numbers of a reply.
-#[derive(Clone, Copy)]
-pub struct Triple {
-    pub number: u32,
-    pub span: u32,
-    pub pos: u32,
-}
-
-fn told(r: Reply) -> Triple
-    ensures { Head r result.number result.span result.pos }
-{
-    match r {
-        Reply::At(s, q) => {
-            return Triple {
-                number: 0,
-                span: s,
-                pos: q,
-            };
-        }
-        Reply::Released => {
-            return Triple {
-                number: 0,
-                span: 0,
-                pos: 0,
-            };
-        }
-        Reply::Rejected(n) => {
-            return Triple {
-                number: n,
-                span: 0,
-                pos: 0,
-            };
-        }
+    let after = if kind == PUSH {
+        None
+    } else {
+        Some(Location { span, pos })
+    };
+    match alone::push(x, spans, order, tally, after, value, added, accepted) {
+        Ok(r) => Served {
+            alone: r.alone,
+            reply: Ok(Some(r.at)),
+        },
+        Err(e) => Served {
+            alone: x,
+            reply: Err(e),
+        },
     }
 }
 
-// Five numbers from `at` on.
-fn put_five(answers: &mut [u32], at: usize, a: u32, b: u32, c: u32, d: u32, e: u32)
-    requires { at + 5 ≤ length answers.old }
-    ensures { Put at (a ∷ (b ∷ (c ∷ (d ∷ (e ∷ []))))) answers.old answers.new }
+// The three numbers of a reply: the refusal's, or 0 with the location that was given, zeros where there is none.
+fn told(reply: Result<Option<Location>, Refusal>) -> (u32, u32, u32)
+    ensures { Head (reply_of reply) result.0 result.1 result.2 }
 {
-    answers[at] = a;
-    answers[at + 1] = b;
-    answers[at + 2] = c;
-    answers[at + 3] = d;
-    answers[at + 4] = e;
+    match reply {
+        Ok(Some(at)) => (0, at.span, at.pos),
+        Ok(None) => (0, 0, 0),
+        Err(e) => (e.into(), 0, 0),
+    }
 }
 
 // The window's lengths from `at` on.
@@ -106,28 +92,24 @@ fn put_lens(answers: &mut [u32], at: usize, lens: [u16; window::SPANS])
     requires { at + 32 ≤ length answers.old }
     ensures { Put at lens answers.old answers.new }
 {
-    for i in 0..window::SPANS {
-        answers[at + i] = lens[i] as u32;
+    for (i, n) in lens.iter().enumerate() {
+        answers[at + i] = u32::from(*n);
     }
 }
 
 // The answer to a request from `at` on: the reply's number and location, the order's length, span 0's number, the 32 lengths.
-fn note(answers: &mut [u32], at: usize, a: Answer)
+fn note(answers: &mut [u32], at: usize, a: Served)
     requires { at + answer_size ≤ length answers.old }
-    ensures { Put at (block_of a.alone a.reply) answers.old answers.new }
+    ensures { Put at (block_of a.alone (reply_of a.reply)) answers.old answers.new }
 {
-    let r = a.reply;
-    let t = told(r);
-    let x = a.alone;
-    let g = x.guide;
+    let (number, span, pos) = told(a.reply);
+    let g = a.alone.guide;
     let w = g.window;
-    let ids = w.ids;
-    let lens = w.lens;
-    put_five(answers, at, t.number, t.span, t.pos, g.written, ids[0]);
-    put_lens(answers, at + 5, lens);
+    answers[at..at + 5].copy_from_slice(&[number, span, pos, g.written, w.ids[0]]);
+    put_lens(answers, at + 5, w.lens);
 }
 
-// Runs n requests, one after the other, and notes each answer.
+// Runs the requests, one after the other, and notes each answer.
 fn run(
     x: Alone,
     spans: &mut [u32],
@@ -135,18 +117,17 @@ fn run(
     tally: &mut [u32],
     answers: &mut [u32],
     requests: &[u32],
-    n: usize,
 )
     requires held_over { HeldOver x spans order tally }
-    requires n_in_bounds { (request_size * n ≤ length requests.now) × (answer_size * n ≤ length answers.old) }
-    ensures { RunsOver x spans order tally answers requests.now n }
+    requires room { answer_size * (length requests.now / request_size) ≤ length answers.old }
+    ensures { RunsOver x spans order tally answers requests.now (length requests.now / request_size) }
 {
+    let (requests, _) = requests.as_chunks::<REQUEST_SIZE>();
     let mut y = x;
-    for k in 0..n {
-        let a = serve(y, spans, order, tally, requests, k);
+    for (k, request) in requests.iter().enumerate() {
+        let a = serve(y, spans, order, tally, *request);
         note(answers, ANSWER_SIZE * k, a);
-        let z = a.alone;
-        y = z;
+        y = a.alone;
     }
 }
 
@@ -154,20 +135,12 @@ fn run(
 fn well_formed(requests: &[u32]) -> bool
     ensures { result ≡ well_formed requests.now }
 {
-    if requests.len() % REQUEST_SIZE != 0 {
-        return false;
-    }
-    let n = requests.len() / REQUEST_SIZE;
-    for k in 0..n {
-        if PUSH_AFTER < requests[REQUEST_SIZE * k] {
-            return false;
-        }
-    }
-    true
+    let (requests, rest) = requests.as_chunks::<REQUEST_SIZE>();
+    rest.is_empty() && requests.iter().all(|r| r[0] <= PUSH_AFTER)
 }
 
-// Opens a guide and runs the requests on it. Returns 0, and the numbers of refused requests stand in their answers; or the number of a
-// refusal, and then nothing was written: 15 for numbers that are no requests; 1, 2 of opening; 2 for too little room for the answers.
+// Opens a guide and runs the requests on it; the numbers of refused requests stand in their answers. Refused, nothing was written: malformed
+// for numbers that are no requests; what opening refuses; too short for too little room for the answers.
 pub fn replay(
     p: u64,
     v: u64,
@@ -176,21 +149,17 @@ pub fn replay(
     order: &mut [u32],
     tally: &mut [u32],
     answers: &mut [u32],
-) -> u32
-    ensures { ReplaysOver p v requests.now result spans order tally answers }
+) -> Result<(), Refusal>
+    ensures { ReplaysOver p v requests.now (number result) spans order tally answers }
 {
     if !well_formed(requests) {
-        return rules::MALFORMED as u32;
+        return Err(Refusal::Malformed);
     }
-    let number = alone::check_open(spans, order, tally, p, v);
-    if number != 0 {
-        return number;
-    }
-    let n = requests.len() / REQUEST_SIZE;
-    if answers.len() / ANSWER_SIZE < n {
-        return rules::TOO_SHORT as u32;
+    alone::check_open(spans, order, tally, p, v)?;
+    if answers.len() / ANSWER_SIZE < requests.len() / REQUEST_SIZE {
+        return Err(Refusal::TooShort);
     }
     let x = alone::begin(tally, p, v);
-    run(x, spans, order, tally, answers, requests, n);
-    0
+    run(x, spans, order, tally, answers, requests);
+    Ok(())
 }

@@ -1,10 +1,10 @@
 -- An accepted add under the ascending profile: its registration is on the model's stack alone, so that the laws of a placing
 -- (session/Placed) say what each step asks and what is done in the end. Assumes nothing.
-use Rattle.std.specs.Prelude.{◌≡◌, List, [], ◌∷◌, Bool, false, ℕ, ◌+◌, ◌-◌, ◌^◌, ◌≤◌, ◌<◌, ltb, length}
+use Rattle.std.specs.Prelude.{◌≡◌, List, [], ◌∷◌, false, Option, ℕ, ◌+◌, ◌-◌, ◌^◌, ◌≤◌, ◌<◌, length}
 use Rattle.std.proofs.Math.Path.{refl, sym, subst}
 use Rattle.std.proofs.Common.{ap, ◌∙◌, arith}
 use Rattle.std.proofs.Math.ListN.{length-append}
-use Rattle.rules.specs.Limits.{most_lane, most_places, location_radix}
+use Rattle.rules.specs.Limits.{most_lane, most_places}
 use Rattle.rules.specs.Record.{row_of}
 use Rattle.rules.specs.Model.{Reg, Model, tracked, watermark, reg_of, place_one, with_add, do_add, note_add, with_record}
 use Rattle.rules.specs.Calls.{add as add_call, apply_call}
@@ -18,13 +18,15 @@ use Rattle.ascending.specs.Claims.{places_from, Reached}
 use Rattle.ascending.specs.Same.{accepted_by_all, all_ready, placed_alone, add_passed}
 use Rattle.ascending.specs.Lowest.{lowest_add}
 use Rattle.lists.specs.Part.{Below}
-use Rattle.tracking.specs.Tracking.{packed, unpacked, peak, Stamped}
-use Rattle.tracking.specs.Places.{unpacked_packs}
+use Rattle.tracking.specs.Tracking.{packed, Stamped}
 use Rattle.entries.specs.Entries.{item_of, row}
 use Rattle.buffer.specs.declared.Guide.{Guide}
-use Rattle.guide.specs.Ready.{after_of}
+use Rattle.guide.specs.Ready.{loc_of}
 use Rattle.guide.specs.Pushes.{Pushes}
 use Rattle.records.specs.Filling.{filled, has_row, with_written}
+use Rattle.window.specs.declared.Location.{Location}
+use Rattle.window.specs.Location.{has, span_of, pos_of}
+use Rattle.session.specs.Finding.{Leads}
 use Rattle.session.specs.Storage.{Storage, with_rows, Frame, frame_trans}
 use Rattle.session.specs.Rep.{Base}
 use Rattle.session.specs.Showing.{written_shown}
@@ -48,18 +50,6 @@ with_added s h i o =
       registrations = s.registrations;
       places = s.places;
     }
-
--- what is read of the inputs: whether there are any, and the greatest of their locations
-abbrev pub has : List ℕ → Bool
-has ins = ltb 0 (length ins)
-
-pub record Top (locations ins : List ℕ) (span pos : ℕ) : Type 0 where
-  pub is : packed span pos ≡ peak locations ins
-  pub low : pos < location_radix
-
-pub top_of : {locations ins : List ℕ} {top span pos : ℕ} → top ≡ peak locations ins → span ≡ (unpacked top).span → pos ≡ (unpacked top).pos → Top locations ins span pos
-top_of {locations} {ins} {top} {span} {pos} t es ep =
-    rw (es, ep) (record { is = (unpacked_packs top).0 ∙ t; low = (unpacked_packs top).1 })
 
 abbrev reg_for : ℕ → List ℕ → List ℕ → Reg
 reg_for lane ins outs = record { lane = lane; ins = ins; outs = outs }
@@ -98,7 +88,7 @@ module _ (lane : ℕ) (ins outs : List ℕ) {s : Ascending} {σ : Storage} where
     room_above : s.lowest + length outs ≤ N
     room_above = omega (arith, placed_lowest, watermark_le N (place_one P s.added s.added (with_add (reg_for lane ins outs) k)))
 
-    may_put : {span pos : ℕ} → Top σ.locations ins span pos → MayPut s.added s.added s.guide s.lowest σ (has ins) span pos lane
+    may_put : {after : Option Location} → Leads σ.locations ins (length ins) after → MayPut s.added s.added s.guide s.lowest σ (has after) (span_of after) (pos_of after) lane
     unfolding with_add
     may_put t =
         record {
@@ -110,7 +100,7 @@ module _ (lane : ℕ) (ins outs : List ℕ) {s : Ascending} {σ : Storage} where
           base = base_added;
           sound = sound_added;
           ended = simp length-append (omega (arith, R.counted.added_is));
-          led = rw reg_is (record { has_is = refl; peak_is = t.is; low = t.low; lane_is = refl });
+          led = rw reg_is (record { has_is = t.has_is; peak_is = t.peak_is; low = t.low; lane_is = refl });
         }
 
     outs_are : (reg_of (with_add (reg_for lane ins outs) k) s.added).outs ≡ places_from s.lowest (length outs)
@@ -119,8 +109,8 @@ module _ (lane : ℕ) (ins outs : List ℕ) {s : Ascending} {σ : Storage} where
     counted_closed : (k.closed ≡ false) → s.registrations ≡ 0
     counted_closed c = R.counted.registrations_is ∙ rw c
 
-    module _ {span pos : ℕ} (t : Top σ.locations ins span pos) {h : Guide} {sp o tl : List ℕ} {span' pos' : ℕ}
-        (U : Pushes s.guide h (after_of (has ins) span pos) (item_of (entry_for s.added s.added lane)) σ.spans σ.order σ.tally sp o tl span' pos')
+    module _ {after : Option Location} (t : Leads σ.locations ins (length ins) after) {h : Guide} {sp o tl : List ℕ} {span' pos' : ℕ}
+        (U : Pushes s.guide h (loc_of after) (item_of (entry_for s.added s.added lane)) σ.spans σ.order σ.tally sp o tl span' pos')
         {rs rs' m l : List ℕ} {loc : ℕ} (er : rs ≡ filled σ.rows s.guide.written (row o s.guide.written (h.written - s.guide.written)))
         (el : loc ≡ packed span' pos') (Z : Stamped σ.marks σ.locations (places_from s.lowest (length outs)) loc m l)
         (en : rs' ≡ with_written rs s.added h.written) where
@@ -202,7 +192,7 @@ module _ (lane : ℕ) (ins outs : List ℕ) {s : Ascending} {σ : Storage} where
         let h = room_above rep a.asks.reached a.accepted in
         (omega (arith, h, rep.base.tracked.places.marks_long), omega (arith, h, rep.base.tracked.places.locations_long))
 
-    pub may_place : {span pos : ℕ} → Top σ.locations ins span pos → MayPut s.added s.added s.guide s.lowest σ (has ins) span pos lane
+    pub may_place : {after : Option Location} → Leads σ.locations ins (length ins) after → MayPut s.added s.added s.guide s.lowest σ (has after) (span_of after) (pos_of after) lane
     may_place = may_put rep a.asks.reached a.accepted
 
     -- the row that is noted, after rows of the same length
@@ -210,8 +200,8 @@ module _ (lane : ℕ) (ins outs : List ℕ) {s : Ascending} {σ : Storage} where
     row_there rs e = omega (arith, e, more rep a.asks.reached a.accepted, rep.base.rowed.long)
 
     -- what is done in the end
-    module _ {span pos : ℕ} (t : Top σ.locations ins span pos) {h : Guide} {sp o tl : List ℕ} {span' pos' : ℕ}
-        (U : Pushes s.guide h (after_of (has ins) span pos) (item_of (entry_for s.added s.added lane)) σ.spans σ.order σ.tally sp o tl span' pos')
+    module _ {after : Option Location} (t : Leads σ.locations ins (length ins) after) {h : Guide} {sp o tl : List ℕ} {span' pos' : ℕ}
+        (U : Pushes s.guide h (loc_of after) (item_of (entry_for s.added s.added lane)) σ.spans σ.order σ.tally sp o tl span' pos')
         {rs rs' m l : List ℕ} {loc : ℕ} (er : rs ≡ filled σ.rows s.guide.written (row o s.guide.written (h.written - s.guide.written)))
         (el : loc ≡ packed span' pos') (Z : Stamped σ.marks σ.locations (places_from s.lowest (length outs)) loc m l)
         (en : rs' ≡ with_written rs s.added h.written) where

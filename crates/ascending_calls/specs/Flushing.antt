@@ -4,7 +4,7 @@ use Rattle.std.proofs.Math.Bool.{true}
 use Rattle.std.proofs.Common.{arith}
 use Rattle.rules.specs.Record.{row_of}
 use Rattle.rules.specs.Model.{Model, tracked, watermark, with_record, with_flush, note_flush, note_final, do_flush, do_final}
-use Rattle.rules.specs.Calls.{Call, flush as flush_call, final as final_call, apply_call}
+use Rattle.rules.specs.Calls.{flush as flush_call, final as final_call, apply_call}
 use Rattle.rules.specs.Ascending.{answer}
 use Rattle.laws.specs.Accepted.{flush_passed}
 use Rattle.laws.specs.ModelBase.{watermark_le}
@@ -19,22 +19,7 @@ use Rattle.session.specs.Rep.{Base}
 use Rattle.ascending_session.specs.declared.Ascending.{Ascending}
 use Rattle.ascending_session.specs.Rep.{Rep}
 use Rattle.ascending_session.specs.Promise.{MayDo, Does, positive, small}
-
--- what the work of flush or final, the call c, may presume and what it does, of the slices that it touches: asked of some storage with these
--- spans, order, tally and rows, and promised of every one
-pub record MayFlush (c : Call) (s : Ascending) (sp o t rs : List ℕ) : Type 0 where
-  pub around : Storage
-  pub may : MayDo c s (with_order around sp o t rs)
-
-abbrev pub Flushes : Call → Ascending → Ascending → List ℕ → List ℕ → List ℕ → List ℕ → List ℕ → List ℕ → List ℕ → Type 0
-Flushes c s s' sp o t rs o' t' rs' = (σ : Storage) → Does c s s' (with_order σ sp o t rs) (with_order σ sp o' t' rs')
-
-pub may_flush : {c : Call} {s : Ascending} {σ : Storage} → MayDo c s σ → MayFlush c s σ.spans σ.order σ.tally σ.rows
-may_flush {σ = σ} m = record { around = σ; may = m }
-
-pub flushes : {c : Call} {s s' : Ascending} {σ : Storage} {o t rs : List ℕ} → Flushes c s s' σ.spans σ.order σ.tally σ.rows o t rs
-    → Does c s s' σ (with_order σ σ.spans o t rs)
-flushes {σ = σ} f = f σ
+use Rattle.rules.specs.Calls.{Call}
 
 -- the session after a plain flush, and after final
 abbrev pub flushed_session : Ascending → Guide → Ascending
@@ -164,3 +149,19 @@ module _ {s : Ascending} {σ : Storage} where
     pub final_does : Does final_call s (final_session s h) σ (with_order σ σ.spans o t rs)
     unfolding apply_call
     final_does = record { rep = λ P N W k R Q e. rep_final R Q (final_fits R Q e) Z; frame = Z.frame σ.marks σ.locations σ.waiting σ.pool }
+
+-- what the work of flush or final, the call c, may presume and what it does, of the slices that it touches: asked of some storage with these
+-- spans, order, tally and rows, and promised of every one
+pub record MayFlush (c : Call) (s : Ascending) (sp o t rs : List ℕ) : Type 0 where
+  pub around : Storage
+  pub may : MayDo c s (with_order around sp o t rs)
+
+abbrev pub Flushes : Call → Ascending → Ascending → List ℕ → List ℕ → List ℕ → List ℕ → List ℕ → List ℕ → List ℕ → Type 0
+Flushes c s s' sp o t rs o' t' rs' = (σ : Storage) → Does c s s' (with_order σ sp o t rs) (with_order σ sp o' t' rs')
+
+pub may_flush : {c : Call} {s : Ascending} {σ : Storage} → MayDo c s σ → MayFlush c s σ.spans σ.order σ.tally σ.rows
+may_flush {σ = σ} m = record { around = σ; may = m }
+
+pub flushes : {c : Call} {s s' : Ascending} {σ : Storage} {o t rs : List ℕ} → Flushes c s s' σ.spans σ.order σ.tally σ.rows o t rs
+    → Does c s s' σ (with_order σ σ.spans o t rs)
+flushes {σ = σ} f = f σ

@@ -5,4 +5,5 @@ pub mod Setting
 pub mod Adding
 pub mod Flushing
 pub mod Closing
+pub mod Finishing
 pub mod Chain

@@ -1,38 +1,32 @@
--- Places that ascend from m: the loop that finds it, and what it says of them; and a breach by an add, by what the code looks at.
+-- Places that ascend from m: what the code looks at, and what it says of them; and a breach by an add, by what the code looks at.
 -- Assumes nothing.
-use Rattle.std.specs.Prelude.{◌≡◌, refl, ◌⊎◌, List, [], ◌∷◌, Bool, true, false, leb, eqb, length, get_or, drop}
-use Rattle.std.proofs.Common.{sym, ◌∙◌, inl, inr, add-zero}
+use Rattle.std.specs.Prelude.{◌≡◌, refl, ◌⊎◌, List, [], ◌∷◌, Bool, true, false, ◌&&◌, ◌==◌, leb, eqb, length}
+use Rattle.std.proofs.Common.{sym, ap, ◌∙◌, inl, inr, add-zero}
 use Rattle.std.proofs.lemmas.Bool.{false≢true}
+use Rattle.std.specs.List.{list_all, enumerate_from}
 use Prim.Native.Nat.{ℕ, suc, ◌+◌, ◌≤◌, ◌<◌}
 use native.Mathlib.Omega.{arith}
-use borrow.Author.Tests.{eqb-true, eq-eqb, ne_eqb}
+use borrow.Author.Tests.{eqb-true, ne_eqb}
 use Rattle.rules.specs.Model.{member}
 use Rattle.rules.specs.Checks.{any, repeats}
 use Rattle.rules.specs.Ascending.{ascend, first_or, add_breach}
 use Rattle.laws.specs.ModelBase.{bool_cases}
 use Rattle.lists.specs.Part.{Below}
+use Rattle.ascending_checks.specs.Parts.{ascends, Under}
+use Rattle.std.specs.Prelude.{get_or, drop}
+use borrow.Author.Tests.{eq-eqb}
 use Rattle.lists.specs.Scan.{drop_step, drop_none}
-use Rattle.ascending_checks.specs.Parts.{Under}
 
--- the loop of `ascends`, by what remains to be done
-module _ (m : ℕ) (xs : List ℕ) where
-  pub ascend_begins : ascend m xs ≡ ascend (m + 0) (drop 0 xs)
-  ascend_begins = rw add-zero
+-- what `ascends` looks at
+ascends_from : (m k : ℕ) (xs : List ℕ) → list_all (λ (p : ℕ × ℕ). p.1 == (m + p.0)) (enumerate_from k xs) ≡ ascend (m + k) xs
+unfolding ascend
+ascends_from m k [] = refl
+ascends_from m k (x ∷ xs) =
+    let next : m + (k + 1) ≡ suc (m + k) = omega arith in
+    ap (λ (b : Bool). (x == (m + k)) && b) (ascends_from m (k + 1) xs ∙ ap (λ (n : ℕ). ascend n xs) next)
 
-  module _ (i : ℕ) (h : i < length xs) where
-    pub ascend_more : get_or xs i 0 ≡ m + i → ascend (m + i) (drop i xs) ≡ ascend (m + (i + 1)) (drop (i + 1) xs)
-    unfolding ascend
-    ascend_more e =
-        let next : m + (i + 1) ≡ suc (m + i) = omega arith in
-        rw (drop_step xs i h, next, eq-eqb (get_or xs i 0) (m + i) e)
-
-    pub ascend_stops : (get_or xs i 0 ≡ m + i → ⊥) → ascend (m + i) (drop i xs) ≡ false
-    unfolding ascend
-    ascend_stops n = rw (drop_step xs i h, ne_eqb (get_or xs i 0) (m + i) n)
-
-  pub ascend_ends : (i : ℕ) → length xs ≤ i → ascend (m + i) (drop i xs) ≡ true
-  unfolding ascend
-  ascend_ends i h = rw (drop_none xs i h)
+pub ascends_is : (m : ℕ) (xs : List ℕ) → ascends m xs ≡ ascend m xs
+ascends_is m xs = ascends_from m 0 xs ∙ rw add-zero
 
 ascend_split : (m x : ℕ) (xs : List ℕ) → ascend m (x ∷ xs) ≡ true → (x ≡ m) × (ascend (suc m) xs ≡ true)
 unfolding ascend
@@ -94,3 +88,22 @@ module _ (m : ℕ) (ins outs : List ℕ) where
       go : (ascend m outs ≡ true) ⊎ (ascend m outs ≡ false) → (ascend m outs ≡ true) × (any (λ i. leb m i) ins ≡ false)
       go (inl e) = (e, sym (breach_ins e) ∙ h)
       go (inr e) = absurd (false≢true (sym h ∙ breach_outs e))
+
+module _ (m : ℕ) (xs : List ℕ) where
+  pub ascend_begins : ascend m xs ≡ ascend (m + 0) (drop 0 xs)
+  ascend_begins = rw add-zero
+
+  module _ (i : ℕ) (h : i < length xs) where
+    pub ascend_more : get_or xs i 0 ≡ m + i → ascend (m + i) (drop i xs) ≡ ascend (m + (i + 1)) (drop (i + 1) xs)
+    unfolding ascend
+    ascend_more e =
+        let next : m + (i + 1) ≡ suc (m + i) = omega arith in
+        rw (drop_step xs i h, next, eq-eqb (get_or xs i 0) (m + i) e)
+
+    pub ascend_stops : (get_or xs i 0 ≡ m + i → ⊥) → ascend (m + i) (drop i xs) ≡ false
+    unfolding ascend
+    ascend_stops n = rw (drop_step xs i h, ne_eqb (get_or xs i 0) (m + i) n)
+
+  pub ascend_ends : (i : ℕ) → length xs ≤ i → ascend (m + i) (drop i xs) ≡ true
+  unfolding ascend
+  ascend_ends i h = rw (drop_none xs i h)

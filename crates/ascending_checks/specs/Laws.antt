@@ -1,12 +1,12 @@
 -- The lists of checks are the model's under the profile; and the laws by which the proofs of the checks go, one for each way out.
 -- Assumes nothing.
-use Rattle.std.specs.Prelude.{◌≡◌, List, [], ◌∷◌, ◌++◌, Bool, ◌≢◌, ℕ, ◌+◌, ◌-◌, ◌≤◌, ◌<◌, leb, ltb}
+use Rattle.std.specs.Prelude.{◌≡◌, List, [], ◌∷◌, ◌++◌, Bool, not, ◌≢◌, ℕ, ◌+◌, ◌-◌, ◌≤◌, ◌<◌, leb, ltb}
 use Rattle.std.proofs.Math.Path.{refl, sym}
 use Rattle.std.proofs.Common.{◌∙◌, true≢false, arith}
 use Rattle.std.proofs.Math.Bool.{true, false}
-use Rattle.std.proofs.lemmas.Bool.{false≢true}
+use Rattle.std.proofs.lemmas.Bool.{false≢true, and_parts}
 use Rattle.std.proofs.Math.ListN.{length}
-use borrow.Author.Tests.{lt-ltb, le-ltb, le-leb, lt-leb, ltb-false, leb-false, eq-eqb, ne_eqb}
+use borrow.Author.Tests.{lt-ltb, le-ltb, le-leb, lt-leb, ltb-false, leb-false, leb-true, eq-eqb, ne_eqb}
 use Rattle.rules.specs.Limits.{most_lane, least_flagged}
 use Rattle.rules.specs.Refusals as refusal
 use Rattle.rules.specs.Model.{Model}
@@ -17,10 +17,12 @@ use Rattle.laws.specs.Accepted.{verdict_head, verdict_first}
 use Rattle.lists.specs.Part.{Below, below_at, at_below}
 use Rattle.lists.specs.Arguments.{any_below, below_any, below_append}
 use Rattle.checking.specs.Parts.{list_checks}
+use Rattle.add_checks.specs.Promises.{fits}
+use Rattle.add_checks.specs.StateChecks.{fits_of, of_fits}
 use Rattle.add_checks.specs.ListChecks.{many, lists_good, verdict_rest, lists_numbered, lists_passed}
 use Rattle.ascending_marks.specs.Raised.{Unraised}
-use Rattle.ascending_checks.specs.Parts.{set_checks, late_checks, add_checks, Under, ChecksSet, MayPass, Passes, MayAdd, ChecksAdd}
-use Rattle.ascending_checks.specs.Ascend.{ascend_below, below_ascend, ascend_once, ascend_free, breach_outs, breach_ins, breach_none}
+use Rattle.ascending_checks.specs.Parts.{set_checks, late_checks, add_checks, Under, ChecksSet, MayPass, passes, Passes, MayAdd, ChecksAdd}
+use Rattle.ascending_checks.specs.Ascend.{ascends_is, ascend_below, below_ascend, ascend_once, ascend_free, breach_outs, breach_ins, breach_none}
 
 -- the model's answers
 pub set_is : (N W x : ℕ) (k : Model) → verdict (set_checks k.closed N (lowest N k) x (taken k)) ≡ answer N W (set x) k
@@ -117,56 +119,44 @@ module _ (closed : Bool) (N m lane : ℕ) (ins outs : List ℕ) (added used W : 
       wider : Below N ins
       wider = at_below N ins (λ j k. omega (arith, below_at m ins (any_below m ins p.ins_low) j k, p.inside))
 
--- `passes`
+-- `passes`: true exactly where add passes its checks
 pub may_pass : {marks : List ℕ} {v m used room : ℕ} → MayAdd marks v m used room → MayPass v m used room
 may_pass a = record { low = a.low; small = a.small; fits = a.fits }
 
 module _ {lane : ℕ} {ins outs : List ℕ} {closed : Bool} {v m added used room : ℕ} (may : MayPass v m used room) where
-  refused : (AddPasses closed v m lane ins outs added used room → ⊥) → Passes lane ins outs closed v m added used room false
-  refused h = record { passes = λ q. absurd (false≢true q); fails = λ q t z. h (passes_of closed v m lane ins outs added used room may.low t z) }
+  -- what add passes is what is looked at
+  looked : AddPasses closed v m lane ins outs added used room → passes closed lane ins outs v m added (room - used) ≡ true
+  looked p =
+      let f = fits_of closed lane ins outs v added (room - used) (record { not_closed = p.not_closed; low = p.low; few = p.few; more = p.more; room = omega (arith, p.room) }) in
+      rw (f, le-leb (m + length outs) v p.inside, p.ins_low) (ascends_is m outs ∙ p.outs_ascend)
 
-  pub closed_fails : closed ≡ true → Passes lane ins outs closed v m added used room false
-  closed_fails e = refused (λ p. true≢false (sym e ∙ p.not_closed))
-
-  pub lane_fails : most_lane < lane → Passes lane ins outs closed v m added used room false
-  lane_fails h = refused (λ p. omega (arith, p.low))
-
-  pub many_fails : many ins outs ≡ true → Passes lane ins outs closed v m added used room false
-  many_fails e = refused (λ p. true≢false (sym e ∙ p.few))
-
-  pub count_fails : v ≤ added → Passes lane ins outs closed v m added used room false
-  count_fails h = refused (λ p. omega (arith, p.more))
-
-  pub room_fails : room - used < length ins + length outs → Passes lane ins outs closed v m added used room false
-  room_fails h = refused (λ p. omega (arith, p.room))
-
-  pub outside_fails : v < m + length outs → Passes lane ins outs closed v m added used room false
-  outside_fails h = refused (λ p. omega (arith, p.inside))
-
-  pub ins_fail : any (λ i. leb m i) ins ≡ true → Passes lane ins outs closed v m added used room false
-  ins_fail e = refused (λ p. true≢false (sym e ∙ p.ins_low))
-
-  -- all but the outputs themselves was looked at
-  pub outs_tell : closed ≡ false → lane ≤ most_lane → many ins outs ≡ false → added < v → length ins + length outs ≤ room - used
-      → m + length outs ≤ v → any (λ i. leb m i) ins ≡ false → {r : Bool} → r ≡ ascend m outs → Passes lane ins outs closed v m added used room r
-  outs_tell open' low few more fits inside ins_low {r} e =
+  at_last : passes closed lane ins outs v m added (room - used) ≡ true → AddPasses closed v m lane ins outs added used room
+  at_last e =
+      let a = and_parts (fits closed lane ins outs v added (room - used)) _ e in
+      let b = and_parts (leb (m + length outs) v) _ a.1 in
+      let c = and_parts (not (any (λ i. leb m i) ins)) _ b.1 in
+      let z = of_fits closed lane ins outs v added (room - used) a.0 in
       record {
-        passes = λ q. of_passes closed v m lane ins outs added used room (omega (arith, may.small)) (all q);
-        fails = λ q t z. true≢false (sym (passes_of closed v m lane ins outs added used room may.low t z).outs_ascend ∙ sym e ∙ q);
+        not_closed = z.not_closed;
+        low = z.low;
+        few = z.few;
+        more = z.more;
+        room = omega (arith, may.fits, z.room);
+        inside = leb-true (m + length outs) v b.0;
+        ins_low = down (any (λ i. leb m i) ins) c.0;
+        outs_ascend = sym (ascends_is m outs) ∙ c.1;
       }
     where
-      all : r ≡ true → AddPasses closed v m lane ins outs added used room
-      all q =
-          record {
-            not_closed = open';
-            low = low;
-            few = few;
-            more = more;
-            room = omega (arith, may.fits);
-            inside = inside;
-            ins_low = ins_low;
-            outs_ascend = sym e ∙ q;
-          }
+      down : (x : Bool) → not x ≡ true → x ≡ false
+      down true q = absurd (false≢true q)
+      down false q = refl
+
+  pub tells : {r : Bool} → r ≡ passes closed lane ins outs v m added (room - used) → Passes lane ins outs closed v m added used room r
+  tells e =
+      record {
+        passes = λ q. of_passes closed v m lane ins outs added used room (omega (arith, may.small)) (at_last (sym e ∙ q));
+        fails = λ q t z. true≢false (sym (looked (passes_of closed v m lane ins outs added used room may.low t z)) ∙ sym e ∙ q);
+      }
 
 -- `number`: the lists were looked at, and n is told of them
 pub may_repeat : {marks : List ℕ} (lane : ℕ) (ins : List ℕ) {outs : List ℕ} (closed : Bool) {v m used room : ℕ} (n : ℕ)
@@ -228,3 +218,50 @@ module _ {marks : List ℕ} {lane : ℕ} {ins outs : List ℕ} {closed : Bool} {
 pub passed : {lane : ℕ} {ins outs : List ℕ} {closed : Bool} {v m added used room : ℕ} {r : Bool} → Passes lane ins outs closed v m added used room r → r ≡ true
     → {marks : List ℕ} → ChecksAdd marks lane ins outs closed v m added used room 0 marks
 passed p q = record { is = λ t u. sym (p.passes q t u); same = refl }
+
+module _ {lane : ℕ} {ins outs : List ℕ} {closed : Bool} {v m added used room : ℕ} (may : MayPass v m used room) where
+  refused : (AddPasses closed v m lane ins outs added used room → ⊥) → Passes lane ins outs closed v m added used room false
+  refused h = record { passes = λ q. absurd (false≢true q); fails = λ q t z. h (passes_of closed v m lane ins outs added used room may.low t z) }
+
+  pub closed_fails : closed ≡ true → Passes lane ins outs closed v m added used room false
+  closed_fails e = refused (λ p. true≢false (sym e ∙ p.not_closed))
+
+  pub lane_fails : most_lane < lane → Passes lane ins outs closed v m added used room false
+  lane_fails h = refused (λ p. omega (arith, p.low))
+
+  pub many_fails : many ins outs ≡ true → Passes lane ins outs closed v m added used room false
+  many_fails e = refused (λ p. true≢false (sym e ∙ p.few))
+
+  pub count_fails : v ≤ added → Passes lane ins outs closed v m added used room false
+  count_fails h = refused (λ p. omega (arith, p.more))
+
+  pub room_fails : room - used < length ins + length outs → Passes lane ins outs closed v m added used room false
+  room_fails h = refused (λ p. omega (arith, p.room))
+
+  pub outside_fails : v < m + length outs → Passes lane ins outs closed v m added used room false
+  outside_fails h = refused (λ p. omega (arith, p.inside))
+
+  pub ins_fail : any (λ i. leb m i) ins ≡ true → Passes lane ins outs closed v m added used room false
+  ins_fail e = refused (λ p. true≢false (sym e ∙ p.ins_low))
+
+  -- all but the outputs themselves was looked at
+  pub outs_tell : closed ≡ false → lane ≤ most_lane → many ins outs ≡ false → added < v → length ins + length outs ≤ room - used
+      → m + length outs ≤ v → any (λ i. leb m i) ins ≡ false → {r : Bool} → r ≡ ascend m outs → Passes lane ins outs closed v m added used room r
+  outs_tell open' low few more fits inside ins_low {r} e =
+      record {
+        passes = λ q. of_passes closed v m lane ins outs added used room (omega (arith, may.small)) (all q);
+        fails = λ q t z. true≢false (sym (passes_of closed v m lane ins outs added used room may.low t z).outs_ascend ∙ sym e ∙ q);
+      }
+    where
+      all : r ≡ true → AddPasses closed v m lane ins outs added used room
+      all q =
+          record {
+            not_closed = open';
+            low = low;
+            few = few;
+            more = more;
+            room = omega (arith, may.fits);
+            inside = inside;
+            ins_low = ins_low;
+            outs_ascend = sym e ∙ q;
+          }

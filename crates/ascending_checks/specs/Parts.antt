@@ -1,12 +1,14 @@
 -- The lists of checks of rules/Ascending, over what the code holds: whether closed, the count of places, the lowest one that is neither set
 -- nor written, the arguments, a test for taken places, and counts; and what the functions ask and promise. That the lists are those of a
 -- model is said in Laws. Definitions only. Assumes nothing.
-use Rattle.std.specs.Prelude.{◌≡◌, List, [], ◌∷◌, ◌++◌, Bool, true, false, ℕ, ◌+◌, ◌%◌, ◌≤◌, ◌<◌, length, get_or, leb, ltb}
+use Rattle.std.specs.Prelude.{◌≡◌, List, [], ◌∷◌, ◌++◌, Bool, true, false, not, ◌&&◌, ◌==◌, ℕ, ◌+◌, ◌%◌, ◌≤◌, ◌<◌, length, get_or, leb, ltb}
+use Rattle.std.specs.List.{list_all, enumerate_from}
 use Rattle.rules.specs.Limits.{most_places}
 use Rattle.rules.specs.Refusals as refusal
 use Rattle.rules.specs.Checks.{Check, verdict, any, repeats, check_places}
 use Rattle.rules.specs.Ascending.{set_breach, add_breach}
 use Rattle.checking.specs.Parts.{list_checks}
+use Rattle.add_checks.specs.Promises.{fits}
 
 -- set: 7, 4, 5, 21, 8
 unfoldable pub set_checks : Bool → ℕ → ℕ → ℕ → (ℕ → Bool) → List Check
@@ -41,6 +43,14 @@ pub record MayPass (v m used room : ℕ) : Type 0 where
   pub low : m ≤ v
   pub small : v ≤ most_places
   pub fits : used ≤ room
+
+-- each place is m and its index more: that they ascend, by Ascend
+abbrev pub ascends : ℕ → List ℕ → Bool
+ascends m xs = list_all (λ (p : ℕ × ℕ). p.1 == (m + p.0)) (enumerate_from 0 xs)
+
+-- what is looked at: what fits, outputs that end inside, inputs below m, and outputs that ascend
+abbrev pub passes : Bool → ℕ → List ℕ → List ℕ → ℕ → ℕ → ℕ → ℕ → Bool
+passes closed lane ins outs v m added left = fits closed lane ins outs v added left && (leb (m + length outs) v && (not (any (λ i. leb m i) ins) && ascends m outs))
 
 -- true exactly where add passes its checks
 pub record Passes (lane : ℕ) (ins outs : List ℕ) (closed : Bool) (v m added used room : ℕ) (r : Bool) : Type 0 where

@@ -13,7 +13,8 @@ use Rattle.call_runs.specs.Made.{ends_run, Readable}
 use Rattle.call_runs.specs.Continuing.{call_there, rest_of}
 use Rattle.session.specs.Storage.{Storage, Frame, frame_trans}
 use Rattle.ascending_session.specs.declared.Ascending.{Ascending}
-use Rattle.ascending_session.specs.Slices.{lean}
+use Rattle.ascending_session.specs.declared.Storage.{Storage as Slices}
+use Rattle.ascending_session.specs.Slices.{SameSlices}
 use Rattle.ascending_session.specs.Rep.{Rep}
 use Rattle.ascending_session.specs.Promise.{Asks}
 use Rattle.ascending_list.specs.Made.{Made}
@@ -99,11 +100,15 @@ module _ {P N W : ℕ} {l : List ℕ} {all : List Call} {σ₀ : Storage} {out�
           beyond = drop-set-lt (length all) out n num few ∙ R.beyond;
         }
 
--- a call that is made leads further; session and slices then have other names
-pub leads_next : {l : List ℕ} {s₀ s s' z : Ascending} {σ₀ σ : Storage} {out₀ out : List ℕ} {at₀ n₀ at n num next : ℕ} {sp o t rs m lo sp' o' t' rs' m' lo' : List ℕ}
-    → Leads l s₀ σ₀ out₀ at₀ n₀ s σ out at n → Made l at num next s s' σ (lean sp' o' t' rs' m' lo') → z ≡ s' → sp ≡ sp' → o ≡ o' → t ≡ t' → rs ≡ rs' → m ≡ m' → lo ≡ lo'
-    → Leads l s₀ σ₀ out₀ at₀ n₀ z (lean sp o t rs m lo) (set out n num) next (n + 1)
-leads_next {out = out} {n = n} L M e₀ e₁ e₂ e₃ e₄ e₅ e₆ P N W all σ₁ out₁ R = rw (e₀, e₁, e₂, e₃, e₄, e₅, e₆) (running_turn (L P N W all σ₁ out₁ R) M)
+-- a call that is made leads further; session and storage then have other names
+pub leads_next : {l : List ℕ} {s₀ s s' z : Ascending} {σ₀ σ τ ω : Storage} {out₀ out : List ℕ} {at₀ n₀ at n num next : ℕ}
+    → Leads l s₀ σ₀ out₀ at₀ n₀ s σ out at n → Made l at num next s s' σ τ → z ≡ s' → ω ≡ τ → Leads l s₀ σ₀ out₀ at₀ n₀ z ω (set out n num) next (n + 1)
+leads_next {out = out} {n = n} L M e₀ e₁ P N W all σ₁ out₁ R = rw (e₀, e₁) (running_turn (L P N W all σ₁ out₁ R) M)
+
+-- the same slices twice
+pub same_trans : {a b c : Slices} → SameSlices a b → SameSlices b c → SameSlices a c
+same_trans x y =
+    record { spans = y.spans ∙ x.spans; order = y.order ∙ x.order; tally = y.tally ∙ x.tally; rows = y.rows ∙ x.rows; marks = y.marks ∙ x.marks; locations = y.locations ∙ x.locations }
 
 -- what a list that is being made gives to its next call, and that it goes on
 module _ {l : List ℕ} {s : Ascending} {σ : Storage} {out : List ℕ} {at n : ℕ} (G : Going l s σ out at n) where

@@ -1,9 +1,10 @@
 -- What replaying an encoded list of calls on a fresh session under the ascending profile promises: M-106's claims (`Ascends`, with demand 3
 -- among them) for running code, about every list. Definitions only. Assumes nothing.
-use Rattle.std.specs.Prelude.{◌≡◌, List, [], ◌∷◌, ◌++◌, ℕ, length, take, drop, ltb}
+use Rattle.std.specs.Prelude.{◌≡◌, List, [], ◌∷◌, ◌++◌, ℕ, length, take, drop, ltb, Result, Ok, Err}
 use Rattle.std.proofs.Math.Option.{Option, some, none}
 use Rattle.rules.specs.Model.{initial}
 use Rattle.rules.specs.Refusals as refusal
+use Rattle.rules.specs.declared.Refusal.{Refusal}
 use Rattle.rules.specs.Checks.{Sizes, verdict}
 use Rattle.rules.specs.Calls.{Call}
 use Rattle.rules.specs.Ascending.{check_open, run, answers}
@@ -32,6 +33,11 @@ pub record Ran (P N W : ℕ) (cs : List Call) (s : Ascending) (σ τ : Storage) 
   pub frame : Frame P N 0 s.guide.written σ τ
   pub long : length out' ≡ length out
   pub beyond : drop (length cs) out' ≡ drop (length cs) out
+
+-- the session that a replay gives: refused, the fresh one of P 0, V 0 and W 0, as opening has it
+abbrev pub opened : Result Ascending Refusal → Ascending
+opened (Ok s) = s
+opened (Err e) = first_session 0 0 0
 
 -- the promise: l are the encoded calls, n is the number. Refused, storage and answers are as they were, and the session is the fresh one
 -- of P 0, V 0 and W 0, as opening has it

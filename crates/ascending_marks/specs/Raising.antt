@@ -1,17 +1,20 @@
 -- Looking for a repeated place: marks are raised place by place, and lowered again, so that they are as they were; and the marks of a
 -- session are even. Assumes nothing.
-use Rattle.std.specs.Prelude.{◌≡◌, refl, ◌⊎◌, List, [], ◌∷◌, ◌++◌, Bool, true, false, cond, ◌||◌, ℕ, ◌+◌, ◌-◌, ◌%◌, ◌≤◌, ◌<◌, eqb, ltb, length, get_or, set, take}
-use Rattle.std.proofs.Common.{sym, ap, ◌∙◌, inl, inr, arith, length-set, take_all, get_or-set_same, get_or-set_other, set-set, eq-eqb, ne_eqb, ltb-true, ltb-false}
+use Rattle.std.specs.Prelude.{◌≡◌, refl, ◌⊎◌, List, [], ◌∷◌, ◌++◌, Bool, true, false, cond, ◌||◌, ℕ, ◌+◌, ◌-◌, ◌%◌, ◌≤◌, ◌<◌, eqb, length, get_or, set, take}
+use Rattle.std.proofs.Common.{ap, ◌∙◌, inl, inr, arith, length-set, get_or-set_same, get_or-set_other, set-set, eq-eqb, ne_eqb}
 use Rattle.std.proofs.lemmas.List.{set-get_or}
 use Rattle.rules.specs.Model.{Located, member, marked}
 use Rattle.rules.specs.Record.{mark_by}
 use Rattle.rules.specs.Checks.{repeats}
 use Rattle.laws.specs.ModelBase.{bool_cases}
 use Rattle.laws.specs.Accepted.{or_false as or_split}
+use Rattle.laws.specs.GuideInv.{eq_or_ne}
 use Rattle.lists.specs.Part.{Below, below_at}
 use Rattle.tracking.specs.Places.{Places}
-use Rattle.taken.specs.Repeats.{eq_or_ne, take_next, take_last, repeats_snoc, repeats_met, repeats_last, below_first}
+use Rattle.taken.specs.Repeats.{take_next, take_last, repeats_snoc, repeats_met, repeats_last, below_first}
 use Rattle.ascending_marks.specs.Raised.{Unraised, raised, Raises}
+use Rattle.std.specs.Prelude.{ltb}
+use Rattle.std.proofs.Common.{sym, take_all, ltb-true, ltb-false}
 
 -- a mark is 0, that of a written place or that of a set one
 pub even_marks : (N : ℕ) (sets : List ℕ) (ls : List Located) (marks locations : List ℕ) → Places N sets ls marks locations
@@ -98,9 +101,6 @@ module _ {marks outs : List ℕ} (f : Unraised marks outs) {i : ℕ} {marks' : L
       new (inr m) = m
       new (inl m) = absurd (omega (arith, rw m at (found (get_or outs i 0)), even_at h))
 
-  pub raise_end : length outs ≤ i → Raises marks outs i marks'
-  raise_end h = record { most = g.most; single = g.single; again = λ k. absurd (omega arith); is = g.is }
-
   -- the last of those raised
   module _ (some : 0 < i) where
     abbrev x : ℕ
@@ -132,12 +132,16 @@ module _ {marks outs : List ℕ} (f : Unraised marks outs) {i : ℕ} {marks' : L
             ap (set marks' x) down ∙ ap (λ (l : List ℕ). set l x (get_or before x 0)) up
             ∙ set-set before x (get_or before x 0 + 1) (get_or before x 0) ∙ set-get_or before x 0
 
-pub lower_start : {marks outs : List ℕ} {n : ℕ} {marks' : List ℕ} → Raises marks outs n marks' → Raising marks outs n marks'
-lower_start r = record { most = r.most; single = r.single; is = r.is }
-
 pub lower_end : {marks outs : List ℕ} {i : ℕ} {marks' : List ℕ} → Raising marks outs i marks' → i ≤ 0 → marks' ≡ marks
 unfolding raised
 lower_end {marks} {outs} {i} g z = let e : i ≡ 0 = omega arith in g.is ∙ ap (λ (n : ℕ). raised marks (take n outs)) e
+
+module _ {marks outs : List ℕ} (f : Unraised marks outs) {i : ℕ} {marks' : List ℕ} (g : Raising marks outs i marks') where
+  pub raise_end : length outs ≤ i → Raises marks outs i marks'
+  raise_end h = record { most = g.most; single = g.single; again = λ k. absurd (omega arith); is = g.is }
+
+pub lower_start : {marks outs : List ℕ} {n : ℕ} {marks' : List ℕ} → Raises marks outs n marks' → Raising marks outs n marks'
+lower_start r = record { most = r.most; single = r.single; is = r.is }
 
 -- the answer: more than n of them, exactly where they repeat
 pub repeats_is : {marks outs : List ℕ} {n : ℕ} {marks' : List ℕ} → Raises marks outs n marks' → ltb n (length outs) ≡ repeats outs

@@ -13,16 +13,11 @@ pub fn top_among(locations: &[u64], places: &[u64]) -> u64
     requires { Below (length locations.now) places.now }
     ensures { result ≡ peak locations.now places.now }
 {
-    let mut m: u64 = 0;
-    let mut j = 0;
-    while j < places.len() {
-        let l = locations[places[j] as usize];
-        if m < l {
-            m = l;
-        }
-        j += 1;
-    }
-    m
+    places
+        .iter()
+        .map(|x| locations[*x as usize])
+        .max()
+        .unwrap_or(0)
 }
 
 // Marks the n places from `from` on as written, each with the location; no other place is touched.
@@ -30,28 +25,24 @@ pub fn stamp_run(marks: &mut [u16], locations: &mut [u64], from: usize, n: usize
     requires { (from + n ≤ length marks.old) × (from + n ≤ length locations.old) }
     ensures { Stamped marks.old locations.old (places_from from n) loc marks.new locations.new }
 {
-    for j in 0..n {
-        marks[from + j] = rules::MARK_WRITTEN;
-        locations[from + j] = loc;
-    }
+    marks[from..from + n].fill(rules::MARK_WRITTEN);
+    locations[from..from + n].fill(loc);
 }
 
-// Raises the mark of each place by 1, up to the first place that is raised already: the index of that one, or the count of them all.
+// Raises the mark of each place by 1, up to the first place that is raised already: the index of that one, or the count of them all. Why it
+// is no walk of taken's: taken::raise_flags.
 fn raise_marks(marks: &mut [u16], outs: &[u64]) -> usize
     requires { Unraised marks.old outs.now }
     ensures { Raises marks.old outs.now result marks.new }
 {
-    let mut i = 0;
-    while i < outs.len() {
-        let x = outs[i] as usize;
-        let mark = marks[x];
-        if mark % 2 != 0 {
+    for (i, x) in outs.iter().enumerate() {
+        let x = *x as usize;
+        if marks[x] % 2 != 0 {
             return i;
         }
-        marks[x] = mark + 1;
-        i += 1;
+        marks[x] += 1;
     }
-    i
+    outs.len()
 }
 
 // Lowers the marks of the first n places again.
@@ -59,12 +50,9 @@ fn lower_marks(marks: &mut [u16], outs: &[u64], n: usize)
     requires { Lowering marks.old outs.now n }
     ensures { Lowers marks.old outs.now n marks.new }
 {
-    let mut i = n;
-    while i > 0 {
-        i -= 1;
-        let x = outs[i] as usize;
-        let mark = marks[x];
-        marks[x] = mark - 1;
+    for x in outs[..n].iter().rev() {
+        let x = *x as usize;
+        marks[x] -= 1;
     }
 }
 

@@ -12,12 +12,10 @@ use Rattle.guide.specs.Fresh.{first_guide}
 use Rattle.entries.specs.Entries.{fits}
 use Rattle.records.specs.Filling.{row_extent, rows_fit}
 use Rattle.zeros.specs.Zeros.{Cleared}
-use Rattle.placing.specs.Slices.{Borrowed}
 use Rattle.session.specs.Storage.{Storage, with_waiting, Frame, beyond_refl}
 use Rattle.opening.specs.Parts.{fresh_guided, fresh_rowed, fresh_tracked, cleared_beyond}
-use Rattle.opening.specs.Opened.{sizes, enough_of as every_enough}
+use Rattle.opening.specs.Opened.{sizes, PlaceLengths, enough_of as every_enough}
 use Rattle.ascending_session.specs.declared.Ascending.{Ascending}
-use Rattle.ascending_session.specs.Slices.{lean}
 use Rattle.ascending_session.specs.Rep.{Rep}
 use Rattle.ascending_opening.specs.Refusal.{open_as_ever}
 
@@ -80,7 +78,7 @@ enough_of P N σ e =
     }
 
 module _ (P N W : ℕ) (σ τ : Storage) (E : Enough P N σ) (F : Fresh P N σ τ) where
-  fresh_rep : Rep P N W initial (first_session P N W) τ
+  pub fresh_rep : Rep P N W initial (first_session P N W) τ
   unfolding initial pooled
   fresh_rep =
       record {
@@ -93,7 +91,7 @@ module _ (P N W : ℕ) (σ τ : Storage) (E : Enough P N σ) (F : Fresh P N σ �
         counted = record { added_is = refl; used_is = refl; room_is = refl; flushes_is = refl; closed_is = refl; registrations_is = refl; places_is = refl };
       }
 
-  fresh_frame : Frame P N 0 0 σ τ
+  pub fresh_frame : Frame P N 0 0 σ τ
   fresh_frame =
       record {
         grows = omega arith;
@@ -109,83 +107,34 @@ module _ (P N W : ℕ) (σ τ : Storage) (E : Enough P N σ) (F : Fresh P N σ �
       }
 
 -- the lengths suffice for clearing
-pub record Lengths (p v tally rows marks locations : ℕ) : Type 0 where
-  pub low_p : p ≤ most_parallelism
-  pub low_v : v ≤ most_places
-  pub tally_long : p + 1 ≤ tally
-  pub rows_long : row_extent v ≤ rows
-  pub marks_long : v ≤ marks
-  pub locations_long : v ≤ locations
+abbrev pub Lengths : ℕ → ℕ → Storage → Type 0
+Lengths p v σ = PlaceLengths p v (length σ.tally) (length σ.rows) (length σ.marks) (length σ.locations)
 
-pub lengths_of : (P N : ℕ) (sp o t rs m l : List ℕ) → 0 ≡ verdict (check_open P N (sizes (lean sp o t rs m l))) → Lengths P N (length t) (length rs) (length m) (length l)
-lengths_of P N sp o t rs m l e =
-    let E = enough_of P N (lean sp o t rs m l) e in
+pub lengths_of : (P N : ℕ) (σ : Storage) → 0 ≡ verdict (check_open P N (sizes σ)) → Lengths P N σ
+lengths_of P N σ e =
+    let E = enough_of P N σ e in
     record { low_p = E.few; low_v = E.small; tally_long = omega (arith, E.tally); rows_long = E.rows; marks_long = E.marks; locations_long = E.locations }
 
--- what clearing promises
-pub record Clears (p v : ℕ) (t rs m l t' rs' m' l' : List ℕ) : Type 0 where
-  pub tally : Cleared 0 (p + 1) t t'
-  pub rows : Cleared 0 (row_extent v) rs rs'
-  pub marks : Cleared 0 v m m'
-  pub locations : Cleared 0 v l l'
+-- refused
+pub opens_refused : (P N W n : ℕ) (σ : Storage) → n ≡ verdict (check_open P N (sizes σ)) → (n ≡ 0 → ⊥) → Opens P N W n (first_session 0 0 0) σ σ
+opens_refused P N W n σ e z =
+    record { number = e; refused = λ x. refl; unopened = λ x. refl; session = λ x. absurd (z x); cleared = λ x. absurd (z x); rep = λ x. absurd (z x); frame = λ x. absurd (z x) }
 
--- the same of a function's slices
-abbrev pub ClearsOver : ℕ → ℕ → Borrowed → Borrowed → Borrowed → Borrowed → Type 0
-ClearsOver p v tally rows marks locations =
-    Clears p v tally.entry.now rows.entry.now marks.entry.now locations.entry.now
-    tally.exit.now rows.exit.now marks.exit.now locations.exit.now
+-- what the work of an accepted opening promises: of storage that passes the checks, what opening promises
+pub record Begins (P N W : ℕ) (s : Ascending) (σ τ : Storage) : Type 0 where
+  pub opens : 0 ≡ verdict (check_open P N (sizes σ)) → Opens P N W 0 s σ τ
 
--- refused, and accepted
-module _ (P N W : ℕ) (sp o t rs m l : List ℕ) where
-  pub opens_refused : (n : ℕ) (s : Ascending) → n ≡ verdict (check_open P N (sizes (lean sp o t rs m l))) → (n ≡ 0 → ⊥) → s ≡ first_session 0 0 0
-      → Opens P N W n s (lean sp o t rs m l) (lean sp o t rs m l)
-  opens_refused n s e z es =
-      record { number = e; refused = λ x. refl; unopened = λ x. es; session = λ x. absurd (z x); cleared = λ x. absurd (z x); rep = λ x. absurd (z x); frame = λ x. absurd (z x) }
-
-  opens_done : (s : Ascending) (t' rs' m' l' : List ℕ) → 0 ≡ verdict (check_open P N (sizes (lean sp o t rs m l))) → s ≡ first_session P N W → Clears P N t rs m l t' rs' m' l'
-      → Opens P N W 0 s (lean sp o t rs m l) (lean sp o t' rs' m' l')
-  opens_done s t' rs' m' l' e es c =
-      record {
-        number = e;
-        refused = λ x. absurd (x refl);
-        unopened = λ x. absurd (x refl);
-        session = λ x. es;
-        cleared = λ x. F;
-        rep = λ x. subst (λ (z : Ascending). Rep P N W initial z (lean sp o t' rs' m' l')) (sym es) (fresh_rep P N W (lean sp o t rs m l) (lean sp o t' rs' m' l') E F);
-        frame = λ x. fresh_frame P N W (lean sp o t rs m l) (lean sp o t' rs' m' l') E F;
-      }
-    where
-      E : Enough P N (lean sp o t rs m l)
-      E = enough_of P N (lean sp o t rs m l) e
-
-      F : Fresh P N (lean sp o t rs m l) (lean sp o t' rs' m' l')
-      F =
+pub begins : (P N W : ℕ) (s : Ascending) (σ τ : Storage) → s ≡ first_session P N W → Fresh P N σ τ → Begins P N W s σ τ
+begins P N W s σ τ es F =
+    record {
+      opens = λ e.
           record {
-            spans = refl;
-            order = refl;
-            tally = c.tally;
-            rows = c.rows;
-            marks = c.marks;
-            locations = c.locations;
-            waiting = refl;
-            pool = refl;
-          }
-
--- what the work of an accepted opening promises: of every storage that passes the checks and has these slices, what opening promises
-pub record Begins (P N W : ℕ) (s : Ascending) (t rs m l t' rs' m' l' : List ℕ) : Type 0 where
-  pub opens : (sp o : List ℕ) → 0 ≡ verdict (check_open P N (sizes (lean sp o t rs m l))) → Opens P N W 0 s (lean sp o t rs m l) (lean sp o t' rs' m' l')
-
--- the same of a function's slices
-abbrev pub BeginsOver : ℕ → ℕ → ℕ → Ascending → Borrowed → Borrowed → Borrowed → Borrowed → Type 0
-BeginsOver P N W s tally rows marks locations =
-    Begins P N W s tally.entry.now rows.entry.now marks.entry.now locations.entry.now
-    tally.exit.now rows.exit.now marks.exit.now locations.exit.now
-
-pub begins : {P N W : ℕ} {s : Ascending} {t rs m l t' rs' m' l' : List ℕ} → s ≡ first_session P N W → Clears P N t rs m l t' rs' m' l' → Begins P N W s t rs m l t' rs' m' l'
-begins {P} {N} {W} {s} {t} {rs} {m} {l} {t'} {rs'} {m'} {l'} es c = record { opens = λ sp o e. opens_done P N W sp o t rs m l s t' rs' m' l' e es c }
-
--- what opening promises, of a function's slices
-abbrev pub OpensOver : ℕ → ℕ → ℕ → ℕ → Ascending → List ℕ → List ℕ → Borrowed → Borrowed → Borrowed → Borrowed → Type 0
-OpensOver P N W n s spans order tally rows marks locations =
-    Opens P N W n s (lean spans order tally.entry.now rows.entry.now marks.entry.now locations.entry.now)
-    (lean spans order tally.exit.now rows.exit.now marks.exit.now locations.exit.now)
+            number = e;
+            refused = λ x. absurd (x refl);
+            unopened = λ x. absurd (x refl);
+            session = λ x. es;
+            cleared = λ x. F;
+            rep = λ x. subst (λ (z : Ascending). Rep P N W initial z τ) (sym es) (fresh_rep P N W σ τ (enough_of P N σ e) F);
+            frame = λ x. fresh_frame P N W σ τ (enough_of P N σ e) F;
+          };
+    }

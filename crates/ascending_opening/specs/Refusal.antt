@@ -1,11 +1,12 @@
--- The checks of opening under the ascending profile are those of every opening whose waiting storage suffices, so that the laws of
--- opening/Refusal do for this crate's code. Assumes nothing.
+-- The checks of opening under the ascending profile are those of every opening whose waiting storage suffices, so that what
+-- those say of the lengths does here. Assumes nothing.
 use Rattle.std.specs.Prelude.{◌≡◌, [], ◌∷◌, ◌++◌, Bool, ℕ}
-use Rattle.std.proofs.Common.{sym, ◌∙◌, arith, le-ltb}
+use Rattle.std.proofs.Common.{arith, le-ltb}
 use Rattle.std.proofs.Math.Path.{ap}
 use Rattle.rules.specs.Refusals as refusal
 use Rattle.rules.specs.Checks.{verdict, any, short, Sizes, waiting_needed, check_range, too_short as every_short, check_open as every_open}
 use Rattle.rules.specs.Ascending.{lengths, check_open}
+use Rattle.std.proofs.Common.{sym, ◌∙◌}
 
 -- 2: a lent length too short
 unfoldable pub too_short : ℕ → ℕ → Sizes → Bool

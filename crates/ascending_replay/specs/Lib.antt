@@ -1,2 +1,3 @@
--- An exported call that runs a list of calls under the ascending profile: what it promises.
+-- An exported call that runs a list of calls under the ascending profile: what it promises, and that what it tells meets that.
 pub mod Exported
+pub mod Telling

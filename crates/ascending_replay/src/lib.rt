@@ -4,6 +4,8 @@
 ghost use Rattle.ascending_session.specs.Slices.{across};
 ghost use Rattle.ascending_replay.specs.Exported.{Exported};
 
+use ascending_session::Storage;
+
 // Opens a session of parallelism p, v places and room for w list numbers on the storage and makes the encoded calls, storing each one's
 // number in `answers`. Returns 64 times the order's length; or the number of a refusal, and then nothing was written: 15 for numbers that
 // are no list of calls; 1, 2 of opening; 2 for too little room for the answers.
@@ -23,8 +25,14 @@ pub extern "C" fn replay_ascending(
 ) -> u64
     ensures { across spans order tally rows marks locations (λ σ τ. Exported p v w calls.now result σ τ answers.old answers.new) }
 {
-    let a = ascending_list::replay(
-        spans, order, tally, rows, marks, locations, answers, calls, p, v, w,
-    );
-    replay::by_number(a.number, a.session.guide.written)
+    let mut storage = Storage {
+        spans,
+        order,
+        tally,
+        rows,
+        marks,
+        locations,
+    };
+    let a = ascending_list::replay(&mut storage, answers, calls, p, v, w);
+    replay::by_number(a.map(|s| s.guide.written))
 }

@@ -21,9 +21,13 @@ pub struct Ascending {
     pub places: u32,
 }
 
-// A call's number, 0 if it was accepted, and the session after it.
-#[derive(Clone, Copy)]
-pub struct Answer {
-    pub number: u64,
-    pub session: Ascending,
+// Its storage: that of every session, without waiting storage and pool.
+#[derive(Drop)]
+pub struct Storage<'a> {
+    pub spans: &'a mut [u32],
+    pub order: &'a mut [u32],
+    pub tally: &'a mut [u32],
+    pub rows: &'a mut [u32],
+    pub marks: &'a mut [u16],
+    pub locations: &'a mut [u64],
 }

@@ -1,5 +1,5 @@
 // The guide over its storage: spans as rows of one slice, the order as another. `release` appends span 0's entries to the order and
-// rotates the window.
+// rotates the window. Rows of one slice that the host lends, with their lengths in the window: there is no heap.
 #![tactic(auto)]
 
 ghost use Rattle.std.specs.Prelude.{◌≡◌};
@@ -36,16 +36,12 @@ pub fn release(g: Guide, spans: &[u32], order: &mut [u32]) -> Guide
     let start = row_start(w.rows[0], g.p);
     let a = w.lens[0] as u32;
     let b = w.lens[1] as u32;
-    let n = g.written as usize;
-    entries::append_row(spans, order, start, n, g.p, a, b);
-    let next = window::rotate(w);
-    let written = g.written + a;
-    let held = g.held - a;
+    let n = g.written;
+    entries::append_row(spans, order, start, n as usize, g.p, a, b);
     Guide {
-        held: held,
-        window: next,
-        p: g.p,
-        v: g.v,
-        written: written,
+        held: g.held - a,
+        window: window::rotate(w),
+        written: n + a,
+        ..g
     }
 }

@@ -1,9 +1,10 @@
 -- What replaying an encoded list of calls on a fresh session promises: demand 3 of document 01 for running code, about every list.
 -- Definitions only. Assumes nothing.
-use Rattle.std.specs.Prelude.{◌≡◌, List, [], ◌∷◌, ◌++◌, ℕ, length, take, drop, ltb}
+use Rattle.std.specs.Prelude.{◌≡◌, List, [], ◌∷◌, ◌++◌, ℕ, length, take, drop, ltb, Result, Ok, Err}
 use Rattle.std.proofs.Math.Option.{Option, some, none}
 use Rattle.rules.specs.Model.{initial}
 use Rattle.rules.specs.Refusals as refusal
+use Rattle.rules.specs.declared.Refusal.{Refusal}
 use Rattle.rules.specs.Checks.{Sizes, verdict, check_open}
 use Rattle.rules.specs.Calls.{Call, run, answers}
 use Rattle.rules.specs.Encoding.{decode}
@@ -30,6 +31,11 @@ pub record Ran (P N : ℕ) (cs : List Call) (s : Session) (σ τ : Storage) (out
   pub frame : Frame P N 0 s.guide.written σ τ
   pub long : length out' ≡ length out
   pub beyond : drop (length cs) out' ≡ drop (length cs) out
+
+-- the session that a replay gives: refused, the fresh one of P 0 and V 0, as opening has it
+abbrev pub opened : Result Session Refusal → Session
+opened (Ok s) = s
+opened (Err e) = first_session 0 0
 
 -- the promise: l are the encoded calls, n is the number. Refused, storage and answers are as they were, and the session is the fresh one
 -- of P 0 and V 0, as opening has it

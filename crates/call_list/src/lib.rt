@@ -2,173 +2,81 @@
 #![tactic(auto)]
 
 ghost use Rattle.std.specs.Prelude.{◌≡◌, true, ◌+◌, ◌<◌, get_or};
-ghost use Rattle.session.specs.Storage.{given, across};
+ghost use Rattle.rules.specs.Answer.{number};
+ghost use Rattle.session.specs.Slices.{contents, SameSlices};
+ghost use Rattle.session.specs.After.{session_after};
 ghost use Rattle.admitting.specs.Promise.{Asks};
-ghost use Rattle.opening.specs.Opened.{first_session};
 ghost use Rattle.call_runs.specs.Made.{ends_run, Made, Readable};
-ghost use Rattle.call_list.specs.Replay.{Replays};
+ghost use Rattle.call_list.specs.Replay.{opened, Replays};
 ghost use Rattle.call_list.specs.Running.{MayPass, Passes, MayRun, Runs};
 
 use call_runs::Run;
-use session::Session;
-use sorter::Answer;
+use rules::Refusal;
+use session::{Session, Storage};
 
 // Makes the flush or final that starts at `at`.
-fn make_end(
-    s: Session,
-    spans: &mut [u32],
-    order: &mut [u32],
-    tally: &mut [u32],
-    rows: &mut [u32],
-    marks: &mut [u16],
-    locations: &mut [u64],
-    waiting: &mut [u64],
-    pool: &mut [u32],
-    calls: &[u64],
-    at: usize,
-) -> Answer
-    requires asks { Asks s (given spans order tally rows marks locations waiting pool) }
+fn make_end(s: Session, storage: &mut Storage, calls: &[u64], at: usize) -> Result<Session, Refusal>
+    requires asks { Asks s (contents storage.old) }
     requires readable { (Readable calls.now at) × (ends_run (get_or calls.now at 0) ≡ true) }
-    ensures { across spans order tally rows marks locations waiting pool (λ σ τ. Made calls.now at result.number (at + 1) s result.session σ τ) }
+    ensures made { Made calls.now at (number result) (at + 1) s (session_after s result) (contents storage.old) (contents storage.new) }
+    ensures same { SameSlices storage.old storage.new }
 {
     if calls[at] == encoding::FLUSH {
-        return sorter::flush(
-            s, spans, order, tally, rows, marks, locations, waiting, pool,
-        );
+        return sorter::flush(s, storage);
     }
-    sorter::close(
-        s, spans, order, tally, rows, marks, locations, waiting, pool,
-    )
+    sorter::close(s, storage)
 }
 
 // Makes the flush or final at `at` and the sets and adds after it, up to the next, and stores each one's number; `done` calls were made
 // before.
 fn run_past(
     s: Session,
-    spans: &mut [u32],
-    order: &mut [u32],
-    tally: &mut [u32],
-    rows: &mut [u32],
-    marks: &mut [u16],
-    locations: &mut [u64],
-    waiting: &mut [u64],
-    pool: &mut [u32],
+    storage: &mut Storage,
     answers: &mut [u64],
     calls: &[u64],
     at: usize,
     done: usize,
 ) -> Run
-    requires { MayPass calls.now s (given spans order tally rows marks locations waiting pool) answers.old at done }
-    ensures { across spans order tally rows marks locations waiting pool
-        (λ σ τ. Passes calls.now s σ answers.old at done result.session τ answers.new result.at result.made) }
+    requires { MayPass calls.now s (contents storage.old) answers.old at done }
+    ensures passes { Passes calls.now s (contents storage.old) answers.old at done
+        result.session (contents storage.new) answers.new result.at result.made }
+    ensures same { SameSlices storage.old storage.new }
 {
-    let d = make_end(
-        s, spans, order, tally, rows, marks, locations, waiting, pool, calls, at,
-    );
-    answers[done] = d.number;
-    call_runs::run_open(
-        d.session,
-        spans,
-        order,
-        tally,
-        rows,
-        marks,
-        locations,
-        waiting,
-        pool,
-        answers,
-        calls,
-        at + 1,
-        done + 1,
-    )
+    let d = make_end(s, storage, calls, at);
+    answers[done] = rules::number(&d);
+    call_runs::run_open(d.unwrap_or(s), storage, answers, calls, at + 1, done + 1)
 }
 
 // Makes all calls, and stores each one's number.
-fn run_calls(
-    s: Session,
-    spans: &mut [u32],
-    order: &mut [u32],
-    tally: &mut [u32],
-    rows: &mut [u32],
-    marks: &mut [u16],
-    locations: &mut [u64],
-    waiting: &mut [u64],
-    pool: &mut [u32],
-    answers: &mut [u64],
-    calls: &[u64],
-) -> Session
-    requires { MayRun calls.now s (given spans order tally rows marks locations waiting pool) answers.old }
-    ensures { across spans order tally rows marks locations waiting pool (λ σ τ. Runs calls.now s σ answers.old result τ answers.new) }
+fn run_calls(s: Session, storage: &mut Storage, answers: &mut [u64], calls: &[u64]) -> Session
+    requires { MayRun calls.now s (contents storage.old) answers.old }
+    ensures runs { Runs calls.now s (contents storage.old) answers.old result (contents storage.new) answers.new }
+    ensures same { SameSlices storage.old storage.new }
 {
-    let mut r = call_runs::run_open(
-        s, spans, order, tally, rows, marks, locations, waiting, pool, answers, calls, 0, 0,
-    );
+    let mut r = call_runs::run_open(s, storage, answers, calls, 0, 0);
     while r.at < calls.len() {
-        r = run_past(
-            r.session, spans, order, tally, rows, marks, locations, waiting, pool, answers, calls,
-            r.at, r.made,
-        );
+        r = run_past(r.session, storage, answers, calls, r.at, r.made);
     }
     r.session
-}
-
-// A refusal's answer: its number, and the fresh session of parallelism 0 and 0 places.
-fn refused(n: u64) -> Answer
-    ensures number { result.number ≡ n }
-    ensures session { result.session ≡ first_session 0 0 }
-{
-    let s = opening::fresh(0, 0);
-    Answer {
-        number: n,
-        session: s,
-    }
 }
 
 // Opens a session of parallelism p and v places on the storage and makes the encoded calls, storing each one's number in `answers`.
 // Refused, nothing is written.
 pub fn replay(
-    spans: &mut [u32],
-    order: &mut [u32],
-    tally: &mut [u32],
-    rows: &mut [u32],
-    marks: &mut [u16],
-    locations: &mut [u64],
-    waiting: &mut [u64],
-    pool: &mut [u32],
+    storage: &mut Storage,
     answers: &mut [u64],
     calls: &[u64],
     p: u64,
     v: u64,
-) -> Answer
-    ensures { across spans order tally rows marks locations waiting pool (λ σ τ. Replays p v calls.now result.number result.session σ τ answers.old answers.new) }
+) -> Result<Session, Refusal>
+    ensures replays { Replays p v calls.now (number result) (opened result) (contents storage.old) (contents storage.new) answers.old answers.new }
+    ensures same { SameSlices storage.old storage.new }
 {
-    let c = encoding::count_calls(calls);
-    if !c.well {
-        return refused(rules::MALFORMED);
+    let count = encoding::count_calls(calls).ok_or(Refusal::Malformed)?;
+    opening::check_open(storage, p, v)?;
+    if answers.len() < count {
+        return Err(Refusal::TooShort);
     }
-    let n = opening::check_open(
-        spans.len(),
-        order.len(),
-        tally.len(),
-        rows.len(),
-        marks.len(),
-        locations.len(),
-        waiting.len(),
-        p,
-        v,
-    );
-    if n != 0 {
-        return refused(n);
-    }
-    if answers.len() < c.calls {
-        return refused(rules::TOO_SHORT);
-    }
-    let s = opening::begin(tally, rows, marks, locations, waiting, p, v);
-    let z = run_calls(
-        s, spans, order, tally, rows, marks, locations, waiting, pool, answers, calls,
-    );
-    Answer {
-        number: 0,
-        session: z,
-    }
+    let s = opening::begin(storage, p, v);
+    Ok(run_calls(s, storage, answers, calls))
 }

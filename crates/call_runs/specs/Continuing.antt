@@ -1,21 +1,24 @@
 -- The loop of the sets and adds, from wherever the calls before it have led: what it asks and promises, its invariant, that a call keeps
 -- this, and what follows from it. Assumes nothing.
 use Rattle.std.specs.Prelude.{◌≡◌, refl, true, false, ℕ, ◌+◌, ◌≤◌, ◌<◌, length, get_or, drop, set}
-use Rattle.std.proofs.Common.{sym, ap, ◌∙◌, arith, length-set, length-drop, get_or-set_same}
+use Rattle.std.proofs.Common.{sym, ap, ◌∙◌, arith, length-set, length-drop}
 use mathlib.Core.List.{List, [], ◌∷◌}
-use Rattle.std.proofs.lemmas.Bool.{false≢true}
 use Rattle.std.proofs.Math.Option.{Option, some, none}
 use Rattle.rules.specs.Calls.{Call, step}
-use Rattle.rules.specs.Encoding.{front, Front, before_all, decode, decode_from, unless_empty}
+use Rattle.rules.specs.Encoding.{front, Front, before_all, decode}
 use Rattle.encoding.specs.Decode.{decode_none, decode_some}
 use Rattle.session.specs.declared.Session.{Session}
-use Rattle.session.specs.Storage.{Storage, storage}
-use Rattle.admitting.specs.declared.Admitted.{Admitted}
+use Rattle.session.specs.declared.Storage.{Storage as Slices}
+use Rattle.session.specs.Storage.{Storage}
+use Rattle.session.specs.Slices.{SameSlices}
+use Rattle.admitting.specs.Told.{Told}
 use Rattle.admitting.specs.Promise.{Asks, Called, positive}
 use Rattle.admitting.specs.Admitted.{Places}
 use Rattle.sorter.specs.Chain.{follows_step}
 use Rattle.call_runs.specs.Made.{ends_run, Made, AdmitsAt, Readable}
 use Rattle.call_runs.specs.Making.{made_refused, made_placed}
+use Rattle.session.specs.Storage.{storage}
+use Rattle.rules.specs.Encoding.{decode_from, unless_empty}
 
 -- calls may be made: session and storage are as those before left them, the numbers from `at` on are calls, and from n on there is room for
 -- their answers
@@ -35,6 +38,20 @@ pub data Onward : List ℕ → Session → Storage → List ℕ → ℕ → ℕ 
 pub record Continues (l : List ℕ) (s : Session) (σ : Storage) (out : List ℕ) (at n : ℕ) (s' : Session) (σ' : Storage) (out' : List ℕ) (at' n' : ℕ) : Type 0 where
   pub onward : Onward l s σ out at n s' σ' out' at' n'
   pub stops : at' < length l → ends_run (get_or l at' 0) ≡ true
+
+-- the same slices twice
+pub same_trans : {a b c : Slices} → SameSlices a b → SameSlices b c → SameSlices a c
+same_trans x y =
+    record {
+      spans = y.spans ∙ x.spans;
+      order = y.order ∙ x.order;
+      tally = y.tally ∙ x.tally;
+      rows = y.rows ∙ x.rows;
+      marks = y.marks ∙ x.marks;
+      locations = y.locations ∙ x.locations;
+      waiting = y.waiting ∙ x.waiting;
+      pool = y.pool ∙ x.pool;
+    }
 
 -- storage and answers have kept their lengths
 pub record Kept (σ : Storage) (out : List ℕ) (σ' : Storage) (out' : List ℕ) : Type 0 where
@@ -174,21 +191,14 @@ module _ {l : List ℕ} {s₁ : Session} {σ₁ : Storage} {out₁ : List ℕ} {
     pub going_room : n < length out
     going_room = may_room G.may h
 
-    -- a set or an add is refused, or admitted and placed; then session and slices have other names
-    module _ {a : Admitted} {next : ℕ} {τ : Storage} (E : AdmitsAt l at a next s σ τ) {z : Session} {sp o t rs m lo w : List ℕ} where
-      made_as : {s' : Session} {υ : Storage} → Made l at a.number next s s' σ υ → z ≡ s' → sp ≡ υ.spans → o ≡ υ.order → t ≡ υ.tally →
-          rs ≡ υ.rows → m ≡ υ.marks → lo ≡ υ.locations → w ≡ υ.waiting
-          → Going l s₁ σ₁ out₁ at₁ n₁ z (storage sp o t rs m lo w υ.pool) (set out n a.number) next (n + 1)
-      made_as M e₀ e₁ e₂ e₃ e₄ e₅ e₆ e₇ = rw (e₀, e₁, e₂, e₃, e₄, e₅, e₆, e₇) (going_next G h M)
+    -- a set or an add is refused, or admitted and placed; then session and storage have other names
+    module _ {a : Told} {next : ℕ} {τ : Storage} (E : AdmitsAt l at a next s σ τ) {z : Session} {ω : Storage} where
+      pub going_refused : (a.number ≡ 0 → ⊥) → z ≡ s → ω ≡ τ → Going l s₁ σ₁ out₁ at₁ n₁ z ω (set out n a.number) next (n + 1)
+      going_refused x e₀ e₁ = rw (e₀, e₁) (going_next G h (made_refused E x))
 
-      pub going_refused : (a.number ≡ 0 → ⊥) → z ≡ s → sp ≡ τ.spans → o ≡ τ.order → t ≡ τ.tally → rs ≡ τ.rows → m ≡ τ.marks → lo ≡ τ.locations → w ≡ τ.waiting
-          → Going l s₁ σ₁ out₁ at₁ n₁ z (storage sp o t rs m lo w τ.pool) (set out n a.number) next (n + 1)
-      going_refused x = made_as (made_refused E x)
-
-      pub going_placed : {s' : Session} {υ : Storage} → a.number ≡ 0 → Places s a s' τ υ → z ≡ s' → sp ≡ υ.spans → o ≡ υ.order →
-          t ≡ υ.tally → rs ≡ υ.rows → m ≡ υ.marks → lo ≡ υ.locations → w ≡ υ.waiting
-          → Going l s₁ σ₁ out₁ at₁ n₁ z (storage sp o t rs m lo w υ.pool) (set out n a.number) next (n + 1)
-      going_placed x Q = made_as (made_placed E x Q)
+      pub going_placed : {s' : Session} {υ : Storage} → a.number ≡ 0 → Places s a s' τ υ → z ≡ s' → ω ≡ υ
+          → Going l s₁ σ₁ out₁ at₁ n₁ z ω (set out n a.number) next (n + 1)
+      going_placed x Q e₀ e₁ = rw (e₀, e₁) (going_next G h (made_placed E x Q))
 
 -- numbers that are one call, a set or an add; and that it was made
 pub record OneCall (l : List ℕ) : Type 0 where
@@ -208,22 +218,22 @@ same_front : {f g : Front} {o : Option Front} → o ≡ some f → o ≡ some g 
 same_front d e = cc
 
 module _ {l : List ℕ} (one : OneCall l) where
+  pub one_readable : Readable l 0
+  one_readable = record { inside = one_there l _ one.is; read = record { call = one.call; rest = [] }; is = one.is }
+
+-- the call that was read is the one that the numbers are
+pub one_made : {l : List ℕ} {num next : ℕ} {s s' : Session} {σ σ' : Storage} → Made l 0 num next s s' σ σ' → MadeOne l num s s' σ σ'
+one_made M c e = let f : M.call ≡ c = ap (λ (x : Front). x.call) (same_front M.is e) in rw (sym f) M.called
+
+module _ {l : List ℕ} {s₁ : Session} {σ₁ : Storage} {out₁ : List ℕ} {at₁ n₁ : ℕ} {s : Session} {σ : Storage} {out : List ℕ} {at n : ℕ} (G : Going l s₁ σ₁ out₁ at₁ n₁ s σ out at n) where
+  module _ (h : at < length l) where
+    module _ {a : Told} {next : ℕ} {τ : Storage} (E : AdmitsAt l at a next s σ τ) {z : Session} {sp o t rs m lo w : List ℕ} where
+      made_as : {s' : Session} {υ : Storage} → Made l at a.number next s s' σ υ → z ≡ s' → sp ≡ υ.spans → o ≡ υ.order → t ≡ υ.tally →
+          rs ≡ υ.rows → m ≡ υ.marks → lo ≡ υ.locations → w ≡ υ.waiting
+          → Going l s₁ σ₁ out₁ at₁ n₁ z (storage sp o t rs m lo w υ.pool) (set out n a.number) next (n + 1)
+      made_as M e₀ e₁ e₂ e₃ e₄ e₅ e₆ e₇ = rw (e₀, e₁, e₂, e₃, e₄, e₅, e₆, e₇) (going_next G h M)
+
+module _ {l : List ℕ} (one : OneCall l) where
   pub one_may : {s : Session} {σ : Storage} (out : List ℕ) → Asks s σ → 1 ≤ length out → MayContinue l s σ out 0 0
   unfolding decode decode_from unless_empty before_all
   one_may out q h = record { asks = q; left = one.call ∷ []; is = decode_some l (record { call = one.call; rest = [] }) one.is; room = omega (arith, h) }
-
-  pub one_made : {s s' : Session} {σ σ' : Storage} {out out' : List ℕ} {at n : ℕ} → 1 ≤ length out → Continues l s σ out 0 0 s' σ' out' at n → MadeOne l (get_or out' 0 0) s s' σ σ'
-  one_made {s} {s'} {σ} {σ'} {out} {out'} h C c e = go C.onward C.stops
-    where
-      after : {num next at n : ℕ} {w out' : List ℕ} {t s' : Session} {τ σ' : Storage} → Made l 0 num next s t σ τ → get_or w 0 0 ≡ num →
-          Onward l t τ w next 1 s' σ' out' at n → Called c (get_or out' 0 0) s s' σ σ'
-      after {num = num} M g here =
-          let f : M.call ≡ c = ap (λ (x : Front). x.call) (same_front M.is e) in
-          rw (g, sym f) M.called
-      after {next = next} M g (then j N X) =
-          let f : drop next l ≡ [] = ap (λ (x : Front). x.rest) (same_front M.is e) in
-          absurd (omega (arith, j, ap length f, length-drop next l))
-
-      go : {at n : ℕ} {out' : List ℕ} {s' : Session} {σ' : Storage} → Onward l s σ out 0 0 s' σ' out' at n → (at < length l → ends_run (get_or l at 0) ≡ true) → Called c (get_or out' 0 0) s s' σ σ'
-      go here stops = absurd (false≢true (sym one.goes_on ∙ stops (one_there l _ e)))
-      go (then {num = num} i M more) stops = after M (get_or-set_same out 0 num 0 h) more

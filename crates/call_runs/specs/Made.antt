@@ -6,7 +6,7 @@ use Rattle.rules.specs.Calls.{Call}
 use Rattle.rules.specs.Encoding.{add_tag, lane_add_tag, counted, add_front, front, Front}
 use Rattle.session.specs.declared.Session.{Session}
 use Rattle.session.specs.Storage.{Storage, with_admitted}
-use Rattle.admitting.specs.declared.Admitted.{Admitted}
+use Rattle.admitting.specs.Told.{Told}
 use Rattle.admitting.specs.Promise.{Asks, Called}
 use Rattle.admitting.specs.Admitted.{Admits}
 
@@ -41,7 +41,7 @@ pub record Made (l : List ℕ) (at n next : ℕ) (s s' : Session) (σ σ' : Stor
   pub called : Called call n s s' σ σ'
 
 -- the set or add read at `at` was admitted or refused: the numbers that follow it start at `next`
-pub record AdmitsAt (l : List ℕ) (at : ℕ) (a : Admitted) (next : ℕ) (s : Session) (σ τ : Storage) : Type 0 where
+pub record AdmitsAt (l : List ℕ) (at : ℕ) (a : Told) (next : ℕ) (s : Session) (σ τ : Storage) : Type 0 where
   pub call : Call
   pub is : front (drop at l) ≡ some (record { call = call; rest = drop next l })
   pub past : at < next
@@ -54,7 +54,7 @@ pub record AsksCall (s : Session) (m w pool : List ℕ) : Type 0 where
   pub around : Storage
   pub asks : Asks s (with_admitted around m w pool)
 
-abbrev pub AdmitsCall : List ℕ → ℕ → Admitted → ℕ → Session → List ℕ → List ℕ → List ℕ → List ℕ → List ℕ → List ℕ → Type 0
+abbrev pub AdmitsCall : List ℕ → ℕ → Told → ℕ → Session → List ℕ → List ℕ → List ℕ → List ℕ → List ℕ → List ℕ → Type 0
 AdmitsCall l at a next s m w pool m' w' pool' =
     (σ : Storage) → Asks s (with_admitted σ m w pool) → AdmitsAt l at a next s (with_admitted σ m w pool) (with_admitted σ m' w' pool')
 
@@ -63,6 +63,6 @@ module _ {s : Session} {σ : Storage} (q : Asks s σ) where
   pub call_asked : AsksCall s σ.marks σ.waiting σ.pool
   call_asked = record { around = σ; asks = q }
 
-  pub call_admitted : {l : List ℕ} {at next : ℕ} {a : Admitted} {m w pool : List ℕ} →
+  pub call_admitted : {l : List ℕ} {at next : ℕ} {a : Told} {m w pool : List ℕ} →
       AdmitsCall l at a next s σ.marks σ.waiting σ.pool m w pool → AdmitsAt l at a next s σ (with_admitted σ m w pool)
   call_admitted h = h σ q

@@ -11,7 +11,7 @@ use Rattle.rules.specs.Encoding.{set_tag, add_tag, flush_tag, final_tag, lane_ad
 use Rattle.encoding.specs.Ends.{ListEnds, front_set, front_set_short, front_add, front_lane_add, front_lane_add_short, front_flush, front_final, front_other, add_whole}
 use Rattle.session.specs.declared.Session.{Session}
 use Rattle.session.specs.Storage.{Storage}
-use Rattle.admitting.specs.declared.Admitted.{Admitted}
+use Rattle.admitting.specs.Told.{Told}
 use Rattle.admitting.specs.Promise.{Called}
 use Rattle.admitting.specs.Admitted.{Admits, Places, admitted_refused, admitted_placed}
 use Rattle.call_runs.specs.Made.{ends_run, Says, Made, AddAt, AdmitsAt, Readable}
@@ -59,7 +59,7 @@ module _ {l : List ℕ} {at : ℕ} (R : Readable l at) where
       tag : get_or l at 0 ≡ final_tag
       tag = elim (ℕ_discrete (get_or l at 0) final_tag) [ yes e ↦ e | no w ↦ absurd (never R.read (front (drop at l)) R.is (front_other l at R.inside x y z w a)) ]
 
-  pub admits_set : {a : Admitted} {s : Session} {σ τ : Storage} → get_or l at 0 ≡ set_tag → Admits (set (get_or l (at + 1) 0)) s a σ τ → AdmitsAt l at a (at + 2) s σ τ
+  pub admits_set : {a : Told} {s : Session} {σ τ : Storage} → get_or l at 0 ≡ set_tag → Admits (set (get_or l (at + 1) 0)) s a σ τ → AdmitsAt l at a (at + 2) s σ τ
   admits_set e A = let r = says_set e in record { call = set (get_or l (at + 1) 0); is = r.is; past = r.past; within = r.within; admits = A }
 
   module _ {n : ℕ} {s s' : Session} {σ σ' : Storage} where
@@ -140,13 +140,13 @@ module _ {l : List ℕ} {at : ℕ} (R : Readable l at) where
               within = w.inside;
             }
 
-        pub admits_add : {a : Admitted} {s : Session} {σ τ : Storage} →
+        pub admits_add : {a : Told} {s : Session} {σ τ : Storage} →
             Admits (add lane (take (middle - (lists + 1)) (drop (lists + 1) l)) (take (next - (middle + 1)) (drop (middle + 1) l))) s a σ τ →
             AdmitsAt l at a next s σ τ
         admits_add x = let r = says_add in record { call = _; is = r.is; past = r.past; within = r.within; admits = x }
 
 -- refused or placed, what was admitted is made
-module _ {l : List ℕ} {at next : ℕ} {a : Admitted} {s : Session} {σ τ : Storage} (E : AdmitsAt l at a next s σ τ) where
+module _ {l : List ℕ} {at next : ℕ} {a : Told} {s : Session} {σ τ : Storage} (E : AdmitsAt l at a next s σ τ) where
   made : {s' : Session} {υ : Storage} → Called E.call a.number s s' σ υ → Made l at a.number next s s' σ υ
   made c = record { call = E.call; is = E.is; past = E.past; within = E.within; called = c }
 

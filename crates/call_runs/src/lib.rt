@@ -2,20 +2,24 @@
 #![tactic(auto)]
 
 ghost use Rattle.std.specs.Prelude.{◌≡◌, false, get_or};
+ghost use Rattle.rules.specs.Answer.{number};
 ghost use Rattle.rules.specs.Encoding.{set_tag};
-ghost use Rattle.session.specs.Storage.{given, across};
+ghost use Rattle.session.specs.Slices.{contents, SameSlices};
+ghost use Rattle.session.specs.After.{session_after};
 ghost use Rattle.call_runs.specs.Made.{ends_run, Readable, AddAt, AsksCall, AdmitsCall};
 ghost use Rattle.admitting.specs.Promise.{Asks};
+ghost use Rattle.admitting.specs.Told.{told};
 ghost use Rattle.call_runs.specs.Continuing.{MayContinue, Continues, OneCall, MadeOne};
 
 use admitting::Admitted;
-use session::Session;
-use sorter::Answer;
+use lists::Registration;
+use rules::Refusal;
+use session::{Session, Storage};
 
-// A set or an add admitted, and the index past it.
+// A set or an add admitted or refused, and the index past it.
 #[derive(Clone, Copy)]
 pub struct Admission {
-    pub admitted: Admitted,
+    pub admitted: Result<Admitted, Refusal>,
     pub next: usize,
 }
 
@@ -73,49 +77,45 @@ fn admit_call(
 ) -> Admission
     requires asks_call { AsksCall s marks.old waiting.old pool.old }
     requires readable { (Readable calls.now at) × (ends_run (get_or calls.now at 0) ≡ false) }
-    ensures { AdmitsCall calls.now at result.admitted result.next s marks.old waiting.old pool.old
+    ensures { AdmitsCall calls.now at (told s result.admitted) result.next s marks.old waiting.old pool.old
         marks.new waiting.new pool.new }
 {
     if calls[at] == encoding::SET {
         let x = calls[at + 1];
-        let a = admitting::admit_set(s, marks, waiting, x);
         return Admission {
-            admitted: a,
+            admitted: admitting::admit_set(s, marks, waiting, x),
             next: at + 2,
         };
     }
     let d = add_start(calls, at);
     let middle = encoding::past_list(calls, d.lists);
     let next = encoding::past_list(calls, middle);
-    let ins = &calls[d.lists + 1..middle];
-    let outs = &calls[middle + 1..next];
-    let a = admitting::admit_add(s, waiting, pool, ins, outs, d.lane);
+    let r = Registration {
+        inputs: &calls[d.lists + 1..middle],
+        outputs: &calls[middle + 1..next],
+        lane: d.lane,
+    };
     Admission {
-        admitted: a,
-        next: next,
+        admitted: admitting::admit_add(s, waiting, pool, r),
+        next,
     }
 }
 
 // Makes the sets and adds from `from` on, up to the first flush or final, and stores each one's number; `done` calls were made before.
-// What a call sets off is placed here, on the loop's own session, which a function for it would copy.
+// What a call sets off is placed here, on the loop's own session, which a function for it would copy. Calls differ in length, so that no
+// iterator goes from one to the next.
 pub fn run_open(
     s: Session,
-    spans: &mut [u32],
-    order: &mut [u32],
-    tally: &mut [u32],
-    rows: &mut [u32],
-    marks: &mut [u16],
-    locations: &mut [u64],
-    waiting: &mut [u64],
-    pool: &mut [u32],
+    storage: &mut Storage,
     answers: &mut [u64],
     calls: &[u64],
     from: usize,
     done: usize,
 ) -> Run
-    requires { MayContinue calls.now s (given spans order tally rows marks locations waiting pool) answers.old from done }
-    ensures { across spans order tally rows marks locations waiting pool
-        (λ σ τ. Continues calls.now s σ answers.old from done result.session τ answers.new result.at result.made) }
+    requires { MayContinue calls.now s (contents storage.old) answers.old from done }
+    ensures continues { Continues calls.now s (contents storage.old) answers.old from done
+        result.session (contents storage.new) answers.new result.at result.made }
+    ensures same { SameSlices storage.old storage.new }
 {
     let mut z = s;
     let mut at = from;
@@ -124,10 +124,9 @@ pub fn run_open(
         if ends_run(calls[at]) {
             break;
         }
-        let d = admit_call(z, marks, waiting, pool, calls, at);
-        let a = d.admitted;
-        answers[n] = a.number;
-        if a.number == 0 {
+        let d = admit_call(z, storage.marks, storage.waiting, storage.pool, calls, at);
+        answers[n] = rules::number(&d.admitted);
+        if let Ok(a) = d.admitted {
             let c = z.added;
             z.watermark = a.watermark;
             z.added = a.added;
@@ -135,59 +134,29 @@ pub fn run_open(
             z.delayed = a.delayed;
             let mut t = a.top;
             while t != 0 {
-                let e = session::place_next(
-                    z, spans, order, tally, rows, marks, locations, waiting, pool, t, c,
-                );
+                let e = session::place_next(z, storage, t, c);
                 z = e.session;
                 t = e.top;
             }
-            session::note_latest(rows, c, a.added, z.guide.written);
+            session::note_latest(storage.rows, c, a.added, z.guide.written);
         }
         at = d.next;
         n += 1;
     }
     Run {
         session: z,
-        at: at,
+        at,
         made: n,
     }
 }
 
 // Makes the one set or add that the numbers are.
-pub fn make_one(
-    s: Session,
-    spans: &mut [u32],
-    order: &mut [u32],
-    tally: &mut [u32],
-    rows: &mut [u32],
-    marks: &mut [u16],
-    locations: &mut [u64],
-    waiting: &mut [u64],
-    pool: &mut [u32],
-    calls: &[u64],
-) -> Answer
-    requires { (Asks s (given spans order tally rows marks locations waiting pool)) × (OneCall calls.now) }
-    ensures { across spans order tally rows marks locations waiting pool (λ σ τ. MadeOne calls.now result.number s result.session σ τ) }
+pub fn make_one(s: Session, storage: &mut Storage, calls: &[u64]) -> Result<Session, Refusal>
+    requires { (Asks s (contents storage.old)) × (OneCall calls.now) }
+    ensures made { MadeOne calls.now (number result) s (session_after s result) (contents storage.old) (contents storage.new) }
+    ensures same { SameSlices storage.old storage.new }
 {
-    let mut answers = [0u64; 1];
-    let r = run_open(
-        s,
-        spans,
-        order,
-        tally,
-        rows,
-        marks,
-        locations,
-        waiting,
-        pool,
-        &mut answers,
-        calls,
-        0,
-        0,
-    );
-    let session = r.session;
-    Answer {
-        number: answers[0],
-        session: session,
-    }
+    let d = admit_call(s, storage.marks, storage.waiting, storage.pool, calls, 0);
+    let a = d.admitted?;
+    Ok(admitting::place_admitted(s, storage, a))
 }

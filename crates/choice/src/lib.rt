@@ -4,8 +4,11 @@
 ghost use Rattle.std.specs.Prelude.{◌≡◌, true, ◌+◌, ◌≤◌, ◌<◌};
 ghost use Rattle.rules.specs.Limits.{most_parallelism};
 ghost use Rattle.rules.specs.Guide.{parallelism};
+ghost use Rattle.window.specs.Location.{has, span_of, pos_of};
 ghost use Rattle.choice.specs.Search.{matched};
 ghost use Rattle.choice.specs.Chosen.{chosen_by};
+
+use window::Location;
 
 // Where a value goes: into a span of the window, or into the last of some newly opened ones.
 #[derive(Clone, Copy)]
@@ -15,7 +18,8 @@ pub enum MatchedSpan {
 }
 
 // Parallelism of the entry at position q of a span of a entries, the next holding b (the Rust's calculate_parallelism). The sums are 32 bits
-// wide, so that none wraps where a + b passes 65,535.
+// wide, so that none wraps where a + b passes 65,535. Its halves stay apart: with `p.min(a)` for both, a placing ran 487 instructions in
+// place of 436 where spans are full.
 pub fn parallelism_of(p: u32, a: u32, b: u32, q: u32) -> u32
     requires { (q < a) × ((a ≤ p + 1) × ((b ≤ p + 1) × (p ≤ most_parallelism))) }
     ensures { result ≡ parallelism p a b q }
@@ -27,11 +31,7 @@ pub fn parallelism_of(p: u32, a: u32, b: u32, q: u32) -> u32
         if q < b {
             return p;
         }
-        let t = p + b - q;
-        if t < 1 {
-            return 1;
-        }
-        return t;
+        return (p + b - q).max(1);
     }
     if p <= b {
         return a;
@@ -47,14 +47,10 @@ pub fn find_span(lens: [u16; window::SPANS], from: usize, p: u32) -> MatchedSpan
     requires { from ≤ 32 }
     ensures { result ≡ matched lens from p }
 {
-    let mut r = MatchedSpan::New(1);
-    for i in from..window::SPANS {
-        if (lens[i] as u32) < p {
-            r = MatchedSpan::Existing(i);
-            break;
-        }
+    match lens[from..].iter().position(|l| (*l as u32) < p) {
+        Some(i) => MatchedSpan::Existing(from + i),
+        None => MatchedSpan::New(1),
     }
-    r
 }
 
 // The span for a value in the window whose span 0 has the number `first`, placed after a location where there is one. Span 0 is never
@@ -64,28 +60,25 @@ pub fn choose(
     first: u32,
     lens: [u16; window::SPANS],
     p: u32,
-    has: bool,
-    span: u32,
-    pos: u32,
+    after: Option<Location>,
 ) -> MatchedSpan
-    requires { has ≡ true → span ≤ first + 31 }
-    ensures { result ≡ chosen_by first lens p has span pos }
+    requires { has after ≡ true → span_of after ≤ first + 31 }
+    ensures { result ≡ chosen_by first lens p (has after) (span_of after) (pos_of after) }
 {
-    if has {
-        let d: i64 = span as i64 - first as i64;
-        if d < 0 {
-            return MatchedSpan::Existing(1);
+    match after {
+        None => MatchedSpan::Existing(1),
+        Some(at) if at.span < first => MatchedSpan::Existing(1),
+        Some(at) => {
+            let d = (at.span - first) as usize;
+            if d == window::LAST {
+                // What it depends on is in the last span. Position 0 of the span right behind would be too near, so one span more is opened.
+                return MatchedSpan::New(2);
+            }
+            if (lens[d + 1] as u32) < at.pos {
+                // The end of the next span is less than a span's length away; more values are to come before it.
+                return find_span(lens, d + 2, p);
+            }
+            find_span(lens, d + 1, p)
         }
-        let at = d as usize;
-        if at == window::LAST {
-            // What it depends on is in the last span. Position 0 of the span right behind would be too near, so one span more is opened.
-            return MatchedSpan::New(2);
-        }
-        if (lens[at + 1] as u32) < pos {
-            // The end of the next span is less than a span's length away; more values are to come before it.
-            return find_span(lens, at + 2, p);
-        }
-        return find_span(lens, at + 1, p);
     }
-    MatchedSpan::Existing(1)
 }

@@ -1,7 +1,7 @@
 -- The laws by which the proofs of `admits_add` and `claim_add` go. Assumes nothing.
-use Rattle.std.specs.Prelude.{◌≡◌, refl, List, ◌++◌, Bool, true, not, ◌||◌, leb}
+use Rattle.std.specs.Prelude.{◌≡◌, refl, List, ◌++◌, ◌⊎◌, Bool, true, not, ◌||◌, leb}
 use Rattle.std.proofs.Math.Path.{sym}
-use Rattle.std.proofs.Common.{◌∙◌, subst, true≢false, arith}
+use Rattle.std.proofs.Common.{◌∙◌, inl, inr, subst, true≢false, arith}
 use Rattle.std.proofs.Math.Bool.{false}
 use Rattle.std.proofs.lemmas.Bool.{false≢true}
 use Prim.Native.Nat.{ℕ, ◌+◌, ◌-◌, ◌≤◌, ◌<◌}
@@ -15,9 +15,9 @@ use Rattle.lists.specs.Arguments.{any_below, below_any, below_append, greatest_b
 use Rattle.taken.specs.Flags.{Flags, Plain, unclaimable, Claims, taken_at}
 use Rattle.taken.specs.FlagLaws.{flags_any, plain_of}
 use Rattle.checking.specs.Parts.{list_checks, state_checks, add_checks}
-use Rattle.add_checks.specs.Promises.{MayAdd, ChecksAdd}
+use Rattle.add_checks.specs.Promises.{fits, MayAdd, ChecksAdd}
 use Rattle.add_checks.specs.ListChecks.{many, lists_good, verdict_rest, lists_numbered}
-use Rattle.add_checks.specs.StateChecks.{state_verdict}
+use Rattle.add_checks.specs.StateChecks.{state_verdict, Fits, fits_of, of_fits}
 use Rattle.claiming.specs.Promises.{MayAdmit, FlagsAdd, ClaimsAdd}
 
 -- add passes all of its checks
@@ -86,15 +86,26 @@ module _ {w : List ℕ} {lane : ℕ} {ins outs : List ℕ} {closed : Bool} {v ad
   pub count_fails : v ≤ added → FlagsAdd w lane ins outs closed v added used room false w
   count_fails h = refused (λ t p. omega (arith, p.more))
 
+  pub room_fails : room - used < length ins + length outs → FlagsAdd w lane ins outs closed v added used room false w
+  room_fails h = refused (λ t p. omega (arith, p.room))
+
+  -- it does not fit
+  fits_not : {b : Bool} → b ≡ fits closed lane ins outs v added (room - used) → b ≡ false → FlagsAdd w lane ins outs closed v added used room false w
+  fits_not e q = refused (λ t p. true≢false (sym (fits_of closed lane ins outs v added (room - used) (fit p)) ∙ sym e ∙ q))
+    where
+      fit : {t : ℕ → Bool} → AddPasses closed v lane ins outs t added used room → Fits closed lane ins outs v added (room - used)
+      fit p = record { not_closed = p.not_closed; low = p.low; few = p.few; more = p.more; room = omega (arith, p.room) }
+
   module _ {top : ℕ} (m : MayAdmit w ins top v used room) where
     pub ins_outside : v ≤ top → FlagsAdd w lane ins outs closed v added used room false w
     ins_outside h = refused (λ t p. omega (arith, m.top_is, greatest_below v ins (omega (arith, p.more)) p.ins_inside))
 
-    pub room_fails : room - used < length ins + length outs → FlagsAdd w lane ins outs closed v added used room false w
-    room_fails h = refused (λ t p. omega (arith, p.room))
+    pub unfit : {b : Bool} → b ≡ fits closed lane ins outs v added (room - used) → ((b ≡ true) × (v ≤ top)) ⊎ (b ≡ false)
+        → {r : Bool} → r ≡ false → FlagsAdd w lane ins outs closed v added used room r w
+    unfit e (inl p) {r} q = subst (λ (x : Bool). FlagsAdd w lane ins outs closed v added used room x w) (sym q) (ins_outside p.1)
+    unfit e (inr n) {r} q = subst (λ (x : Bool). FlagsAdd w lane ins outs closed v added used room x w) (sym q) (fits_not e n)
 
-    module _ (small : v ≤ least_flagged) (open' : closed ≡ false) (low : lane ≤ most_lane) (few : many ins outs ≡ false) (l : top < v) (h : added < v) (fits : length ins + length outs ≤ room - used)
-        {r : Bool} {w' : List ℕ} (c : Claims w v outs r w') where
+    module _ (small : v ≤ least_flagged) {b : Bool} (f : b ≡ fits closed lane ins outs v added (room - used)) (f' : b ≡ true) (l : top < v) {r : Bool} {w' : List ℕ} (c : Claims w v outs r w') where
       pub admits : FlagsAdd w lane ins outs closed v added used room r w'
       unfolding unclaimable
       admits =
@@ -113,20 +124,21 @@ module _ {w : List ℕ} {lane : ℕ} {ins outs : List ℕ} {closed : Bool} {v ad
           down false e = refl
 
           good : r ≡ true → (t : ℕ → Bool) → Flags v t w → AddPasses closed v lane ins outs t added used room
-          good q t f =
+          good q t fl =
+              let z = of_fits closed lane ins outs v added (room - used) (sym f ∙ f') in
               let u = or_false (any (λ x. leb v x) outs) (repeats outs || any (taken_at w v) outs) (down _ (sym c.answer ∙ q)) in
               let k = or_false (repeats outs) (any (taken_at w v) outs) u.1 in
               let b = any_below v outs u.0 in
               record {
-                not_closed = open';
-                low = low;
-                few = few;
+                not_closed = z.not_closed;
+                low = z.low;
+                few = z.few;
                 ins_inside = below_greatest v ins (omega (arith, m.top_is));
                 outs_inside = b;
                 once = k.0;
-                free = sym (same_any t f b) ∙ k.1;
-                more = h;
-                room = omega (arith, m.may.fits);
+                free = sym (same_any t fl b) ∙ k.1;
+                more = z.more;
+                room = omega (arith, m.may.fits, z.room);
               }
 
           bad : r ≡ false → (t : ℕ → Bool) → Flags v t w → AddPasses closed v lane ins outs t added used room → ⊥

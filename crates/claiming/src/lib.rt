@@ -2,66 +2,28 @@
 // refused call is looked at check by check, for its number.
 #![tactic(auto)]
 
+ghost use Rattle.rules.specs.Answer.{number};
 ghost use Rattle.claiming.specs.Promises.{MayAdmit, FlagsAdd, ClaimsAdd};
 
-// Whether add passes all of its checks, top being the greatest of ins; then its outputs are flagged as taken. Else storage is as it was.
-fn admits_add(
-    waiting: &mut [u64],
-    ins: &[u64],
-    outs: &[u64],
-    lane: u64,
-    top: u64,
-    closed: bool,
-    v: usize,
-    added: usize,
-    used: usize,
-    room: usize,
-) -> bool
-    requires { MayAdmit waiting.old ins.now top v used room }
-    ensures { FlagsAdd waiting.old lane ins.now outs.now closed v added used room result waiting.new }
+use checking::State;
+use lists::Registration;
+use rules::Refusal;
+
+// Whether add passes all of its checks, top being the greatest of its inputs; then its outputs are flagged as taken. Else storage is as it was.
+fn admits_add(waiting: &mut [u64], r: Registration, top: u64, at: State) -> bool
+    requires { MayAdmit waiting.old r.inputs.now top at.v at.used at.room }
+    ensures { FlagsAdd waiting.old r.entry.lane r.entry.inputs.now r.entry.outputs.now at.closed at.v at.added at.used at.room result waiting.new }
 {
-    if closed {
-        return false;
-    }
-    if lane > rules::MOST_LANE {
-        return false;
-    }
-    if ins.len() > rules::MOST_IN_A_LIST {
-        return false;
-    }
-    if outs.len() > rules::MOST_IN_A_LIST {
-        return false;
-    }
-    if top >= v as u64 {
-        return false;
-    }
-    if added >= v {
-        return false;
-    }
-    if ins.len() + outs.len() > room - used {
-        return false;
-    }
-    taken::claim_new(outs, waiting, v)
+    add_checks::fits(r, at) && top < at.v as u64 && taken::claim_new(r.outputs, waiting, at.v)
 }
 
 // add: 7, 18, 3, 4, 5, 6, 8, 9, 10.
-pub fn claim_add(
-    waiting: &mut [u64],
-    ins: &[u64],
-    outs: &[u64],
-    lane: u64,
-    top: u64,
-    closed: bool,
-    v: usize,
-    added: usize,
-    used: usize,
-    room: usize,
-) -> u64
-    requires { MayAdmit waiting.old ins.now top v used room }
-    ensures { ClaimsAdd waiting.old lane ins.now outs.now closed v added used room result waiting.new }
+pub fn claim_add(waiting: &mut [u64], r: Registration, top: u64, at: State) -> Result<(), Refusal>
+    requires { MayAdmit waiting.old r.inputs.now top at.v at.used at.room }
+    ensures { ClaimsAdd waiting.old r.entry.lane r.entry.inputs.now r.entry.outputs.now at.closed at.v at.added at.used at.room (number result) waiting.new }
 {
-    if admits_add(waiting, ins, outs, lane, top, closed, v, added, used, room) {
-        return 0;
+    if admits_add(waiting, r, top, at) {
+        return Ok(());
     }
-    add_checks::check_add(waiting, ins, outs, lane, closed, v, added, used, room)
+    add_checks::check_add(waiting, r, at)
 }

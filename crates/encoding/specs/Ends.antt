@@ -2,6 +2,7 @@
 -- Assumes nothing.
 use Rattle.std.specs.Prelude.{◌≡◌, List, [], ◌∷◌, ◌++◌, Bool, ◌⊎◌, length, take, drop}
 use Rattle.std.proofs.Math.Path.{refl, ap}
+use Rattle.std.proofs.lemmas.List.{append-nil}
 use Rattle.std.proofs.Common.{sym, ◌∙◌, length-append, drop_of_length-le, drop-cons, drop-drop}
 use Rattle.std.proofs.Math.Bool.{true, false}
 use Rattle.std.proofs.Math.Logic.{inl, inr}
@@ -143,11 +144,13 @@ module _ (l : List ℕ) (at : ℕ) where
         go (inl k) = add_ends (get_or l (at + 1) 0) (omega arith) (front_lane_add e k) a
         go (inr k) = inl (none_there k, front_lane_add_short e k)
 
-    pub call_flush : get_or l at 0 ≡ flush_tag → Ends (front (drop at l)) l at (at + 1)
-    call_flush e = inr (flush, omega arith, omega arith, front_flush e)
-
-    pub call_final : get_or l at 0 ≡ final_tag → Ends (front (drop at l)) l at (at + 1)
-    call_final e = inr (final, omega arith, omega arith, front_final e)
+    -- a flush or a final is its tag alone
+    pub call_alone : 3 ≤ get_or l at 0 → get_or l at 0 ≤ 4 → Ends (front (drop at l)) l at (at + 1)
+    call_alone a b = go (lt_or_le (get_or l at 0) 4)
+      where
+        go : (get_or l at 0 < 4) ⊎ (4 ≤ get_or l at 0) → Ends (front (drop at l)) l at (at + 1)
+        go (inl k) = inr (flush, omega arith, omega arith, front_flush (omega arith))
+        go (inr k) = inr (final, omega arith, omega arith, front_final (omega arith))
 
     pub call_set : get_or l at 0 ≡ set_tag → at + 1 < length l → Ends (front (drop at l)) l at (at + 2)
     call_set e k = inr (set (get_or l (at + 1) 0), omega arith, omega arith, front_set e k)
@@ -190,17 +193,25 @@ count_stop l at n r c h (inl x) z =
     }
 count_stop l at n r c h (inr x) z = absurd (omega (arith, x.1))
 
-append_none : (cs : List Call) → cs ++ [] ≡ cs
-append_none [] = refl
-append_none (c ∷ cs) = ap (λ x. c ∷ x) (append_none cs)
-
 pub count_end : (l : List ℕ) (at n : ℕ) → Counting l at n → length l ≤ at → Counts l true n
 unfolding decode decode_from unless_empty
 count_end l at n c h =
     record {
       malformed = λ e. let y : ◌≡◌ {A = ℕ} 0 1 = cc in absurd (omega arith);
-      formed = λ e. (c.calls, c.is ∙ ap (λ x. prefix c.calls (decode x)) (drop_of_length-le l h) ∙ prefix_some c.calls [] ∙ ap some (append_none c.calls), c.many);
+      formed = λ e. (c.calls, c.is ∙ ap (λ x. prefix c.calls (decode x)) (drop_of_length-le l h) ∙ prefix_some c.calls [] ∙ ap some (append-nil c.calls), c.many);
     }
+
+module _ (l : List ℕ) (at : ℕ) where
+  module _ (h : at < length l) where
+    pub call_flush : get_or l at 0 ≡ flush_tag → Ends (front (drop at l)) l at (at + 1)
+    call_flush e = inr (flush, omega arith, omega arith, front_flush l at h e)
+
+    pub call_final : get_or l at 0 ≡ final_tag → Ends (front (drop at l)) l at (at + 1)
+    call_final e = inr (final, omega arith, omega arith, front_final l at h e)
+
+append_none : (cs : List Call) → cs ++ [] ≡ cs
+append_none [] = refl
+append_none (c ∷ cs) = ap (λ x. c ∷ x) (append_none cs)
 
 pub count_less : (l : List ℕ) (at r : ℕ) → at < length l → Ends (front (drop at l)) l at r → (r ≡ 0 → ⊥) → length l - r < length l - at
 count_less l at r h (inl x) z = absurd (z x.0)

@@ -1,14 +1,14 @@
 // Calls encoded as numbers: where a call of a list ends, how many calls there are, and a set or an add put down as numbers.
 #![tactic(auto)]
 
-ghost use Rattle.std.specs.Prelude.{◌≡◌, ◌+◌, ◌≤◌, ◌<◌, length, take, drop};
+ghost use Rattle.std.specs.Prelude.{◌≡◌, ◌+◌, ◌≤◌, ◌<◌, length, take, drop, is_some, unwrap_or, IfSome};
 ghost use Rattle.std.proofs.Math.Option.{none};
 ghost use Rattle.rules.specs.Calls.{set as set_call, add as add_call};
 ghost use Rattle.rules.specs.Encoding.{front, counted};
 ghost use Rattle.encoding.specs.Ends.{ListEnds, AddEnds, Ends, Counts};
 ghost use Rattle.encoding.specs.Put.{before_inputs, Put};
 
-// The tags that calls begin with.
+// The tags that calls begin with: numbers, since they stand in the caller's list (the C interface).
 pub const SET: u64 = 1;
 
 pub const ADD: u64 = 2;
@@ -20,100 +20,61 @@ pub const FINAL: u64 = 4;
 // An add whose lane stands between the tag and its lists; `ADD` is one with lane 0.
 pub const LANE_ADD: u64 = 5;
 
-fn short(x: u64) -> usize
-    ensures { result ≡ x }
+// The index past the counted list that starts at `at`, if there is one.
+pub fn list_end(calls: &[u64], at: usize) -> Option<usize>
+    ensures ends { ListEnds calls.now at (unwrap_or result 0) }
+    ensures past { IfSome result (λ r. at < r) }
 {
-    x as usize
+    let n = *calls.get(at)? as usize;
+    if calls.len() - at <= n {
+        return None;
+    }
+    Some(at + 1 + n)
 }
 
-// The index past the counted list that starts at `at`, or 0 where there is none.
-pub fn list_end(calls: &[u64], at: usize) -> usize
-    ensures { ListEnds calls.now at result }
-{
-    if calls.len() <= at {
-        return 0;
-    }
-    let n = short(calls[at]);
-    let left = calls.len() - at;
-    if left <= n {
-        return 0;
-    }
-    at + 1 + n
-}
-
-// The index past the counted list that starts at `at`, where there is one.
+// The index past the counted list that starts at `at`, where there is one: no test is made of that.
 pub fn past_list(calls: &[u64], at: usize) -> usize
     requires { counted (drop at calls.now) ≡ none → ⊥ }
     ensures { ListEnds calls.now at result }
 {
-    at + 1 + short(calls[at])
+    at + 1 + calls[at] as usize
 }
 
-// The index past the two counted lists that start at `at`, or 0 where they are not there.
-fn add_end(calls: &[u64], at: usize) -> usize
-    ensures { AddEnds calls.now at result }
+// The index past the two counted lists that start at `at`, if they are there.
+fn add_end(calls: &[u64], at: usize) -> Option<usize>
+    ensures ends { AddEnds calls.now at (unwrap_or result 0) }
+    ensures past { IfSome result (λ r. at < r) }
 {
-    let middle = list_end(calls, at);
-    if middle == 0 {
-        return 0;
-    }
+    let middle = list_end(calls, at)?;
     list_end(calls, middle)
 }
 
-// The index past the call that starts at `at`, or 0 where the numbers there are no call.
-pub fn call_end(calls: &[u64], at: usize) -> usize
+// The index past the call that starts at `at`, if the numbers there are one.
+pub fn call_end(calls: &[u64], at: usize) -> Option<usize>
     requires { at < length calls.now }
-    ensures { Ends (front (drop at calls.now)) calls.now at result }
+    ensures ends { Ends (front (drop at calls.now)) calls.now at (unwrap_or result 0) }
+    ensures past { IfSome result (λ r. at < r) }
 {
-    let tag = calls[at];
-    if tag == ADD {
-        return add_end(calls, at + 1);
+    match calls[at] {
+        ADD => add_end(calls, at + 1),
+        FLUSH | FINAL => Some(at + 1),
+        SET if at + 1 < calls.len() => Some(at + 2),
+        LANE_ADD => add_end(calls, at + 2),
+        _ => None,
     }
-    if tag == FLUSH {
-        return at + 1;
-    }
-    if tag == FINAL {
-        return at + 1;
-    }
-    if tag == SET {
-        if at + 1 < calls.len() {
-            return at + 2;
-        }
-        return 0;
-    }
-    if tag == LANE_ADD {
-        return add_end(calls, at + 2);
-    }
-    0
 }
 
-// Whether the numbers are a list of calls, and how many calls these are.
-#[derive(Clone, Copy)]
-pub struct Count {
-    pub well: bool,
-    pub calls: usize,
-}
-
-pub fn count_calls(calls: &[u64]) -> Count
-    ensures { Counts calls.now result.well result.calls }
+// How many calls the numbers are, if they are a list of calls.
+pub fn count_calls(calls: &[u64]) -> Option<usize>
+    ensures { Counts calls.now (is_some result) (unwrap_or result 0) }
 {
     let mut at = 0;
     let mut n = 0;
     while at < calls.len() {
-        let end = call_end(calls, at);
-        if end == 0 {
-            return Count {
-                well: false,
-                calls: 0,
-            };
-        }
+        at = call_end(calls, at)?;
         n += 1;
-        at = end;
     }
-    Count {
-        well: true,
-        calls: n,
-    }
+    Some(n)
 }
 
 // How many numbers stand before the inputs of an add whose lane is told: its tag, the lane, the count of inputs.

@@ -4,22 +4,23 @@
 
 ghost use Rattle.entering.specs.Entering.{Storing, Stores};
 
-// Registration r of v; `used` numbers of the pool are taken.
+use lists::Registration;
+
+// Those of r, the registration numbered i of v; `used` numbers of the pool are taken.
 pub fn store_lists(
     waiting: &mut [u64],
     pool: &mut [u32],
-    ins: &[u64],
-    outs: &[u64],
-    lane: u64,
+    r: Registration,
     v: usize,
-    r: usize,
+    i: usize,
     used: usize,
 )
-    requires { Storing waiting.old pool.old v r used lane ins.now outs.now }
-    ensures { Stores waiting.old pool.old v r used lane ins.now outs.now waiting.new pool.new }
+    requires { Storing waiting.old pool.old v i used r.lane r.inputs.now r.outputs.now }
+    ensures { Stores waiting.old pool.old v i used r.entry.lane r.entry.inputs.now r.entry.outputs.now
+        waiting.new pool.new }
 {
-    let inputs = ins.len();
-    pool::store_list(pool, used, ins);
-    pool::store_list(pool, used + inputs, outs);
-    pool::set_cell(waiting, v, r, used, inputs, lane);
+    let inputs = r.inputs.len();
+    pool::store_list(pool, used, r.inputs);
+    pool::store_list(pool, used + inputs, r.outputs);
+    pool::set_cell(waiting, v, i, used, inputs, r.lane);
 }

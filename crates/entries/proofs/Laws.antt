@@ -1,8 +1,7 @@
 -- Laws of the append of a row: what is still to be appended, and a turn of the loop.
 use mathlib.Core.Path.{◌≡◌}
 use mathlib.Core.List.{List}
-use Prim.Native.Nat.{ℕ, suc, ◌+◌, ◌-◌, ◌≤◌, ◌<◌}
-use native.Mathlib.Nat.{add-zero, sub-zero}
+use Prim.Native.Nat.{ℕ, suc, ◌+◌, ◌-◌, ◌<◌}
 use native.Mathlib.Omega.{arith}
 use Rattle.rules.specs.Guide.{parallelism}
 use Rattle.entries.specs.Entries.{entry_at, with_parallelism, with_entry, row, annotated, appended}
@@ -13,9 +12,6 @@ module _ (s : List ℕ) (p a b n base : ℕ) where
   abbrev pub rest : List ℕ → ℕ → List ℕ
   rest o q = appended o (n + q) (annotated p a b q (row s (base + q) (a - q)))
 
-  pub begins : (o : List ℕ) → appended o n (annotated p a b 0 (row s base a)) ≡ rest o 0
-  begins o = rw (add-zero, add-zero, sub-zero)
-
   -- a turn appends one entry
   pub turn : (o o' : List ℕ) (q : ℕ) (e : Entry) (w : ℕ) → q < a → e ≡ entry_at s (base + q) → w ≡ parallelism p a b q
       → o' ≡ with_entry o (n + q) (with_parallelism e w) → rest o q ≡ rest o' (q + 1)
@@ -25,6 +21,3 @@ module _ (s : List ℕ) (p a b n base : ℕ) where
       let e3 : base + (q + 1) ≡ suc (base + q) = omega arith in
       let e4 : q + 1 ≡ suc q = omega arith in
       rw (k, g, f, e1, e2, e3) (rw e4)
-
-  pub ends : (o : List ℕ) (q : ℕ) → a ≤ q → rest o q ≡ o
-  ends o q h = let e : a - q ≡ 0 = omega arith in rw e

@@ -1,10 +1,10 @@
 // Entries in flat slices, SIZE numbers each: value, added, accepted, and parallelism and lane in one. A span's entry has its parallelism
-// only once it is appended to the order, and 0 until then.
+// only once it is appended to the order, and 0 until then. Flat numbers, since the order has this layout in the C interface.
 #![tactic(auto)]
 
 ghost use Rattle.std.specs.Prelude.{◌≡◌, ◌+◌, ◌≤◌};
 ghost use Rattle.rules.specs.Limits.{most_parallelism};
-ghost use Rattle.entries.specs.Entries.{packed, unpacked, capacity, entry_at, fits, has_entry, with_parallelism, held_entry, with_entry, row, annotated, appended};
+ghost use Rattle.entries.specs.Entries.{packed, unpacked, capacity, entry_at, fits, has_entry, held_entry, with_entry, row, annotated, appended};
 
 // The numbers of an entry.
 pub const SIZE: usize = 4;
@@ -40,9 +40,9 @@ fn unpacked(value: u32, added: u32, accepted: u32, last: u32) -> Entry
     ensures { result ≡ unpacked value added accepted last }
 {
     Entry {
-        value: value,
-        added: added,
-        accepted: accepted,
+        value,
+        added,
+        accepted,
         parallelism: (last % LANE_RADIX) as u16,
         lane: (last / LANE_RADIX) as u16,
     }
@@ -65,19 +65,6 @@ pub fn parallelism_at(s: &[u32], k: usize) -> u32
     s[SIZE * k + 3] % LANE_RADIX
 }
 
-// An entry with another parallelism.
-pub fn with_parallelism(e: Entry, parallelism: u16) -> Entry
-    ensures { result ≡ with_parallelism e parallelism }
-{
-    Entry {
-        value: e.value,
-        added: e.added,
-        accepted: e.accepted,
-        parallelism: parallelism,
-        lane: e.lane,
-    }
-}
-
 // Stores an entry at index k; all else stays.
 pub fn store(s: &mut [u32], k: usize, e: Entry)
     requires { has_entry s.old k }
@@ -95,7 +82,14 @@ pub fn store_held(s: &mut [u32], k: usize, e: Entry)
     requires { has_entry s.old k }
     ensures { s.new ≡ with_entry s.old k (held_entry e) }
 {
-    store(s, k, with_parallelism(e, 0));
+    store(
+        s,
+        k,
+        Entry {
+            parallelism: 0,
+            ..e
+        },
+    );
 }
 
 // Appends the a entries of the row at base to the order at n, each with its parallelism, the next span having b.
@@ -108,7 +102,7 @@ pub fn append_row(spans: &[u32], order: &mut [u32], base: usize, n: usize, p: u3
     for q in 0..a {
         let j = q as usize;
         let e = load(spans, base + j);
-        let w = choice::parallelism_of(p, a, b, q);
-        store(order, n + j, with_parallelism(e, w as u16));
+        let parallelism = choice::parallelism_of(p, a, b, q) as u16;
+        store(order, n + j, Entry { parallelism, ..e });
     }
 }

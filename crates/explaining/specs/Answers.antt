@@ -18,8 +18,7 @@ use Rattle.session.specs.declared.Session.{Session}
 use Rattle.session.specs.Storage.{Storage, with_lists}
 use Rattle.session.specs.Rep.{Rep}
 use Rattle.session.specs.Placed.{all_below}
-use Rattle.explaining.specs.declared.Reason.TheVariants as answer
-use Rattle.explaining.specs.Explaining.{MayExplain, Explains}
+use Rattle.explaining.specs.Explaining.{Waits, Refused, MayExplain, Explains}
 
 -- the model's answer in each case
 module _ (N r : ℕ) (k : Model) where
@@ -36,7 +35,7 @@ module _ (N r : ℕ) (k : Model) where
   waiting h e = rw (lt-leb (length k.adds) r h, e, explained)
 
 module _ (s : Session) (w pool : List ℕ) (r : ℕ) where
-  pub explains_unknown : s.added ≤ r → Explains s w pool r (answer.Refused refusal.never_accepted)
+  pub explains_unknown : s.added ≤ r → Explains s w pool r (Refused refusal.never_accepted)
   explains_unknown h =
       record {
         is = λ P N k σ R b. sym (unknown N r k (omega (arith, R.counted.added_is)));
@@ -77,7 +76,7 @@ module _ (s : Session) (w pool : List ℕ) (r : ℕ) where
     pub asks_inputs : MayExplain s w pool → start + n ≤ length pool
     asks_inputs a = (read a.around a.asks.rep).0
 
-    pub explains_none : n ≡ 0 → Explains s w pool r (answer.Refused refusal.not_waiting)
+    pub explains_none : n ≡ 0 → Explains s w pool r (Refused refusal.not_waiting)
     explains_none z =
         record {
           is = λ P N k σ R b. sym (when_ready σ R b (ready_none (watermark N k) (reg_of k r).ins (sym (count_is σ R) ∙ z)));
@@ -85,14 +84,14 @@ module _ (s : Session) (w pool : List ℕ) (r : ℕ) where
         }
 
     module _ {input : ℕ} (ei : input ≡ greatest (part pool start n)) where
-      pub explains_placed : input < s.watermark → Explains s w pool r (answer.Refused refusal.not_waiting)
+      pub explains_placed : input < s.watermark → Explains s w pool r (Refused refusal.not_waiting)
       explains_placed g =
           record {
             is = λ P N k σ R b. sym (when_ready σ R b (ready_low (watermark N k) (reg_of k r).ins (omega (arith, ei, R.core.tracked.watermark_is, greatest_is σ R))));
             small = omega arith;
           }
 
-      pub explains_waiting : MayExplain s w pool → (n ≡ 0 → ⊥) → s.watermark ≤ input → Explains s w pool r (answer.Waits input s.watermark)
+      pub explains_waiting : MayExplain s w pool → (n ≡ 0 → ⊥) → s.watermark ≤ input → Explains s w pool r (Waits input s.watermark)
       unfolding reason
       explains_waiting a z m =
           let x = below a.around a.asks.rep a.asks.between in

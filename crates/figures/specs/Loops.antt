@@ -1,14 +1,20 @@
 -- Laws for the loops of this crate: the sum and the median by what remains of the tally, the low counts and the sums of thousands
 -- by what the counts so far give at each index. Assumes nothing.
-use Rattle.std.specs.Prelude.{◌≡◌, refl, List, [], ◌∷◌, ◌++◌, ℕ, zero, suc, ◌+◌, ◌*◌, ◌/◌, ◌≤◌, ◌<◌, length, take, drop, get_or, set, replicate}
-use Rattle.std.proofs.Common.{sym, ap, ◌∙◌, add-one, arith, length-append, length-take, length-drop, length-set, take-suc, drop-cons, take_all}
+use Rattle.std.specs.Prelude.{◌≡◌, refl, List, [], ◌∷◌, ◌++◌, ℕ, zero, suc, ◌+◌, ◌-◌, ◌*◌, ◌/◌, ◌≤◌, ◌<◌, length, take, drop, get_or, set, replicate}
+use Rattle.std.proofs.Common.{sym, ap, ◌∙◌, add-one, arith, length-append, length-drop, length-set, take-suc, drop-cons, take_all}
 use Rattle.std.proofs.Common.{get_or-set_same, get_or-set_other, get_or-take, ext_get_or, length-take-le, le-leb}
+use Rattle.std.proofs.Common.{zero-add, min, get_or-drop}
+use Rattle.std.proofs.Math.ListN.{get_or-append}
+use Rattle.std.proofs.Math.Seq.{get_or-append_right}
 use Rattle.std.proofs.Math.Decide.{ℕ_discrete, dec_lt, dec_le}
+use Rattle.std.proofs.lemmas.List.{length-replicate}
+use Rattle.std.specs.List.{fold, sum as total}
 use Rattle.std.proofs.lemmas.List.{drop-append-le, take-append-le}
 use Rattle.std.proofs.lemmas.Bool.{lt-leb}
 use Rattle.figures.specs.Small.{most_counts}
 use Rattle.rules.specs.Limits.{low_counts, sums_of_thousands}
 use Rattle.rules.specs.Summary.{sum, median, median_from, counts, thousands}
+use Rattle.std.proofs.Common.{length-take}
 
 -- the sum
 
@@ -42,6 +48,15 @@ unfolding sum
 sum_drop zero t = omega arith
 sum_drop (suc n) [] = omega arith
 sum_drop (suc n) (x ∷ t) = omega (arith, sum_drop n t)
+
+-- std's word for it
+sum_folds : (m : ℕ) (t : List ℕ) → fold (λ a x. a + x) m t ≡ m + sum t
+unfolding sum
+sum_folds m [] = omega arith
+sum_folds m (x ∷ t) = omega (arith, sum_folds (m + x) t)
+
+pub sum_is : (t : List ℕ) → total t ≡ sum t
+sum_is t = sum_folds 0 t ∙ zero-add (sum t)
 
 -- the median
 
@@ -119,6 +134,28 @@ pub low_ends : (t : List ℕ) (i : ℕ) (low : List ℕ) → low_counts ≤ i �
 low_ends t i low h k =
     ext_get_or 0 low (counts low_counts 0 t) (k.0 ∙ sym (counts_length low_counts 0 t)) (λ j l.
     k.1 j ∙ get_or-take i t j 0 (omega (arith, k.0)) ∙ sym (counts_at low_counts 0 t j (omega (arith, k.0)) ∙ ap (λ n. get_or t n 0) (omega arith)))
+
+-- the first counts copied over zeros
+pub low_copied : (t : List ℕ) (n : ℕ) → n ≡ min (length t) low_counts → take n t ++ drop n (replicate low_counts 0) ≡ counts low_counts 0 t
+low_copied t n e = ext_get_or 0 (take n t ++ drop n (replicate low_counts 0)) (counts low_counts 0 t) (long ∙ sym (counts_length low_counts 0 t)) (λ j h. at j (omega (arith, long)))
+  where
+    first : length (take n t) ≡ n
+    first = length-take-le n t (omega arith)
+
+    long : length (take n t ++ drop n (replicate low_counts 0)) ≡ low_counts
+    long = length-append (take n t) (drop n (replicate low_counts 0)) ∙ omega (arith, first, length-drop n (replicate {A = ℕ} low_counts 0), length-replicate {A = ℕ} low_counts 0)
+
+    here : (j : ℕ) → j < low_counts → get_or (take n t ++ drop n (replicate low_counts 0)) j 0 ≡ get_or t j 0
+    here j h =
+        elim (dec_lt j n) [
+          | yes k ↦ get_or-append (take n t) (drop n (replicate low_counts 0)) 0 j (omega (arith, first)) ∙ get_or-take n t j 0 k
+          | no k ↦ get_or-append_right (take n t) (drop n (replicate low_counts 0)) j 0 (omega (arith, first))
+              ∙ get_or-drop n (replicate low_counts 0) (j - length (take n t)) 0 ∙ zeros_at low_counts (n + (j - length (take n t)))
+              ∙ sym (beyond t j (omega arith))
+        ]
+
+    at : (j : ℕ) → j < low_counts → get_or (take n t ++ drop n (replicate low_counts 0)) j 0 ≡ get_or (counts low_counts 0 t) j 0
+    at j h = here j h ∙ sym (counts_at low_counts 0 t j h ∙ ap (λ m. get_or t m 0) (omega arith))
 
 -- the sums of thousands
 

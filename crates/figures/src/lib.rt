@@ -17,11 +17,7 @@ pub fn sum(t: &[u32]) -> u32
     requires { Small t.now }
     ensures { result ≡ rules.sum t.now }
 {
-    let mut s: u32 = 0;
-    for i in 0..t.len() {
-        s += t[i];
-    }
-    s
+    t.iter().sum()
 }
 
 // The sum divided by the average's divisor: its conversion to binary32 is exact, so the quotient is rounded once.
@@ -38,8 +34,8 @@ pub fn median(t: &[u32], all: u32) -> u32
     ensures { result ≡ rules.median t.now }
 {
     let mut running: u32 = 0;
-    for i in 0..t.len() {
-        running += t[i];
+    for (i, x) in t.iter().enumerate() {
+        running += *x;
         if all <= 2 * running {
             return i as u32;
         }
@@ -52,11 +48,8 @@ pub fn low_counts(t: &[u32]) -> [u32; rules::LOW_COUNTS]
     ensures { result ≡ rules.counts low_counts 0 t.now }
 {
     let mut low = [0u32; rules::LOW_COUNTS];
-    for i in 0..rules::LOW_COUNTS {
-        if i < t.len() {
-            low[i] = t[i];
-        }
-    }
+    let n = t.len().min(rules::LOW_COUNTS);
+    low[..n].copy_from_slice(&t[..n]);
     low
 }
 
@@ -66,9 +59,8 @@ pub fn thousands(t: &[u32]) -> [u32; rules::SUMS_OF_THOUSANDS]
     ensures { result ≡ rules.thousands sums_of_thousands 0 t.now }
 {
     let mut sums = [0u32; rules::SUMS_OF_THOUSANDS];
-    for i in 0..t.len() {
-        let k = i / 1000;
-        sums[k] = sums[k] + t[i];
+    for (i, x) in t.iter().enumerate() {
+        sums[i / 1000] += *x;
     }
     sums
 }

@@ -2,57 +2,34 @@
 // the same promise. A refused call leaves session and storage as they were.
 #![tactic(auto)]
 
-ghost use Rattle.std.specs.Prelude.{◌≡◌};
+ghost use Rattle.rules.specs.Answer.{number};
 ghost use Rattle.rules.specs.Calls.{flush as flush_call};
-ghost use Rattle.session.specs.Storage.{given, across};
-ghost use Rattle.summary.specs.Figured.{figured};
+ghost use Rattle.session.specs.Slices.{contents, SameSlices};
 ghost use Rattle.admitting.specs.Promise.{Asks, Called};
 ghost use Rattle.sorter.specs.FinalWork.{Concludes};
+ghost use Rattle.sorter.specs.Finishing.{figures_told};
 
-use session::Session;
-use sorter::Finished;
+use rules::Refusal;
+use session::{Session, Storage};
+use summary::Summary;
 
-// Flushes: the call's number.
-pub fn flush(
-    s: &mut Session,
-    spans: &mut [u32],
-    order: &mut [u32],
-    tally: &mut [u32],
-    rows: &mut [u32],
-    marks: &mut [u16],
-    locations: &mut [u64],
-    waiting: &mut [u64],
-    pool: &mut [u32],
-) -> u64
-    requires { Asks s.old (given spans order tally rows marks locations waiting pool) }
-    ensures { across spans order tally rows marks locations waiting pool (λ σ τ. Called flush_call result s.old s.new σ τ) }
+// Flushes.
+pub fn flush(s: &mut Session, storage: &mut Storage) -> Result<(), Refusal>
+    requires { Asks s.old (contents storage.old) }
+    ensures called { Called flush_call (number result) s.old s.new (contents storage.old) (contents storage.new) }
+    ensures same { SameSlices storage.old storage.new }
 {
-    let a = sorter::flush(
-        *s, spans, order, tally, rows, marks, locations, waiting, pool,
-    );
-    *s = a.session;
-    a.number
+    *s = sorter::flush(*s, storage)?;
+    Ok(())
 }
 
-// Flushes, closes and sums up: the number, the summary, and the session once more.
-pub fn finish(
-    s: &mut Session,
-    spans: &mut [u32],
-    order: &mut [u32],
-    tally: &mut [u32],
-    rows: &mut [u32],
-    marks: &mut [u16],
-    locations: &mut [u64],
-    waiting: &mut [u64],
-    pool: &mut [u32],
-) -> Finished
-    requires { Asks s.old (given spans order tally rows marks locations waiting pool) }
-    ensures { (across spans order tally rows marks locations waiting pool (λ σ τ. Concludes result.number s.old s.new σ τ (figured result.summary)))
-        × (result.session ≡ s.new) }
+// Flushes, closes and sums up.
+pub fn finish(s: &mut Session, storage: &mut Storage) -> Result<Summary, Refusal>
+    requires { Asks s.old (contents storage.old) }
+    ensures concludes { Concludes (number result) s.old s.new (contents storage.old) (contents storage.new) (figures_told result) }
+    ensures same { SameSlices storage.old storage.new }
 {
-    let a = sorter::finish(
-        *s, spans, order, tally, rows, marks, locations, waiting, pool,
-    );
+    let a = sorter::finish(*s, storage)?;
     *s = a.session;
-    a
+    Ok(a.summary)
 }

@@ -6,7 +6,8 @@ ghost use Rattle.flushing.specs.Released.{MayRelease, Releases};
 
 use buffer::Guide;
 
-// Releases all 32 spans, with rows and written.
+// Releases all 32 spans, with rows and written. By four slices, which the storages of both kinds of session have: a
+// struct of its own for them would be built at each call, and is no plainer.
 pub fn release_all(
     g: Guide,
     spans: &[u32],

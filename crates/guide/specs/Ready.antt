@@ -2,10 +2,13 @@
 -- code make of it. Assumes nothing.
 use Rattle.std.specs.Prelude.{◌≡◌, refl, List, Bool, true, false, ℕ, ◌+◌, ◌≤◌, ◌<◌, length}
 use Rattle.std.proofs.Math.Option.{Option, some, none}
+use Rattle.std.specs.Prelude.{Option as Given}
 use Rattle.std.proofs.Common.{arith}
 use Rattle.rules.specs.Limits.{last_span_limit}
 use Rattle.rules.specs.Guide.{Loc, Guide as GuideModel, held}
 use Rattle.laws.specs.GuideInv.{Later}
+use Rattle.window.specs.declared.Location.{Location}
+use Rattle.window.specs.Location.{has, span_of, pos_of}
 use Rattle.buffer.specs.declared.Guide.{Guide}
 use Rattle.buffer.specs.View.{length_of, number_of, view}
 use Rattle.placing.specs.Stands.{Stands}
@@ -27,6 +30,10 @@ Near b after = (l : Loc) → after ≡ some l → l.span ≤ b.first + 31
 unfoldable pub after_of : Bool → ℕ → ℕ → Option Loc
 after_of true span pos = some (record { span = span; pos = pos })
 after_of false span pos = none
+
+-- the same of a location as the code has it
+abbrev pub loc_of : Given Location → Option Loc
+loc_of after = after_of (has after) (span_of after) (pos_of after)
 
 pub near_code : (b : GuideModel) (has : Bool) (span pos : ℕ) → Near b (after_of has span pos) → has ≡ true → span ≤ b.first + 31
 unfolding after_of

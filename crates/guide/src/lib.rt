@@ -9,7 +9,7 @@ ghost use Rattle.buffer.specs.View.{view};
 ghost use Rattle.placing.specs.Stands.{Stands};
 ghost use Rattle.placing.specs.Done.{Done};
 ghost use Rattle.placing.specs.Slices.{Standing, shown};
-ghost use Rattle.guide.specs.Ready.{Ready, Near, after_of};
+ghost use Rattle.guide.specs.Ready.{Ready, Near, loc_of};
 ghost use Rattle.guide.specs.Pushes.{Lands};
 ghost use Rattle.guide.specs.Fresh.{first_guide};
 
@@ -17,36 +17,22 @@ use buffer::Guide;
 use choice::MatchedSpan;
 use entries::Entry;
 use putting::Pushed;
-use window::Window;
-
-// The numbers and the rows of a fresh window's spans.
-const FIRST_IDS: [u32; window::SPANS] = [
-    0, 1, 2, 3, 4, 5, 6, 7, 8, 9, 10, 11, 12, 13, 14, 15, 16, 17, 18, 19, 20, 21, 22, 23, 24, 25,
-    26, 27, 28, 29, 30, 31,
-];
-
-const FIRST_ROWS: [u8; window::SPANS] = [
-    0, 1, 2, 3, 4, 5, 6, 7, 8, 9, 10, 11, 12, 13, 14, 15, 16, 17, 18, 19, 20, 21, 22, 23, 24, 25,
-    26, 27, 28, 29, 30, 31,
-];
+use std::array;
+use window::{Location, Window};
 
 // The window at the start: spans 0 to 31, all empty, span i in row i.
 pub fn fresh(p: u32, v: u32) -> Guide
     ensures { result ≡ first_guide p v }
 {
-    let ids = FIRST_IDS;
-    let lens = [0u16; window::SPANS];
-    let rows = FIRST_ROWS;
-    let w = Window {
-        ids: ids,
-        lens: lens,
-        rows: rows,
-    };
     Guide {
         held: 0,
-        window: w,
-        p: p,
-        v: v,
+        window: Window {
+            ids: array::from_fn(|i| i as u32),
+            lens: [0; window::SPANS],
+            rows: array::from_fn(|i| i as u8),
+        },
+        p,
+        v,
         written: 0,
     }
 }
@@ -57,25 +43,17 @@ pub fn push(
     spans: &mut [u32],
     order: &mut [u32],
     tally: &mut [u32],
-    has: bool,
-    span: u32,
-    pos: u32,
+    after: Option<Location>,
     e: Entry,
 ) -> Pushed
     requires standing { Standing g spans order tally }
     requires ready { Ready g.p g.v (shown g spans order) }
-    requires near { Near (shown g spans order) (after_of has span pos) }
-    ensures { Lands g result.guide spans order tally (after_of has span pos) (item_of e) result.span result.pos }
+    requires near { Near (shown g spans order) (loc_of after) }
+    ensures { Lands g result.guide spans order tally (loc_of after) (item_of e) result.at.span result.at.pos }
 {
-    let w = g.window;
-    let m = choice::choose(w.ids[0], w.lens, g.p, has, span, pos);
-    match m {
-        MatchedSpan::Existing(i) => {
-            return putting::place_existing(g, spans, order, tally, i, e);
-        }
-        MatchedSpan::New(n) => {
-            return putting::place_opened(g, spans, order, tally, n, e);
-        }
+    match choice::choose(g.window.ids[0], g.window.lens, g.p, after) {
+        MatchedSpan::Existing(i) => putting::place_existing(g, spans, order, tally, i, e),
+        MatchedSpan::New(n) => putting::place_opened(g, spans, order, tally, n, e),
     }
 }
 

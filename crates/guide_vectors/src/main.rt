@@ -3,130 +3,71 @@
 // The file stdin holds the worked placements G1 to G5 and W1 to W6 and kept lists, stdout the Rust's answers to them.
 #![tactic(auto)]
 
-ghost use Rattle.std.specs.Prelude.{◌≡◌, ◌+◌, ◌*◌, ◌^◌, ◌≤◌, ◌<◌, length, IfOk};
+ghost use Rattle.std.specs.Prelude.{◌*◌, ◌≤◌, length};
 
 use std::io;
-use std::io::{Read, Stdin, Stdout, Write};
+use std::io::{Stdout, Write};
 
-// How many numbers are read, and how many requests a list may have.
+// How many numbers are read, and how many bytes they have.
 const WORDS: usize = 65536;
 
+const WORD_BYTES: usize = 4;
+
+const BYTES: usize = WORD_BYTES * WORDS;
+
+// How many requests a list may have.
 const REQUESTS: usize = 128;
+
+const REQUEST: usize = alone_list::REQUEST_SIZE;
+
+const ANSWER: usize = alone_list::ANSWER_SIZE;
 
 // The lengths of the storage that a list is run in.
 const SPANS: usize = entries::SIZE * window::SPANS * (rules::JOB_PARALLELISM + 1);
 
-const ORDER: usize = entries::SIZE * rules::JOB_PLACES;
+const ENTRY: usize = entries::SIZE;
+
+const ORDER: usize = ENTRY * rules::JOB_PLACES;
 
 const TALLY: usize = rules::JOB_PARALLELISM + 1;
 
-const ANSWERS: usize = alone_list::ANSWER_SIZE * REQUESTS;
+const ANSWERS: usize = ANSWER * REQUESTS;
 
-fn size(x: u32) -> usize
-    ensures { result ≡ x }
-{
-    x as usize
-}
-
-fn wide(x: u8) -> u32
-    ensures { result ≤ 255 }
-{
-    x as u32
-}
-
-// The byte at i, 0 past the end.
-fn byte(input: &[u8], i: usize) -> u32
-    ensures { result ≤ 255 }
-{
-    if i < input.len() {
-        return wide(input[i]);
-    }
-    0
-}
-
-// The bytes of a number.
-const NUMBER_BYTES: usize = 4;
-
-// The number at index k.
-fn number(input: &[u8], k: usize) -> u32
-    requires { k < 65536 }
-{
-    let i = NUMBER_BYTES * k;
-    let low = byte(input, i) + 256 * byte(input, i + 1);
-    let high = 65536 * byte(input, i + 2) + 16777216 * byte(input, i + 3);
-    low + high
-}
-
-// A line of four numbers.
-fn show_line(out: &mut Stdout, a: u32, b: u32, c: u32, d: u32) -> io::Result<()> {
-    writeln!(out, "{a} {b} {c} {d}")
-}
-
-// The line of the answer from i on: the number, the location, the order's length.
-fn show_answer(out: &mut Stdout, answers: &[u32], i: usize) -> io::Result<()>
-    requires { i < 2 ^ 32 }
-{
-    if i + 4 <= answers.len() {
-        show_line(
-            out,
-            answers[i],
-            answers[i + 1],
-            answers[i + 2],
-            answers[i + 3],
-        )?;
+// A line for each answer: the number, the location, the order's length.
+fn show_answers(out: &mut Stdout, answers: &[[u32; ANSWER]]) -> io::Result<()> {
+    for [number, span, pos, written, ..] in answers {
+        writeln!(out, "{number} {span} {pos} {written}")?;
     }
     Ok(())
 }
 
-// A line for each of n answers.
-fn show_answers(out: &mut Stdout, answers: &[u32], n: usize) -> io::Result<()>
-    requires { n < 65536 }
-{
-    for k in 0..n {
-        show_answer(out, answers, alone_list::ANSWER_SIZE * k)?;
-    }
-    Ok(())
-}
-
-// A line for each of n entries: value, added, accepted, and parallelism with the lane, which is 0.
-fn show_order(out: &mut Stdout, order: &[u32], n: usize) -> io::Result<()> {
-    for k in 0..n {
-        if k < entries::capacity(order) {
-            let e = entries::load(order, k);
-            show_line(
-                out,
-                e.value,
-                e.added,
-                e.accepted,
-                entries::packed(e.parallelism, e.lane),
-            )?;
-        }
+// A line for each entry: value, added, accepted, and parallelism with the lane, which is 0.
+fn show_order(out: &mut Stdout, order: &[[u32; ENTRY]]) -> io::Result<()> {
+    for [value, added, accepted, parallelism] in order {
+        writeln!(out, "{value} {added} {accepted} {parallelism}")?;
     }
     Ok(())
 }
 
 // The counts on one line.
-fn show_counts(out: &mut Stdout, tally: &[u32], n: usize) -> io::Result<()> {
-    for k in 0..n {
-        if k < tally.len() {
-            let count = tally[k];
-            write!(out, "{count} ")?;
-        }
+fn show_counts(out: &mut Stdout, tally: &[u32]) -> io::Result<()> {
+    for count in tally {
+        write!(out, "{count} ")?;
     }
     writeln!(out)
 }
 
-// n requests, run on a fresh guide: the opening's number, the answers, the order and the tally.
-fn run_list(out: &mut Stdout, p: u32, v: u32, requests: &[u32], n: usize) -> io::Result<()>
-    requires { n ≤ 128 }
+// The requests, run on a fresh guide: the opening's number, the answers, the order and the tally.
+fn run_list(out: &mut Stdout, p: u32, v: u32, requests: &[u32]) -> io::Result<()>
+    requires { length requests.now ≤ REQUEST * REQUESTS }
 {
     let mut spans = [0u32; SPANS];
     let mut order = [0u32; ORDER];
     let mut tally = [7u32; TALLY];
     let mut answers = [0u32; ANSWERS];
     let number = alone_replay::guide_replay(
-        p as u64,
-        v as u64,
+        u64::from(p),
+        u64::from(v),
         requests,
         &mut spans,
         &mut order,
@@ -134,90 +75,58 @@ fn run_list(out: &mut Stdout, p: u32, v: u32, requests: &[u32], n: usize) -> io:
         &mut answers,
     );
     writeln!(out, "{number}")?;
-    show_answers(out, &answers, n)?;
-    if 0 < n {
-        let last = alone_list::ANSWER_SIZE * (n - 1) + 3;
-        let written = size(answers[last]);
-        if written < rules::JOB_PLACES {
-            show_order(out, &order, written)?;
+    let (answers, _) = answers.as_chunks::<ANSWER>();
+    let answers = &answers[..requests.len() / REQUEST];
+    show_answers(out, answers)?;
+    if let Some([_, _, _, written, ..]) = answers.last() {
+        let (order, _) = order.as_chunks::<ENTRY>();
+        let written = *written as usize;
+        if written < order.len() {
+            show_order(out, &order[..written])?;
         }
     }
-    show_counts(out, &tally, size(p) + 1)
+    let counts = tally.len().min(p as usize + 1);
+    show_counts(out, &tally[..counts])
 }
 
-// The list at index `at`, and where the next one begins; 0 at the end.
-fn next_list(out: &mut Stdout, words: &[u32], at: usize) -> io::Result<usize>
-    requires { at ≤ 65536 }
-    ensures { IfOk result (λ next. next ≤ 65536) }
-{
-    if words.len() < at + 3 {
-        return Ok(0);
+// The first list of the numbers is run. What follows it, or nothing at the end.
+fn next_list<'a>(out: &mut Stdout, words: &'a [u32]) -> io::Result<Option<&'a [u32]>> {
+    let [p, v, n, rest @ ..] = words else {
+        return Ok(None);
+    };
+    let n = *n as usize;
+    if *p == 0 || REQUESTS < n || rest.len() < REQUEST * n {
+        return Ok(None);
     }
-    let p = words[at];
-    let v = words[at + 1];
-    let n = size(words[at + 2]);
-    if p == 0 {
-        return Ok(0);
-    }
-    if REQUESTS < n {
-        return Ok(0);
-    }
-    let from = at + 3;
-    let to = from + alone_list::REQUEST_SIZE * n;
-    if words.len() < to {
-        return Ok(0);
-    }
-    if WORDS < to {
-        return Ok(0);
-    }
-    run_list(out, p, v, &words[from..to], n)?;
-    Ok(to)
-}
-
-fn put_word(words: &mut [u32], k: usize, x: u32) {
-    if k < words.len() {
-        words[k] = x;
-    }
+    let (requests, rest) = rest.split_at(REQUEST * n);
+    run_list(out, *p, *v, requests)?;
+    Ok(Some(rest))
 }
 
 // The numbers of the input.
 fn read_words(input: &[u8], words: &mut [u32]) {
-    for k in 0..WORDS {
-        put_word(words, k, number(input, k));
+    let (numbers, _) = input.as_chunks::<WORD_BYTES>();
+    for (word, bytes) in words.iter_mut().zip(numbers) {
+        *word = u32::from_le_bytes(*bytes);
     }
 }
 
 // All lists, at most 256.
 fn run_all(out: &mut Stdout, words: &[u32]) -> io::Result<()> {
-    let mut at: usize = 0;
-    for i in 0..256u32 {
-        at = next_list(out, words, at)?;
-        if at == 0 {
+    let mut words = words;
+    for _ in 0..256 {
+        let Some(rest) = next_list(out, words)? else {
             return Ok(());
-        }
+        };
+        words = rest;
     }
     Ok(())
 }
 
-// Reads to the end of the input, or until the room is full; so many bytes were read.
-fn read_full(stdin: &mut Stdin, input: &mut [u8]) -> io::Result<usize>
-    ensures { IfOk result (λ n. n ≤ length input.old) }
-{
-    let mut done = 0;
-    while done < input.len() {
-        let more = stdin.read(&mut input[done..])?;
-        if more == 0 {
-            return Ok(done);
-        }
-        done += more;
-    }
-    Ok(done)
-}
-
 fn main(rt: HostRuntime) -> io::Result<()> {
-    let mut input = [0u8; 262144];
-    let n = read_full(&mut rt.stdin(), &mut input)?;
-    let mut words = [0u32; 65536];
-    read_words(&input[..n], &mut words);
+    let mut input = [0u8; BYTES];
+    let _ = job_input::read_job(&mut rt.stdin(), &mut input)?;
+    let mut words = [0u32; WORDS];
+    read_words(&input, &mut words);
     run_all(&mut rt.stdout(), &words)
 }

@@ -24,16 +24,15 @@ use Rattle.session.specs.Rep.{Rep}
 use Rattle.opening.specs.Opened.{Opens, enough_of, first_session}
 use Rattle.jobcalls.specs.Told.{HeadRead}
 use Rattle.jobcalls.specs.Runs.{Run, whole_run, opens, head_runs}
-use Rattle.jobcalls.specs.declared.Head.{Head}
-use Rattle.jobcalls.specs.declared.Head.TheVariants as head
-use Rattle.jobturn.specs.declared.Step.{Step}
-use Rattle.jobturn.specs.declared.Step.TheVariants as step'
+use Rattle.jobcalls.specs.Head.{Head}
+use Rattle.jobcalls.specs.Head as head
+use Rattle.jobturn.specs.Steps.{Step}
+use Rattle.jobturn.specs.Steps as step'
 use Rattle.jobturn.specs.Turned.{remains, StandsFor, Refuses, Surplus, Turned, MayTurn}
 use Rattle.jobturn.specs.declared.EndFigures.{EndFigures}
-use Rattle.jobturn.specs.declared.End.{End}
-use Rattle.jobturn.specs.declared.End.TheVariants as end
-use Rattle.job.specs.declared.Ended.{Ended}
-use Rattle.job.specs.Run.{StandsReached, Left, Refused, Tells, MayRun, outcome_as, Stopped, Runs, unopened_at, Room, Ran}
+use Rattle.jobturn.specs.Ends.{End}
+use Rattle.jobturn.specs.Ends as end
+use Rattle.job.specs.Run.{StandsReached, Left, Refused, Tells, MayRun, outcome_as, Stopped, Runs, Ended, unopened_at, Room, Ran}
 
 -- begun with s and σ, the calls up to `at` lead to a model, for which what remains is what remained at the start
 pub record Going (P N W : ℕ) (s : Session) (σ : Storage) (job : List ℕ) (start : ℕ) (s' : Session) (σ' : Storage) (at n : ℕ) : Type 0 where
@@ -160,36 +159,6 @@ module _ {s : Session} {σ : Storage} {job : List ℕ} {room start : ℕ} (m : M
                 frame = frame_on h t τ f;
                 figures = tt;
               }
-
--- every slice keeps its length
-pub record Lengths (σ τ : Storage) (a b : List ℕ) : Type 0 where
-  pub spans : length τ.spans ≡ length σ.spans
-  pub order : length τ.order ≡ length σ.order
-  pub tally : length τ.tally ≡ length σ.tally
-  pub rows : length τ.rows ≡ length σ.rows
-  pub marks : length τ.marks ≡ length σ.marks
-  pub locations : length τ.locations ≡ length σ.locations
-  pub waiting : length τ.waiting ≡ length σ.waiting
-  pub pool : length τ.pool ≡ length σ.pool
-  pub into : length b ≡ length a
-
-pub lengths_refl : (σ : Storage) (a : List ℕ) → Lengths σ σ a a
-lengths_refl σ a =
-    record { spans = refl; order = refl; tally = refl; rows = refl; marks = refl; locations = refl; waiting = refl; pool = refl; into = refl }
-
-pub lengths_trans : {σ τ υ : Storage} {a b c : List ℕ} → Lengths σ τ a b → Lengths τ υ b c → Lengths σ υ a c
-lengths_trans x y =
-    record {
-      spans = y.spans ∙ x.spans;
-      order = y.order ∙ x.order;
-      tally = y.tally ∙ x.tally;
-      rows = y.rows ∙ x.rows;
-      marks = y.marks ∙ x.marks;
-      locations = y.locations ∙ x.locations;
-      waiting = y.waiting ∙ x.waiting;
-      pool = y.pool ∙ x.pool;
-      into = y.into ∙ x.into;
-    }
 
 -- a job too long, one with a bad head, one that opening refuses, and one that is run
 pub ran_long : (job : List ℕ) (r : Ended) → r ≡ unopened_at 1 refusal.long_job → (σ : Storage) (a : List ℕ) → most_job_bytes < length job
@@ -350,3 +319,33 @@ own_numbers r =
     let c = r.tells in
     let g = c.standing.stands.rep in
     (c.last, (c.reached_is, (g, (g.core.guided.v_is, g.core.guided.p_is))))
+
+-- every slice keeps its length
+pub record Lengths (σ τ : Storage) (a b : List ℕ) : Type 0 where
+  pub spans : length τ.spans ≡ length σ.spans
+  pub order : length τ.order ≡ length σ.order
+  pub tally : length τ.tally ≡ length σ.tally
+  pub rows : length τ.rows ≡ length σ.rows
+  pub marks : length τ.marks ≡ length σ.marks
+  pub locations : length τ.locations ≡ length σ.locations
+  pub waiting : length τ.waiting ≡ length σ.waiting
+  pub pool : length τ.pool ≡ length σ.pool
+  pub into : length b ≡ length a
+
+pub lengths_refl : (σ : Storage) (a : List ℕ) → Lengths σ σ a a
+lengths_refl σ a =
+    record { spans = refl; order = refl; tally = refl; rows = refl; marks = refl; locations = refl; waiting = refl; pool = refl; into = refl }
+
+pub lengths_trans : {σ τ υ : Storage} {a b c : List ℕ} → Lengths σ τ a b → Lengths τ υ b c → Lengths σ υ a c
+lengths_trans x y =
+    record {
+      spans = y.spans ∙ x.spans;
+      order = y.order ∙ x.order;
+      tally = y.tally ∙ x.tally;
+      rows = y.rows ∙ x.rows;
+      marks = y.marks ∙ x.marks;
+      locations = y.locations ∙ x.locations;
+      waiting = y.waiting ∙ x.waiting;
+      pool = y.pool ∙ x.pool;
+      into = y.into ∙ x.into;
+    }

@@ -16,9 +16,9 @@ use Rattle.opening.specs.Opened.{first_session}
 use Rattle.jobcalls.specs.Runs.{Run}
 use Rattle.jobturn.specs.Turned.{remains, StandsFor, FiguresOf}
 use Rattle.jobturn.specs.declared.EndFigures.{EndFigures}
-use Rattle.jobturn.specs.declared.End.{End}
-use Rattle.jobturn.specs.declared.End.TheVariants as end
-use Rattle.job.specs.declared.Ended.{Ended}
+use Rattle.jobturn.specs.Ends.{End, end_as}
+use Rattle.jobturn.specs.Ends as end
+use Rattle.job.specs.declared.Ended.{Ended as EndedRun}
 
 -- a session and the storage stand for the model that a job reaches, P and V being the numbers of its first two lines, and what lies
 -- beyond the needed lengths, and the order past its length, is as it was lent
@@ -89,6 +89,14 @@ pub record Runs (s : Session) (σ : Storage) (job : List ℕ) (start : ℕ) (e :
   pub tells : (P N : ℕ) → 1 ≤ P → Rep P N initial s σ → Stopped P N (length σ.pool) s s' σ σ' e (remains P N (length σ.pool) job start 3 initial)
   pub low : Low e
   pub into : Beyond (length job / 2 + 4) a b
+
+-- how a job ended, and the session where it stopped
+pub record Ended : Type 0 where
+  pub end : End
+  pub session : Session
+
+abbrev pub ended_as : EndedRun → Ended
+ended_as r = record { end = end_as r.end; session = r.session }
 
 -- refused on line n before a session was opened
 abbrev pub unopened_at : ℕ → ℕ → Ended

@@ -1,31 +1,22 @@
 // A job on standard input, as the programs read it.
 #![tactic(auto)]
 
-ghost use Rattle.std.specs.Prelude.{length};
-ghost use Rattle.job_input.specs.Input.{Within};
+ghost use Rattle.std.specs.Prelude.{◌≤◌, IfOk, length};
 
+use std::io;
 use std::io::Read;
 
-// What was read: so many bytes to the end of the input or of the room, or nothing that can be trusted.
-#[derive(Clone, Copy)]
-pub enum Input {
-    Bytes(usize),
-    Failed,
-}
-
-// Reads to the end of the input, or until `job` is full.
-pub fn read_job<R: Read>(input: &mut R, job: &mut [u8]) -> Input
-    ensures { Within result (length job.old) }
+// Reads to the end of the input, or until `job` is full: so many bytes, or nothing that can be trusted.
+pub fn read_job<R: Read>(input: &mut R, job: &mut [u8]) -> io::Result<usize>
+    ensures { IfOk result (λ n. n ≤ length job.old) }
 {
     let mut done = 0;
     while done < job.len() {
-        let Ok(more) = input.read(&mut job[done..]) else {
-            return Input::Failed;
-        };
+        let more = input.read(&mut job[done..])?;
         if more == 0 {
-            return Input::Bytes(done);
+            break;
         }
         done += more;
     }
-    Input::Bytes(done)
+    Ok(done)
 }

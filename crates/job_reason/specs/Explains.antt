@@ -6,10 +6,10 @@ use Rattle.laws.specs.Accepted.{Code}
 use Rattle.session.specs.declared.Session.{Session}
 use Rattle.session.specs.Storage.{Storage, storage, with_lists}
 use Rattle.explaining.specs.Explaining as explaining
-use Rattle.jobturn.specs.declared.End.{End}
+use Rattle.jobturn.specs.Ends.{End}
 use Rattle.job.specs.Run.{most_lines, Ran}
-use Rattle.job_reason.specs.declared.JobReason.{JobReason}
-use Rattle.job_reason.specs.declared.JobReason.TheVariants as reason
+use Rattle.job_reason.specs.JobReason.{JobReason}
+use Rattle.job_reason.specs.JobReason as reason
 
 -- document 02's answer, for each case of the enum
 abbrev pub job_explained_as : JobReason → JobExplained

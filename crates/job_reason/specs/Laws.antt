@@ -1,10 +1,15 @@
 -- Laws of the answer after a job: where its session is asked, where its refusal is told, and what the program prints. Assumes nothing.
-use Rattle.std.specs.Prelude.{List, ◌≢◌, ◌≡◌, ℕ, length}
+use Rattle.std.specs.Prelude.{List, ◌≢◌, ◌≡◌, refl, ℕ, length}
 use Rattle.std.proofs.Math.Option.{Option}
 use Rattle.std.proofs.Math.Path.{sym, ap, subst}
 use Rattle.std.proofs.Common.{◌∙◌, arith}
 use borrow.Author.Tests.{ne_eqb}
 use Rattle.rules.specs.Refusals as refusal
+use Rattle.rules.specs.Answer.{number_of}
+use Rattle.rules.specs.declared.Refusal.{Refusal}
+use Rattle.rules.specs.declared.Refusal.TheVariants.{OutOfRange, TooShort, TooManyNumbers, FlaggedPlace, UnknownPlace, RepeatedOutput, Closed}
+use Rattle.rules.specs.declared.Refusal.TheVariants.{TakenPlace, TooManyRegistrations, FullPool, TooManyFlushes}
+use Rattle.rules.specs.declared.Refusal.TheVariants.{StillWaiting, NotHeld, GuideExhausted, Malformed, LongJob, LongListing, UnknownLane, NeverAccepted, NotWaiting, ProfileBreach}
 use Rattle.rules.specs.Job.{Outcome, rejected, outcome, Reached, reached}
 use Rattle.rules.specs.Listing.{line, word_status}
 use Rattle.rules.specs.Reason as rule
@@ -13,20 +18,43 @@ use Rattle.laws.specs.JobSession.{waiting_opened}
 use Rattle.session.specs.declared.Session.{Session}
 use Rattle.session.specs.Storage.{Storage, storage}
 use Rattle.writer.specs.Wrote.{Wrote, wrote_then, wrote_in, wrote_whole}
-use Rattle.explaining.specs.Explaining.{explained_as, MayExplain, Explains}
-use Rattle.explaining.specs.declared.Reason.{Reason}
-use Rattle.explaining.specs.declared.Reason.TheVariants as why
-use Rattle.jobturn.specs.declared.End.{End}
-use Rattle.jobturn.specs.declared.End.TheVariants as end
+use Rattle.explaining.specs.Explaining as why
+use Rattle.explaining.specs.Explaining.{Reason, explained_as, MayExplain, Explains}
+use Rattle.jobturn.specs.Ends.{End}
+use Rattle.jobturn.specs.Ends as end
 use Rattle.job.specs.Run.{StandsReached, Left, Ran}
-use Rattle.job_reason.specs.declared.JobReason.{JobReason}
-use Rattle.job_reason.specs.declared.JobReason.TheVariants as reason
+use Rattle.job_reason.specs.JobReason.{JobReason}
+use Rattle.job_reason.specs.JobReason as reason
 use Rattle.job_reason.specs.Explains.{job_explained_as, ExplainsJob, Ended, answer_bytes, Answered}
 
 -- the session is asked of a job that is finished, or refused with 12
 abbrev pub Asked : End → Type 0
 Asked (end.Finished f) = Unit {0}
 Asked (end.Rejected n code) = code ≡ refusal.still_waiting
+
+-- of the refusals only one has that number
+pub only_waiting : (e : Refusal) → number_of e ≡ refusal.still_waiting → e ≡ StillWaiting
+only_waiting OutOfRange h = absurd (omega (arith, h))
+only_waiting TooShort h = absurd (omega (arith, h))
+only_waiting TooManyNumbers h = absurd (omega (arith, h))
+only_waiting FlaggedPlace h = absurd (omega (arith, h))
+only_waiting UnknownPlace h = absurd (omega (arith, h))
+only_waiting RepeatedOutput h = absurd (omega (arith, h))
+only_waiting Closed h = absurd (omega (arith, h))
+only_waiting TakenPlace h = absurd (omega (arith, h))
+only_waiting TooManyRegistrations h = absurd (omega (arith, h))
+only_waiting FullPool h = absurd (omega (arith, h))
+only_waiting TooManyFlushes h = absurd (omega (arith, h))
+only_waiting StillWaiting h = refl
+only_waiting NotHeld h = absurd (omega (arith, h))
+only_waiting GuideExhausted h = absurd (omega (arith, h))
+only_waiting Malformed h = absurd (omega (arith, h))
+only_waiting LongJob h = absurd (omega (arith, h))
+only_waiting LongListing h = absurd (omega (arith, h))
+only_waiting UnknownLane h = absurd (omega (arith, h))
+only_waiting NeverAccepted h = absurd (omega (arith, h))
+only_waiting NotWaiting h = absurd (omega (arith, h))
+only_waiting ProfileBreach h = absurd (omega (arith, h))
 
 -- then it was opened: it stands for the model that the job reaches, and the answer is that model's
 record Stops (job : List ℕ) (s : Session) (σ τ : Storage) : Type 0 where
@@ -81,6 +109,10 @@ module _ {e : End} {s : Session} {job sp o t rs m l w pool a b : List ℕ} {σ :
       let h' = subst (λ (y : End). Ran job y s σ (storage sp o t rs m l w pool) a b) i h in
       let o : job_explained r job ≡ after_job r (rejected n code) (reached job) = ap (λ (x : Outcome). after_job r x (reached job)) h'.tells.is in
       record { is = sym (o ∙ rw (after_job, ne_eqb code refusal.still_waiting q)); small = h'.low }
+
+-- the same of what the bytes end as
+pub wrote_to : {a b c : List ℕ} {at r : ℕ} {t : List ℕ} → Wrote a b at r t → c ≡ b → Wrote a c at r t
+wrote_to {a} {at = at} {r = r} {t = t} w e = subst (λ (l : List ℕ). Wrote a l at r t) (sym e) w
 
 -- what is printed of a reason, and of a number
 pub wrote_reason : {o a b c : List ℕ} {p q r : ℕ} {x : Reason} (input place : ℕ) → x ≡ why.Waits input place

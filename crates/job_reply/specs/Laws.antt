@@ -1,11 +1,11 @@
 -- Laws of the answer to a job: a listing that fits, one that does not, and a refused job. Assumes nothing.
 use mathlib.Core.List.{List, ◌++◌}
-use Rattle.std.specs.Prelude.{◌≡◌, ℕ, ◌+◌, ◌≤◌, ◌<◌}
+use Rattle.std.specs.Prelude.{◌≡◌, ℕ, ◌≤◌, ◌<◌}
 use Rattle.std.proofs.Math.Path.{sym, ap, subst}
 use Rattle.std.proofs.Common.{◌∙◌, drop_at}
 use native.Mathlib.Omega.{arith}
-use Rattle.std.proofs.Math.ListN.{length, take, drop, length-take}
-use Rattle.std.proofs.Math.Seq.{paste, take_at}
+use Rattle.std.proofs.Math.ListN.{length, take, drop, length-take, length-append}
+use Rattle.std.proofs.Math.Seq.{take_at}
 use borrow.Author.Tests.{lt-ltb, le-ltb}
 use Rattle.rules.specs.Model.{Model}
 use Rattle.rules.specs.Refusals as refusal
@@ -18,12 +18,11 @@ use Rattle.session.specs.Storage.{Storage, storage}
 use Rattle.writer.specs.Wrote.{Wrote, wrote_in, wrote_whole}
 use Rattle.report.specs.Report.{Shown, MayReport, Reports}
 use Rattle.jobturn.specs.declared.EndFigures.{EndFigures}
-use Rattle.jobturn.specs.declared.End.{End}
-use Rattle.jobturn.specs.declared.End.TheVariants as end
+use Rattle.jobturn.specs.Ends.{End}
+use Rattle.jobturn.specs.Ends as end
 use Rattle.job.specs.Run.{Closed, Ran}
-use Rattle.job_reply.specs.declared.Reply.{Reply}
-use Rattle.job_reply.specs.declared.Reply.TheVariants as reply
-use Rattle.job_reply.specs.Reply.{reply_as, Replied, Answered}
+use Rattle.job_reply.specs.Reply as reply
+use Rattle.job_reply.specs.Reply.{Reply, reply_as, Replied, Answered}
 
 -- a job that was refused
 pub replied_refused : (job bytes : List ℕ) (n code : ℕ) (x : End) {s : Session} {σ σ' : Storage} {a b : List ℕ} → Ran job x s σ σ' a b → x ≡ end.Rejected n code
@@ -95,17 +94,16 @@ module _ {job : List ℕ} {figures : EndFigures} {x : End} {s : Session} {sp o t
         let q : rule.reply (length bytes) job ≡ rule.refused 1 refusal.long_listing = replies bytes ∙ rw (fit, lt-ltb (length bytes) (length text) (omega (arith, size))) in
         record { is = sym q; bytes = sym (ap (λ (y : rule.Reply). rule.bytes_after y bytes) q); small = (omega arith, omega arith) }
 
-    pub replied_listed : (bytes exit : List ℕ) → n ≤ length bytes → exit ≡ paste bytes 0 page n → length exit ≡ length bytes → Replied job bytes exit (reply.Listed n)
+    pub replied_listed : (bytes exit : List ℕ) → n ≤ length bytes → exit ≡ take n page ++ drop n bytes → Replied job bytes exit (reply.Listed n)
     unfolding fit rule.bytes_after
-    replied_listed bytes exit h c same =
+    replied_listed bytes exit h c =
         let q : rule.reply (length bytes) job ≡ rule.listed text = replies bytes ∙ rw (fit, le-ltb (length bytes) (length text) (omega (arith, size))) in
-        let z : 0 + n ≡ n = omega arith in
-        let f : exit ≡ text ++ drop n bytes = c ∙ ap (λ (y : List ℕ). y ++ drop (0 + n) bytes) text_is ∙ ap (λ (i : ℕ). text ++ drop i bytes) z in
+        let f : exit ≡ text ++ drop n bytes = c ∙ ap (λ (y : List ℕ). y ++ drop n bytes) text_is in
         let g : take n exit ≡ text = ap (take n) f ∙ take_at text (drop n bytes) n (sym size) in
         record {
           is = ap rule.listed g ∙ sym q;
           bytes = f ∙ ap (λ (i : ℕ). text ++ drop i bytes) size ∙ sym (ap (λ (y : rule.Reply). rule.bytes_after y bytes) q);
-          small = (omega (arith, same), n_low);
+          small = (omega (arith, size, ap length f, length-append text (drop n bytes)), n_low);
         }
 
 -- what the program prints

@@ -2,6 +2,7 @@
 use Rattle.std.specs.Prelude.{Bool, true, false, ◌⊎◌}
 use mathlib.Core.List.{List, [], ◌∷◌}
 use Rattle.std.proofs.Math.Logic.{inl, inr}
+use Rattle.std.specs.Prelude.{Option as Answer, Some, None}
 use Rattle.std.proofs.Math.Option.{Option, some, none}
 use Rattle.std.proofs.Math.Path.{◌≡◌, refl, sym, ap}
 use Rattle.std.proofs.Common.{◌∙◌, subst, add-one, length-take, length-drop, take-take}
@@ -22,13 +23,13 @@ use Rattle.jobline.specs.Lines.{line_as, listed, LineRead}
 use Rattle.jobcalls.specs.Told.{first_line, other_lines, LineAt, FirstCall, found, malformed, added, after_lane, started, first_call, Follows, NextCall, Begins, AddRead}
 use Rattle.jobcalls.specs.Told.{heading_2, heading_1, heading, HeadRead}
 use Rattle.jobcalls.specs.declared.Call.TheVariants as call
-use Rattle.jobcalls.specs.declared.Next.{Next}
-use Rattle.jobcalls.specs.declared.Next.TheVariants as next
-use Rattle.jobcalls.specs.declared.Head.TheVariants as head
+use Rattle.jobcalls.specs.Next.{Next}
+use Rattle.jobcalls.specs.Next as next
+use Rattle.jobcalls.specs.Head as head
 
 -- the line that ends at e, or that nothing ends
 module _ (s into : List ℕ) (at off e : ℕ) (inside : at ≤ length s) (half : 2 * off + length s ≤ 2 * length into + at) (found' : e ≡ at + before 10 (drop at s)) where
-  pub line_missing : e ≡ length s → LineAt s at into into off line.Malformed at
+  pub line_missing : e ≡ length s → LineAt s at into into off None at
   unfolding lines first_line other_lines
   line_missing d =
       let n : lines (drop at s) ≡ [] = lines_last [] (drop at s) (rw (length-drop at s) (omega (arith, d, found'))) in
@@ -37,7 +38,7 @@ module _ (s into : List ℕ) (at off e : ℕ) (inside : at ≤ length s) (half :
   pub line_end : (e ≡ length s → ⊥) → e < length s
   line_end d = omega (arith, d, found', simp length-drop at (before_le 10 (drop at s)))
 
-  pub line_found : (exit : List ℕ) (l : Line) → (e ≡ length s → ⊥) → LineRead into exit off (take (e - at) (drop at s)) l → LineAt s at into exit off l (e + 1)
+  pub line_found : (exit : List ℕ) (l : Answer Line) → (e ≡ length s → ⊥) → LineRead into exit off (take (e - at) (drop at s)) l → LineAt s at into exit off l (e + 1)
   unfolding lines first_line other_lines
   line_found exit l d r =
       let lt : before 10 (drop at s) < length (drop at s) = rw (length-drop at s) (omega (arith, line_end d, found')) in
@@ -62,15 +63,15 @@ module _ (s into : List ℕ) (at off e : ℕ) (inside : at ≤ length s) (half :
       }
 
 -- a line by what is told of it
-pub told_as : {s entry exit : List ℕ} {at off after : ℕ} {l m : Line} → LineAt s at entry exit off l after → l ≡ m → LineAt s at entry exit off m after
-told_as {s} {entry} {exit} {at} {off} {after} a e = subst (λ (x : Line). LineAt s at entry exit off x after) e a
+pub told_as : {s entry exit : List ℕ} {at off after : ℕ} {l m : Answer Line} → LineAt s at entry exit off l after → l ≡ m → LineAt s at entry exit off m after
+told_as {s} {entry} {exit} {at} {off} {after} a e = subst (λ (x : Answer Line). LineAt s at entry exit off x after) e a
 
 -- a line that is not malformed: how far it reaches, and what it has left alone
-module _ {s entry exit : List ℕ} {at off after : ℕ} {l : Line} (a : LineAt s at entry exit off l after) (well : l ≡ line.Malformed → ⊥) where
+module _ {s entry exit : List ℕ} {at off after : ℕ} {l : Answer Line} (a : LineAt s at entry exit off l after) (well : l ≡ None → ⊥) where
   reaches : at + 2 * listed l + 1 ≤ after
   reaches = go a.past
     where
-      go : (l ≡ line.Malformed) ⊎ (at + 2 * listed l + 1 ≤ after) → at + 2 * listed l + 1 ≤ after
+      go : (l ≡ None) ⊎ (at + 2 * listed l + 1 ≤ after) → at + 2 * listed l + 1 ≤ after
       go (inl e) = absurd (well e)
       go (inr h) = h
 
@@ -79,54 +80,54 @@ module _ {s entry exit : List ℕ} {at off after : ℕ} {l : Line} (a : LineAt s
 
 module _ {s entry read : List ℕ} {at after : ℕ} where
   -- the first call, with the first line read
-  starts_with : (n : ℕ) {l : Line} → LineAt s at entry read 0 l after → first_call n (lines (drop at s)) ≡ started n (line_as l read) (lines (drop after s))
+  starts_with : (n : ℕ) {l : Answer Line} → LineAt s at entry read 0 l after → first_call n (lines (drop at s)) ≡ started n (line_as l read) (lines (drop after s))
   unfolding first_call
   starts_with n {l} a =
       ap (λ (x : rule.Line). started n x (other_lines (lines (drop at s)))) (sym a.reads) ∙ ap (started n (line_as l read)) (sym a.others)
 
-  beyond : (j : ℕ) → length s / 2 ≤ j → {l : Line} → LineAt s at entry read 0 l after → drop j read ≡ drop j entry
+  beyond : (j : ℕ) → length s / 2 ≤ j → {l : Answer Line} → LineAt s at entry read 0 l after → drop j read ≡ drop j entry
   beyond j h a = drop_past (0 + (length s - at) / 2) j read entry (omega arith) a.into_beyond
 
-  call_beyond : {l : Line} → LineAt s at entry read 0 l after → drop (length s / 2 + 1) read ≡ drop (length s / 2 + 1) entry
+  call_beyond : {l : Answer Line} → LineAt s at entry read 0 l after → drop (length s / 2 + 1) read ≡ drop (length s / 2 + 1) entry
   call_beyond a = beyond (length s / 2 + 1) (omega arith) a
 
-  head_beyond : {l : Line} → LineAt s at entry read 0 l after → drop (length s / 2) read ≡ drop (length s / 2) entry
+  head_beyond : {l : Answer Line} → LineAt s at entry read 0 l after → drop (length s / 2) read ≡ drop (length s / 2) entry
   head_beyond a = beyond (length s / 2) (omega arith) a
 
   -- a call of one line, whose line has no list
-  module _ (n : ℕ) {l : Line} (a : LineAt s at entry read 0 l after) (well : l ≡ line.Malformed → ⊥) (bare : listed l ≡ 0) where
+  module _ (n : ℕ) {l : Answer Line} (a : LineAt s at entry read 0 l after) (well : l ≡ None → ⊥) (bare : listed l ≡ 0) where
     one_follows : Follows s at n n after
     one_follows = record { end = a.end; within = a.within; past = omega (arith, reaches a well) }
 
     one_keeps : read ≡ entry
     one_keeps = keeps_past a well 0 (omega (arith, bare))
 
-  pub a_set : (n x : ℕ) → LineAt s at entry read 0 (line.Set x) after → NextCall s at n entry read (next.Call (call.Set x) n after)
+  pub a_set : (n x : ℕ) → LineAt s at entry read 0 (Some (line.Set x)) after → NextCall s at n entry read (next.Call (call.Set x) n after)
   unfolding started
   a_set n x a =
-      let well : line.Set x ≡ line.Malformed → ⊥ = λ e. let z : ◌≡◌ {A = ℕ} 0 1 = cc in omega arith in
+      let well : Some (line.Set x) ≡ None → ⊥ = λ e. let z : ◌≡◌ {A = ℕ} 0 1 = cc in omega arith in
       record { is = starts_with n a; next = one_follows n a well refl; into = (omega arith, one_keeps n a well refl); listed = omega arith; into_beyond = call_beyond a }
 
-  pub a_flush : (n : ℕ) → LineAt s at entry read 0 line.Flush after → NextCall s at n entry read (next.Call call.Flush n after)
+  pub a_flush : (n : ℕ) → LineAt s at entry read 0 (Some line.Flush) after → NextCall s at n entry read (next.Call call.Flush n after)
   unfolding started
   a_flush n a =
-      let well : line.Flush ≡ line.Malformed → ⊥ = λ e. let z : ◌≡◌ {A = ℕ} 0 1 = cc in omega arith in
+      let well : Some line.Flush ≡ None → ⊥ = λ e. let z : ◌≡◌ {A = ℕ} 0 1 = cc in omega arith in
       record { is = starts_with n a; next = one_follows n a well refl; into = (omega arith, one_keeps n a well refl); listed = omega arith; into_beyond = call_beyond a }
 
-  pub a_final : (n : ℕ) → LineAt s at entry read 0 line.Final after → NextCall s at n entry read (next.Final n after)
+  pub a_final : (n : ℕ) → LineAt s at entry read 0 (Some line.Final) after → NextCall s at n entry read (next.Final n after)
   unfolding started
   a_final n a =
-      let well : line.Final ≡ line.Malformed → ⊥ = λ e. let z : ◌≡◌ {A = ℕ} 0 1 = cc in omega arith in
+      let well : Some line.Final ≡ None → ⊥ = λ e. let z : ◌≡◌ {A = ℕ} 0 1 = cc in omega arith in
       record { is = starts_with n a; next = one_follows n a well refl; into = one_keeps n a well refl; listed = tt; into_beyond = call_beyond a }
 
   -- a line with which no call starts
-  pub no_start : (n : ℕ) {l : Line} → ((r : List ℕ) → rule.start_of (line_as l r) ≡ none) → LineAt s at entry read 0 l after → NextCall s at n entry read (next.Malformed n)
+  pub no_start : (n : ℕ) {l : Answer Line} → ((r : List ℕ) → rule.start_of (line_as l r) ≡ none) → LineAt s at entry read 0 l after → NextCall s at n entry read (next.Malformed n)
   unfolding started
   no_start n e a = record { is = starts_with n a ∙ rw (started, e read); next = tt; into = tt; listed = tt; into_beyond = call_beyond a }
 
 -- an add begins with its i inputs
-module _ {s entry mid : List ℕ} {at after : ℕ} (i : ℕ) (a : LineAt s at entry mid 0 (line.Inputs i) after) where
-  well_in : line.Inputs i ≡ line.Malformed → ⊥
+module _ {s entry mid : List ℕ} {at after : ℕ} (i : ℕ) (a : LineAt s at entry mid 0 (Some (line.Inputs i)) after) where
+  well_in : Some (line.Inputs i) ≡ None → ⊥
   well_in e = let z : ◌≡◌ {A = ℕ} 0 1 = cc in omega arith
 
   -- what reading its last line asks
@@ -144,14 +145,14 @@ module _ {s entry mid : List ℕ} {at after : ℕ} (i : ℕ) (a : LineAt s at en
       }
 
 -- an add begins with its lane: then its inputs must come
-module _ {s entry mid : List ℕ} {at after : ℕ} (lane : ℕ) (a : LineAt s at entry mid 0 (line.Lane lane) after) where
-  well_lane : line.Lane lane ≡ line.Malformed → ⊥
+module _ {s entry mid : List ℕ} {at after : ℕ} (lane : ℕ) (a : LineAt s at entry mid 0 (Some (line.Lane lane)) after) where
+  well_lane : Some (line.Lane lane) ≡ None → ⊥
   well_lane e = let z : ◌≡◌ {A = ℕ} 0 1 = cc in omega arith
 
   lane_keeps : mid ≡ entry
   lane_keeps = keeps_past a well_lane 0 (omega arith)
 
-  module _ (n : ℕ) {read : List ℕ} {end : ℕ} {m : Line} (b : LineAt s after mid read 0 m end) where
+  module _ (n : ℕ) {read : List ℕ} {end : ℕ} {m : Answer Line} (b : LineAt s after mid read 0 m end) where
     goes_with : first_call n (lines (drop at s)) ≡ after_lane (n + 1) lane (line_as m read) (lines (drop end s))
     unfolding started
     goes_with =
@@ -163,7 +164,7 @@ module _ {s entry mid : List ℕ} {at after : ℕ} (lane : ℕ) (a : LineAt s at
     unfolding after_lane
     no_inputs e = record { is = goes_with ∙ rw (after_lane, e read); next = tt; into = tt; listed = tt; into_beyond = call_beyond b ∙ ap (drop (length s / 2 + 1)) lane_keeps }
 
-  pub with_lane : (n : ℕ) {read : List ℕ} {end : ℕ} (i : ℕ) → LineAt s after mid read 0 (line.Inputs i) end → Begins s at n entry read lane i (n + 2) end
+  pub with_lane : (n : ℕ) {read : List ℕ} {end : ℕ} (i : ℕ) → LineAt s after mid read 0 (Some (line.Inputs i)) end → Begins s at n entry read lane i (n + 2) end
   unfolding after_lane
   with_lane n {read} {end} i b =
       let k : suc (n + 1) ≡ n + 2 = omega arith in
@@ -176,7 +177,7 @@ module _ {s entry mid : List ℕ} {at after : ℕ} (lane : ℕ) (a : LineAt s at
 
 -- the last line of an add: its outputs go behind its i inputs and a free number
 module _ {s mid read : List ℕ} {after end : ℕ} (m lane i : ℕ) (low : 2 * i ≤ after) (inside : after ≤ length s) where
-  module _ {l : Line} (b : LineAt s after mid read (i + 1) l end) {at n : ℕ} {entry : List ℕ} (a : Begins s at n entry mid lane i m after) where
+  module _ {l : Answer Line} (b : LineAt s after mid read (i + 1) l end) {at n : ℕ} {entry : List ℕ} (a : Begins s at n entry mid lane i m after) where
     ends_with : first_call n (lines (drop at s)) ≡ added m lane (take i mid) (line_as l (drop (i + 1) read)) (lines (drop end s))
     ends_with =
         a.is ∙ ap (λ (x : rule.Line). added m lane (take i mid) x (other_lines (lines (drop after s)))) (sym b.reads)
@@ -193,14 +194,14 @@ module _ {s mid read : List ℕ} {after end : ℕ} (m lane i : ℕ) (low : 2 * i
     both_beyond =
         drop_past (i + 1 + (length s - after) / 2) (length s / 2 + 1) read mid (omega arith) b.into_beyond ∙ begun_past (length s / 2 + 1) (omega arith)
 
-  pub no_outputs : {l : Line} → LineAt s after mid read (i + 1) l end → ((r : List ℕ) → rule.outputs_of (line_as l r) ≡ none) → AddRead s after m lane i mid read (next.Malformed m)
+  pub no_outputs : {l : Answer Line} → LineAt s after mid read (i + 1) l end → ((r : List ℕ) → rule.outputs_of (line_as l r) ≡ none) → AddRead s after m lane i mid read (next.Malformed m)
   unfolding added
   no_outputs b e at n entry a = record { is = ends_with b a ∙ rw (added, e (drop (i + 1) read)); next = tt; into = tt; listed = tt; into_beyond = both_beyond b a }
 
-  pub an_add : (o : ℕ) → LineAt s after mid read (i + 1) (line.Outputs o) end → AddRead s after m lane i mid read (next.Call (call.Add lane i o) m end)
+  pub an_add : (o : ℕ) → LineAt s after mid read (i + 1) (Some (line.Outputs o)) end → AddRead s after m lane i mid read (next.Call (call.Add lane i o) m end)
   unfolding added
   an_add o b at n entry a =
-      let well : line.Outputs o ≡ line.Malformed → ⊥ = λ e. let z : ◌≡◌ {A = ℕ} 0 1 = cc in omega arith in
+      let well : Some (line.Outputs o) ≡ None → ⊥ = λ e. let z : ◌≡◌ {A = ℕ} 0 1 = cc in omega arith in
       record {
         is = ends_with b a ∙ ap (λ (y : List ℕ). found (calls.add lane y (take o (drop (i + 1) read))) m (lines (drop end s))) (inputs_stay b a);
         next = record { end = b.end ∙ a.end; within = b.within; past = omega (arith, a.past, reaches b well) };
@@ -271,34 +272,34 @@ line_near n ls = near (rule.start_of (first_line ls)) (other_lines ls)
 
 -- the head: line 1, then line 2
 module _ {s entry mid : List ℕ} {after : ℕ} where
-  heads_with : {l : Line} → LineAt s 0 entry mid 0 l after → heading (lines s) ≡ heading_1 (line_as l mid) (lines (drop after s))
+  heads_with : {l : Answer Line} → LineAt s 0 entry mid 0 l after → heading (lines s) ≡ heading_1 (line_as l mid) (lines (drop after s))
   unfolding heading
   heads_with {l} a = ap (λ (x : rule.Line). heading_1 x (other_lines (lines s))) (sym a.reads) ∙ ap (heading_1 (line_as l mid)) (sym a.others)
 
-  pub no_line_1 : {l : Line} → ((r : List ℕ) → rule.parallelism_of (line_as l r) ≡ none) → LineAt s 0 entry mid 0 l after → HeadRead s (head.Malformed 1) entry mid
+  pub no_line_1 : {l : Answer Line} → ((r : List ℕ) → rule.parallelism_of (line_as l r) ≡ none) → LineAt s 0 entry mid 0 l after → HeadRead s (head.Malformed 1) entry mid
   unfolding heading_1
   no_line_1 e a = record { is = heads_with a ∙ rw (heading_1, e mid); starts = omega arith; into = head_beyond a }
 
-  module _ (P : ℕ) (a : LineAt s 0 entry mid 0 (line.Parallelism P) after) where
-    well_1 : line.Parallelism P ≡ line.Malformed → ⊥
+  module _ (P : ℕ) (a : LineAt s 0 entry mid 0 (Some (line.Parallelism P)) after) where
+    well_1 : Some (line.Parallelism P) ≡ None → ⊥
     well_1 e = let z : ◌≡◌ {A = ℕ} 0 1 = cc in omega arith
 
     first_keeps : mid ≡ entry
     first_keeps = keeps_past a well_1 0 (omega arith)
 
-    heads_on : {exit : List ℕ} {end : ℕ} {m : Line} → LineAt s after mid exit 0 m end → heading (lines s) ≡ heading_2 P (line_as m exit) (lines (drop end s))
+    heads_on : {exit : List ℕ} {end : ℕ} {m : Answer Line} → LineAt s after mid exit 0 m end → heading (lines s) ≡ heading_2 P (line_as m exit) (lines (drop end s))
     unfolding heading_1
     heads_on {exit} {end} {m} b =
         heads_with a ∙ ap (λ (x : rule.Line). heading_2 P x (other_lines (lines (drop after s)))) (sym b.reads) ∙ ap (heading_2 P (line_as m exit)) (sym b.others)
 
-    pub no_line_2 : {exit : List ℕ} {end : ℕ} {m : Line} → ((r : List ℕ) → rule.places_of (line_as m r) ≡ none) → LineAt s after mid exit 0 m end → HeadRead s (head.Malformed 2) entry exit
+    pub no_line_2 : {exit : List ℕ} {end : ℕ} {m : Answer Line} → ((r : List ℕ) → rule.places_of (line_as m r) ≡ none) → LineAt s after mid exit 0 m end → HeadRead s (head.Malformed 2) entry exit
     unfolding heading_2
     no_line_2 {exit} e b = record { is = heads_on b ∙ rw (heading_2, e exit); starts = omega arith; into = head_beyond b ∙ ap (drop (length s / 2)) first_keeps }
 
-    pub the_head : {exit : List ℕ} {end : ℕ} (N : ℕ) → LineAt s after mid exit 0 (line.Places N) end → HeadRead s (head.Sizes P N end) entry exit
+    pub the_head : {exit : List ℕ} {end : ℕ} (N : ℕ) → LineAt s after mid exit 0 (Some (line.Places N)) end → HeadRead s (head.Sizes P N end) entry exit
     unfolding heading_2
     the_head N b =
-        let well_2 : line.Places N ≡ line.Malformed → ⊥ = λ e. let z : ◌≡◌ {A = ℕ} 0 1 = cc in omega arith in
+        let well_2 : Some (line.Places N) ≡ None → ⊥ = λ e. let z : ◌≡◌ {A = ℕ} 0 1 = cc in omega arith in
         record {
           is = heads_on b;
           starts = (omega (arith, reaches a well_1, reaches b well_2), (b.within, b.end ∙ a.end));

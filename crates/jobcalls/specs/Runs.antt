@@ -15,8 +15,8 @@ use Rattle.rules.specs.Limits.{job_pool}
 use Rattle.rules.specs.Refusals as refusal
 use Rattle.jobcalls.specs.Told.{first_line, other_lines, FirstCall, found, malformed, added, after_lane, started, first_call, first_as, NextCall}
 use Rattle.jobcalls.specs.Told.{Heading, sized, unsized, heading_2, heading_1, heading, heading_as, HeadRead}
-use Rattle.jobcalls.specs.declared.Next.{Next}
-use Rattle.jobcalls.specs.declared.Head.{Head}
+use Rattle.jobcalls.specs.Next.{Next}
+use Rattle.jobcalls.specs.Head.{Head}
 
 -- what the rules make of lines: how they end, and the model that their accepted calls reach
 abbrev pub Run : Type 0

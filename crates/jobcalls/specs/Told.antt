@@ -1,19 +1,19 @@
 -- What reading a job call by call promises: the first call of some lines and the head of a job, as definitions over the rules' lines (rules,
 -- Job), and what of the storage for numbers may have changed. What a run makes of them stands in Runs. Assumes nothing.
 use Rattle.std.specs.Prelude.{List, [], ◌∷◌, ◌⊎◌, ◌≡◌, ℕ, suc, ◌+◌, ◌-◌, ◌*◌, ◌/◌, ◌≤◌, length, take, drop}
+use Rattle.std.specs.Prelude.{Option as Answer, None}
 use Rattle.std.proofs.Math.Option.{some, none}
 use Rattle.rules.specs.Calls as calls
 use Rattle.rules.specs.Job as rule
 use Rattle.rules.specs.Job.{lines, ragged}
 use Rattle.jobline.specs.declared.Line.{Line}
-use Rattle.jobline.specs.declared.Line.TheVariants as line
 use Rattle.jobline.specs.Lines.{line_as, listed}
 use Rattle.jobcalls.specs.declared.Call.{Call}
 use Rattle.jobcalls.specs.declared.Call.TheVariants as call
-use Rattle.jobcalls.specs.declared.Next.{Next}
-use Rattle.jobcalls.specs.declared.Next.TheVariants as next
-use Rattle.jobcalls.specs.declared.Head.{Head}
-use Rattle.jobcalls.specs.declared.Head.TheVariants as head
+use Rattle.jobcalls.specs.Next.{Next}
+use Rattle.jobcalls.specs.Next as next
+use Rattle.jobcalls.specs.Head.{Head}
+use Rattle.jobcalls.specs.Head as head
 
 -- what the first of some lines says, a missing one being malformed, and the others
 unfoldable pub first_line : List (List ℕ) → rule.Line
@@ -26,15 +26,15 @@ other_lines (l ∷ ls) = ls
 
 -- the line of the job s at `at` was read, its list into storage from `off` on, and what follows it starts at `after`; past its list storage
 -- is as it was, and of a malformed line at most half as many numbers have changed as the job has bytes from it on
-pub record LineAt (s : List ℕ) (at : ℕ) (entry exit : List ℕ) (off : ℕ) (l : Line) (after : ℕ) : Type 0 where
+pub record LineAt (s : List ℕ) (at : ℕ) (entry exit : List ℕ) (off : ℕ) (l : Answer Line) (after : ℕ) : Type 0 where
   pub reads : line_as l (drop off exit) ≡ first_line (lines (drop at s))
   pub others : lines (drop after s) ≡ other_lines (lines (drop at s))
   pub end : ragged (drop after s) ≡ ragged (drop at s)
   pub within : after ≤ length s
-  pub past : (l ≡ line.Malformed) ⊎ (at + 2 * listed l + 1 ≤ after)
+  pub past : (l ≡ None) ⊎ (at + 2 * listed l + 1 ≤ after)
   pub room : off + listed l ≤ length exit
   pub kept : take off exit ≡ take off entry
-  pub into_past : (l ≡ line.Malformed → ⊥) → drop (off + listed l) exit ≡ drop (off + listed l) entry
+  pub into_past : (l ≡ None → ⊥) → drop (off + listed l) exit ≡ drop (off + listed l) entry
   pub into_beyond : drop (off + (length s - at) / 2) exit ≡ drop (off + (length s - at) / 2) entry
 
 -- the first call of some lines: the call, the line that it is refused on and the lines after it; or the line of it that is missing or

@@ -1,15 +1,43 @@
 // The calls of a job, read line by line: the two lines of its head, then one call after another, each from the place after the one before.
 #![tactic(auto)]
 
-ghost use Rattle.std.specs.Prelude.{◌+◌, ◌*◌, ◌≤◌, length};
+ghost use Rattle.std.specs.Prelude.{◌+◌, ◌*◌, ◌≡◌, ◌≤◌, length};
 ghost use Rattle.jobcalls.specs.Told.{LineAt, AddRead, NextCall, HeadRead};
+ghost use Rattle.jobcalls.specs.Next.{told_next};
+ghost use Rattle.jobcalls.specs.Head.{told_head};
+ghost use Rattle.jobcalls.specs.Rejections.{rejection_of};
 
 use jobline::Line;
+use rules::Refusal;
 
-// A line, and the place after it. A missing line is malformed, and the place is where it was looked for.
+// The line of a job that is missing or malformed.
+#[derive(Clone, Copy)]
+pub struct Malformed {
+    pub line: u64,
+}
+
+// The line of a job that is refused, and why.
+#[derive(Clone, Copy)]
+pub struct Rejection {
+    pub line: u64,
+    pub refusal: Refusal,
+}
+
+impl From<Malformed> for Rejection {
+    ghost from_gives = { λ x r. r ≡ rejection_of x };
+
+    fn from(x: Malformed) -> Rejection {
+        Rejection {
+            line: x.line,
+            refusal: Refusal::Malformed,
+        }
+    }
+}
+
+// A line, or none that is well-formed, and the place after it; of a line that nothing ends, the place where it was looked for.
 #[derive(Clone, Copy)]
 pub struct Got {
-    pub line: Line,
+    pub line: Option<Line>,
     pub next: usize,
 }
 
@@ -18,17 +46,16 @@ pub fn line_at(job: &[u8], at: usize, into: &mut [u64], off: usize) -> Got
     requires { (at ≤ length job.now) × (2 * off + length job.now ≤ 2 * length into.old + at) }
     ensures { LineAt job.now at into.old into.new off result.line result.next }
 {
-    let e = jobtext::line_end(job, at);
-    if e == job.len() {
+    let end = jobtext::line_end(job, at);
+    if end == job.len() {
         return Got {
-            line: Line::Malformed,
+            line: None,
             next: at,
         };
     }
-    let l = jobline::read_line(&job[at..e], into, off);
     Got {
-        line: l,
-        next: e + 1,
+        line: jobline::read_line(&job[at..end], into, off),
+        next: end + 1,
     }
 }
 
@@ -47,13 +74,11 @@ pub enum Call {
     Flush,
 }
 
-// The next call of a job, or final, with the line that it is refused on and the place after it; or the line of it that is missing or
-// malformed.
+// The next call of a job, or final, with the line that it is refused on and the place after it.
 #[derive(Clone, Copy)]
 pub enum Next {
     Call { call: Call, line: u64, next: usize },
     Final { line: u64, next: usize },
-    Malformed { line: u64 },
 }
 
 // Reads the last line of an add, which is `line`, at `at`. Its lane is known, and its inputs stand at the start of `into`; the number behind
@@ -65,80 +90,76 @@ fn read_outputs(
     lane: u64,
     inputs: usize,
     into: &mut [u64],
-) -> Next
+) -> Result<Next, Malformed>
     requires { (at ≤ length job.now) × ((2 * inputs ≤ at) × (length job.now + 2 ≤ 2 * length into.old)) }
-    ensures { AddRead job.now at line lane inputs into.old into.new result }
+    ensures { AddRead job.now at line lane inputs into.old into.new (told_next result) }
 {
-    let a = line_at(job, at, into, inputs + 1);
-    let l = a.line;
-    let next = a.next;
-    let Line::Outputs(outputs) = l else {
-        return Next::Malformed { line };
+    let last = line_at(job, at, into, inputs + 1);
+    let Line::Outputs(outputs) = last.line.ok_or(Malformed { line })? else {
+        return Err(Malformed { line });
     };
     let call = Call::Add {
         lane,
         inputs,
         outputs,
     };
-    Next::Call { call, line, next }
+    let next = last.next;
+    Ok(Next::Call { call, line, next })
 }
 
 // Reads the call whose first line is `line`, at `at`.
-pub fn next_call(job: &[u8], at: usize, line: u64, into: &mut [u64]) -> Next
+pub fn next_call(job: &[u8], at: usize, line: u64, into: &mut [u64]) -> Result<Next, Malformed>
     requires { (at ≤ length job.now) × ((length job.now + 2 ≤ 2 * length into.old) × (line ≤ 4294967296)) }
-    ensures { NextCall job.now at line into.old into.new result }
+    ensures { NextCall job.now at line into.old into.new (told_next result) }
 {
-    let a = line_at(job, at, into, 0);
-    let l = a.line;
-    let next = a.next;
-    match l {
+    let first = line_at(job, at, into, 0);
+    let next = first.next;
+    match first.line.ok_or(Malformed { line })? {
         Line::Set(place) => {
             let call = Call::Set { place };
-            Next::Call { call, line, next }
+            Ok(Next::Call { call, line, next })
         }
         Line::Lane(lane) => {
-            let b = line_at(job, next, into, 0);
-            let m = b.line;
-            let after = b.next;
-            let second = line + 1;
-            let Line::Inputs(inputs) = m else {
-                return Next::Malformed { line: second };
+            let second = line_at(job, next, into, 0);
+            let malformed = Malformed { line: line + 1 };
+            let Line::Inputs(inputs) = second.line.ok_or(malformed)? else {
+                return Err(malformed);
             };
-            read_outputs(job, after, line + 2, lane, inputs, into)
+            read_outputs(job, second.next, line + 2, lane, inputs, into)
         }
-        Line::Inputs(inputs) => read_outputs(job, next, line + 1, 0, inputs, into),
+        Line::Inputs(inputs) => { read_outputs(job, next, line + 1, 0, inputs, into) }
         Line::Flush => {
             let call = Call::Flush;
-            Next::Call { call, line, next }
+            Ok(Next::Call { call, line, next })
         }
-        Line::Final => Next::Final { line, next },
-        _ => Next::Malformed { line },
+        Line::Final => Ok(Next::Final { line, next }),
+        _ => Err(Malformed { line }),
     }
 }
 
-// P and V, and the place after the head; or the line of it that is missing or malformed.
+// P and V, and the place after the head.
 #[derive(Clone, Copy)]
-pub enum Head {
-    Sizes { p: u64, v: u64, next: usize },
-    Malformed { line: u64 },
+pub struct Head {
+    pub p: u64,
+    pub v: u64,
+    pub next: usize,
 }
 
 // Reads the two lines of the head.
-pub fn read_head(job: &[u8], into: &mut [u64]) -> Head
+pub fn read_head(job: &[u8], into: &mut [u64]) -> Result<Head, Malformed>
     requires { length job.now ≤ 2 * length into.old }
-    ensures { HeadRead job.now result into.old into.new }
+    ensures { HeadRead job.now (told_head result) into.old into.new }
 {
-    let a = line_at(job, 0, into, 0);
-    let l = a.line;
-    let after = a.next;
-    let Line::Parallelism(p) = l else {
-        return Head::Malformed { line: 1 };
+    let first = line_at(job, 0, into, 0);
+    let malformed = Malformed { line: 1 };
+    let Line::Parallelism(p) = first.line.ok_or(malformed)? else {
+        return Err(malformed);
     };
-    let b = line_at(job, after, into, 0);
-    let m = b.line;
-    let next = b.next;
-    let Line::Places(v) = m else {
-        return Head::Malformed { line: 2 };
+    let second = line_at(job, first.next, into, 0);
+    let malformed = Malformed { line: 2 };
+    let Line::Places(v) = second.line.ok_or(malformed)? else {
+        return Err(malformed);
     };
-    Head::Sizes { p, v, next }
+    let next = second.next;
+    Ok(Head { p, v, next })
 }

@@ -1,7 +1,10 @@
--- Laws of keys: the loop that compares, and a line by the key that it starts with and those that it does not. Assumes nothing.
+-- Laws of keys: std's tests of them, and a line by the key that it starts with and those that it does not. Assumes nothing.
 use Rattle.std.specs.Prelude.{Bool, true, false, not, ◌⊎◌, ◌≡◌, ℕ, suc, ◌+◌, ◌≤◌, ◌<◌, length, get_or, drop, eqb}
 use mathlib.Core.List.{List, [], ◌∷◌}
-use Rattle.std.proofs.Common.{inl, inr, ap, ◌∙◌, zero-le, suc-le-suc, add-one, arith, length-drop}
+use Rattle.std.proofs.Common.{inl, inr, ap, ◌∙◌, zero-le, suc-le-suc, add-one, arith, length-drop, take, take_all}
+use Rattle.std.specs.Str.{bytes_eq}
+use Rattle.std.proofs.lemmas.Bool.{eqb-false}
+use Rattle.std.proofs.lemmas.Slice.Eq.{bytes_eq-Decides}
 use Rattle.std.proofs.Math.Option.{Option, some, none}
 use Rattle.std.proofs.Math.Path.{refl, sym}
 use Rattle.std.proofs.Math.ListN.{drop_of_length-le}
@@ -12,23 +15,22 @@ use Rattle.rules.specs.Job.{after_key, key_or, line_of, key_parallelism, key_pla
 use Rattle.jobtext.specs.Pieces.{bool}
 use Rattle.jobline.specs.Lines.{is_some, begins, NoAdd}
 
--- the bytes from i on of both
-module _ (ks s : List ℕ) (i : ℕ) (a : i < length ks) where
-  pub begins_on : i < length s → get_or s i 0 ≡ get_or ks i 0 → begins (drop i ks) (drop i s) ≡ begins (drop (i + 1) ks) (drop (i + 1) s)
-  unfolding begins is_some after_key
-  begins_on b e = rw (drop-cons ks i 0 a, drop-cons s i 0 b, after_key, eq-eqb (get_or s i 0) (get_or ks i 0) e, add-one)
-
-  pub begins_not : i < length s → (get_or s i 0 ≡ get_or ks i 0 → ⊥) → begins (drop i ks) (drop i s) ≡ false
-  unfolding begins is_some after_key
-  begins_not b e = rw (drop-cons ks i 0 a, drop-cons s i 0 b, after_key, ne_eqb (get_or s i 0) (get_or ks i 0) e)
-
-  pub begins_short : length s ≤ i → begins (drop i ks) (drop i s) ≡ false
-  unfolding begins is_some after_key
-  begins_short b = rw (drop-cons ks i 0 a, drop_of_length-le s b)
-
-pub begins_end : (ks s : List ℕ) (i : ℕ) → length ks ≤ i → begins (drop i ks) (drop i s) ≡ true
+-- std's tests of a key and of a whole line
+pub begins_is : (ks s : List ℕ) → bytes_eq (take (length ks) s) ks ≡ begins ks s
 unfolding begins is_some after_key
-begins_end ks s i a = rw (drop_of_length-le ks a)
+begins_is [] s = refl
+begins_is (k ∷ ks) [] = refl
+begins_is (k ∷ ks) (x ∷ s) = go (bool (eqb x k)) (begins_is ks s)
+  where
+    go : (eqb x k ≡ true) ⊎ (eqb x k ≡ false) → bytes_eq (take (length ks) s) ks ≡ begins ks s → bytes_eq (take (length (k ∷ ks)) (x ∷ s)) (k ∷ ks) ≡ begins (k ∷ ks) (x ∷ s)
+    go (inl e) i = rw (after_key, e) i
+    go (inr e) i = rw (after_key, e)
+
+pub same_key : (ks s : List ℕ) → length s ≡ length ks → bytes_eq s ks ≡ begins ks s
+same_key ks s e = ap (λ (l : List ℕ). bytes_eq l ks) (sym (take_all (length ks) s (omega (arith, e)))) ∙ begins_is ks s
+
+pub same_length : (ks s : List ℕ) → bytes_eq s ks ≡ true → length s ≡ length ks
+same_length ks s e = ap length ((bytes_eq-Decides s ks).0 e)
 
 -- what a test of a key tells of `after_key`
 pub key_none : (ks s : List ℕ) → begins ks s ≡ false → after_key ks s ≡ none
@@ -175,3 +177,27 @@ module _ (s : List ℕ) where
             pub no_key : begins final_text s ≡ false → malformed ≡ line_of s
             unfolding key_or
             no_key n₅ = sym (alone ∙ rw (key_none flush_text s n₄, key_none final_text s n₅))
+
+        pub no_line : bytes_eq s flush_text ≡ false → bytes_eq s final_text ≡ false → malformed ≡ line_of s
+        no_line a b = go (bool (eqb (length s) (length flush_text)))
+          where
+            go : (eqb (length s) (length flush_text) ≡ true) ⊎ (eqb (length s) (length flush_text) ≡ false) → malformed ≡ line_of s
+            go (inl e) = let q = eqb-true (length s) (length flush_text) e in no_key q (sym (same_key flush_text s q) ∙ a) (sym (same_key final_text s q) ∙ b)
+            go (inr e) = not_whole (eqb-false (length s) (length flush_text) e)
+
+module _ (ks s : List ℕ) (i : ℕ) (a : i < length ks) where
+  pub begins_on : i < length s → get_or s i 0 ≡ get_or ks i 0 → begins (drop i ks) (drop i s) ≡ begins (drop (i + 1) ks) (drop (i + 1) s)
+  unfolding begins is_some after_key
+  begins_on b e = rw (drop-cons ks i 0 a, drop-cons s i 0 b, after_key, eq-eqb (get_or s i 0) (get_or ks i 0) e, add-one)
+
+  pub begins_not : i < length s → (get_or s i 0 ≡ get_or ks i 0 → ⊥) → begins (drop i ks) (drop i s) ≡ false
+  unfolding begins is_some after_key
+  begins_not b e = rw (drop-cons ks i 0 a, drop-cons s i 0 b, after_key, ne_eqb (get_or s i 0) (get_or ks i 0) e)
+
+  pub begins_short : length s ≤ i → begins (drop i ks) (drop i s) ≡ false
+  unfolding begins is_some after_key
+  begins_short b = rw (drop-cons ks i 0 a, drop_of_length-le s b)
+
+pub begins_end : (ks s : List ℕ) (i : ℕ) → length ks ≤ i → begins (drop i ks) (drop i s) ≡ true
+unfolding begins is_some after_key
+begins_end ks s i a = rw (drop_of_length-le ks a)

@@ -1,5 +1,5 @@
 -- Laws of reading a job's needs: those of some lines are told by their first call, those of a job by its head. Assumes nothing.
-use Rattle.std.specs.Prelude.{Bool, ◌⊎◌, ◌≡◌, ℕ, suc, ◌+◌, ◌*◌, ◌/◌, ◌^◌, ◌≤◌, ◌<◌, take, drop}
+use Rattle.std.specs.Prelude.{Result, Ok, Err, Bool, ◌⊎◌, ◌≡◌, ℕ, suc, ◌+◌, ◌*◌, ◌/◌, ◌^◌, ◌≤◌, ◌<◌, take, drop}
 use mathlib.Core.List.{List, [], ◌∷◌}
 use Rattle.std.proofs.Common.{inl, inr, ◌∙◌, length-take}
 use Rattle.std.proofs.Math.Option.{Option, some, none}
@@ -10,6 +10,7 @@ use Rattle.std.proofs.Math.ListN.{length, length-drop}
 use borrow.Author.Tests.{lt-ltb, le-ltb}
 use Rattle.rules.specs.Limits.{most_job_bytes, reply_radix}
 use Rattle.rules.specs.Refusals as refusal
+use Rattle.rules.specs.Answer.{number_of}
 use Rattle.rules.specs.Calls as calls
 use Rattle.rules.specs.Job as job_rule
 use Rattle.rules.specs.Job.{nothing, labelled, reading, lines, ragged}
@@ -18,16 +19,15 @@ use Rattle.rules.specs.Needs.{no_needs, with_call, ending, need_lines, need_plac
 use Rattle.laws.specs.NeedsProof.{needed}
 use Rattle.jobcalls.specs.declared.Call.{Call}
 use Rattle.jobcalls.specs.declared.Call.TheVariants as call
-use Rattle.jobcalls.specs.declared.Next.{Next}
-use Rattle.jobcalls.specs.declared.Next.TheVariants as next
-use Rattle.jobcalls.specs.declared.Head.{Head}
-use Rattle.jobcalls.specs.declared.Head.TheVariants as head
+use Rattle.jobcalls.specs.declared.Rejection.{Rejection}
+use Rattle.jobcalls.specs.Next.{Next}
+use Rattle.jobcalls.specs.Next as next
+use Rattle.jobcalls.specs.Head.{Head}
+use Rattle.jobcalls.specs.Head as head
 use Rattle.jobcalls.specs.Told.{first_line, other_lines, FirstCall, found, malformed, added, after_lane, started, first_call, call_of, taken_by, first_as, NextCall}
 use Rattle.jobcalls.specs.Told.{Heading, sized, unsized, heading_2, heading_1, heading, heading_as, HeadRead}
 use Rattle.jobcalls.specs.Laws.{SomeLeft, none_left, some_left, line_of, line_near}
 use Rattle.jobneeds.specs.declared.Needs.{Needs}
-use Rattle.jobneeds.specs.declared.Reading.{Reading}
-use Rattle.jobneeds.specs.declared.Reading.TheVariants as reading
 use Rattle.jobneeds.specs.Told.{needs_of, reading_as, Countable, Counts, Few, remains, MayRead}
 use Rattle.jobneeds.specs.Layout.{needs_numbers, needs_result, needs_after}
 
@@ -159,7 +159,7 @@ module _ {job entry read : List ℕ} {start room at n : ℕ} {c : Needs} (M : Ma
   pub line_after : {r : Next} → NextCall job at n entry read r → line_of (first_as job read r) + 1 < 2 ^ 64
   line_after d = omega (arith, C.low, C.inside, M.short, line_near n (lines (drop at job)), ap line_of d.is)
 
-  pub reads_malformed : (m : ℕ) → NextCall job at n entry read (next.Malformed m) → reading_as (reading.Unread m refusal.malformed) ≡ remains job start 3 no_needs
+  pub reads_malformed : (m : ℕ) → NextCall job at n entry read (next.Malformed m) → rule.unread m refusal.malformed ≡ remains job start 3 no_needs
   unfolding goes
   reads_malformed m d = sym (begins d)
 
@@ -168,10 +168,10 @@ module _ {job entry read : List ℕ} {start room at n : ℕ} {c : Needs} (M : Ma
     unfolding goes with_call
     finals = begins d ∙ ap (λ (b : Bool). ending (suc m) (lines (drop after job)) b (needs_of c)) (sym d.next.end)
 
-    pub reads_all : after ≡ length job → reading_as (reading.Needing c) ≡ remains job start 3 no_needs
+    pub reads_all : after ≡ length job → rule.needing (needs_of c) ≡ remains job start 3 no_needs
     reads_all z = sym (finals ∙ ends (suc m) (needs_of c) (drop after job) (rw (length-drop after job) (omega arith)))
 
-    pub reads_surplus : (after ≡ length job → ⊥) → reading_as (reading.Unread (m + 1) refusal.malformed) ≡ remains job start 3 no_needs
+    pub reads_surplus : (after ≡ length job → ⊥) → rule.unread (m + 1) refusal.malformed ≡ remains job start 3 no_needs
     reads_surplus z =
         ap (λ (x : ℕ). rule.unread x refusal.malformed) (add-one m)
         ∙ sym (finals ∙ surplus (suc m) (needs_of c) (drop after job) (λ y. z (omega (arith, d.next.within, sym (length-drop after job) ∙ y))))
@@ -229,7 +229,7 @@ need_heading (l ∷ ls) rag = go (job_rule.parallelism_of (job_rule.line_of l)) 
     go none e = rw (need_job, heading_1, e)
     go (some P) e = rw (need_job, heading_1, e) (need_line_2 P ls rag)
 
-pub told_long : (job : List ℕ) → most_job_bytes < length job → reading_as (reading.Unread 1 refusal.long_job) ≡ needs job
+pub told_long : (job : List ℕ) → most_job_bytes < length job → rule.unread 1 refusal.long_job ≡ needs job
 unfolding needs
 told_long job h = rw (needs, lt-ltb most_job_bytes (length job) h)
 
@@ -238,7 +238,7 @@ module _ {job entry exit : List ℕ} (short : length job ≤ most_job_bytes) {h 
   unfolding needs
   by_heading = rw (needs, le-ltb most_job_bytes (length job) short) (need_heading (lines job) (ragged job))
 
-  pub told_malformed : (n : ℕ) → h ≡ head.Malformed n → reading_as (reading.Unread n refusal.malformed) ≡ needs job
+  pub told_malformed : (n : ℕ) → h ≡ head.Malformed n → rule.unread n refusal.malformed ≡ needs job
   unfolding from_head
   told_malformed n e = sym (by_heading ∙ ap (λ (x : Heading). from_head x (ragged job)) (r.is ∙ ap (heading_as job) e))
 
@@ -249,15 +249,15 @@ module _ {job entry exit : List ℕ} (short : length job ≤ most_job_bytes) {h 
     pub may_read : (room : ℕ) → room ≡ most_job_bytes / 2 + 1 → MayRead job room start
     may_read room q = record { inside = sized_head.starts.1.0; short = short; room_is = q }
 
-    pub told_read : (x : Reading) → reading_as x ≡ remains job start 3 no_needs → reading_as x ≡ needs job
+    pub told_read : (x : Result Needs Rejection) → reading_as x ≡ remains job start 3 no_needs → reading_as x ≡ needs job
     unfolding from_head remains
     told_read x u =
         u ∙ ap (λ (b : Bool). need_lines 3 nothing (lines (drop start job)) b no_needs) sized_head.starts.1.1
         ∙ sym (by_heading ∙ ap (λ (y : Heading). from_head y (ragged job)) sized_head.is)
 
 -- what was read, in the host's numbers
-module _ (job : List ℕ) {r : Reading} (told : reading_as r ≡ needs job) where
-  module _ {c : Needs} (e : r ≡ reading.Needing c) where
+module _ (job : List ℕ) {r : Result Needs Rejection} (told : reading_as r ≡ needs job) where
+  module _ {c : Needs} (e : r ≡ Ok c) where
     needing_is : needs job ≡ rule.needing (needs_of c)
     needing_is = sym told ∙ ap reading_as e
 
@@ -269,17 +269,17 @@ module _ (job : List ℕ) {r : Reading} (told : reading_as r ≡ needs job) wher
     unfolding needs_result needs_after needs_numbers
     numbers_are before m = (rw needing_is, rw (needing_is, m))
 
-  module _ {line code : ℕ} (e : r ≡ reading.Unread line code) where
-    unread_is : needs job ≡ rule.unread line code
+  module _ {x : Rejection} (e : r ≡ Err x) where
+    unread_is : needs job ≡ rule.unread x.line (number_of x.refusal)
     unread_is = sym told ∙ ap reading_as e
 
-    pub result_fits : reply_radix * line + code < 2 ^ 64
-    result_fits = let o = (needed job).only line code unread_is in go o.0 o.1
+    pub result_fits : reply_radix * x.line + number_of x.refusal < 2 ^ 64
+    result_fits = let o = (needed job).only x.line (number_of x.refusal) unread_is in go (number_of x.refusal) o.0 o.1
       where
-        go : (code ≡ refusal.malformed) ⊎ (code ≡ refusal.long_job) → line ≤ most_job_bytes + 1 → reply_radix * line + code < 2 ^ 64
-        go (inl z) h = omega (arith, z, h)
-        go (inr z) h = omega (arith, z, h)
+        go : (code : ℕ) → (code ≡ refusal.malformed) ⊎ (code ≡ refusal.long_job) → x.line ≤ most_job_bytes + 1 → reply_radix * x.line + code < 2 ^ 64
+        go code (inl z) h = omega (arith, z, h)
+        go code (inr z) h = omega (arith, z, h)
 
-    pub refusal_is : (before : List ℕ) → (reply_radix * line + code ≡ needs_result (needs job)) × (before ≡ needs_after (needs job) before)
+    pub refusal_is : (before : List ℕ) → (reply_radix * x.line + number_of x.refusal ≡ needs_result (needs job)) × (before ≡ needs_after (needs job) before)
     unfolding needs_result needs_after
     refusal_is before = (rw unread_is, rw unread_is)

@@ -1,21 +1,21 @@
 -- What reading a job's needs promises, by the rules' reading of its bytes (rules, Needs). Definitions only. Assumes nothing.
-use Rattle.std.specs.Prelude.{List, ◌≡◌, ℕ, ◌+◌, ◌/◌, ◌^◌, ◌≤◌, ◌<◌, length, drop}
+use Rattle.std.specs.Prelude.{Result, Ok, Err, List, ◌≡◌, ℕ, ◌+◌, ◌/◌, ◌^◌, ◌≤◌, ◌<◌, length, drop}
 use Rattle.rules.specs.Limits.{most_job_bytes}
 use Rattle.rules.specs.Job.{nothing, lines, ragged}
 use Rattle.rules.specs.Needs as rule
+use Rattle.rules.specs.Answer.{number_of}
 use Rattle.jobcalls.specs.declared.Call.{Call}
+use Rattle.jobcalls.specs.declared.Rejection.{Rejection}
 use Rattle.jobcalls.specs.Told.{call_of, taken_by}
 use Rattle.jobneeds.specs.declared.Needs.{Needs}
-use Rattle.jobneeds.specs.declared.Reading.{Reading}
-use Rattle.jobneeds.specs.declared.Reading.TheVariants as reading
 
--- the needs and the reading that the code's tell
+-- the needs and the reading that the code's answers tell
 abbrev pub needs_of : Needs → rule.Needs
 needs_of c = record { registrations = c.registrations; pool = c.pool; flushes = c.flushes }
 
-abbrev pub reading_as : Reading → rule.Reading
-reading_as (reading.Needing c) = rule.needing (needs_of c)
-reading_as (reading.Unread n code) = rule.unread n code
+abbrev pub reading_as : Result Needs Rejection → rule.Reading
+reading_as (Ok c) = rule.needing (needs_of c)
+reading_as (Err x) = rule.unread x.line (number_of x.refusal)
 
 -- the call x more can be counted in 64 bits
 pub record Countable (c : Needs) (x : Call) : Type 0 where

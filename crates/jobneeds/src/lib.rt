@@ -6,7 +6,8 @@ ghost use Rattle.rules.specs.Needs as rules;
 ghost use Rattle.jobneeds.specs.Told.{needs_of, reading_as, Countable, Counts, Few, remains, MayRead};
 ghost use Rattle.jobneeds.specs.Layout.{needs_result, needs_after};
 
-use jobcalls::{Call, Head, Next};
+use jobcalls::{Call, Next, Rejection};
+use rules::Refusal;
 
 // The most spans that placing a registration releases, and those that a flush does.
 const SPANS_A_PLACING: u64 = 2;
@@ -19,13 +20,6 @@ pub struct Needs {
     pub registrations: u64,
     pub pool: u64,
     pub flushes: u64,
-}
-
-// What is read off a job: its needs, or the line and the number of its refusal.
-#[derive(Clone, Copy)]
-pub enum Reading {
-    Needing { needs: Needs },
-    Unread { line: u64, code: u64 },
 }
 
 // The needs with a call more.
@@ -44,19 +38,18 @@ fn count(c: Needs, call: Call) -> Needs
             Needs {
                 registrations: c.registrations + 1,
                 pool: c.pool + numbers as u64,
-                flushes: c.flushes,
+                ..c
             }
         }
         Call::Flush => Needs {
-            registrations: c.registrations,
-            pool: c.pool,
             flushes: c.flushes + 1,
+            ..c
         },
     }
 }
 
 // Reads the calls from `start` on, which is line 3.
-fn read_calls(job: &[u8], start: usize, into: &mut [u64]) -> Reading
+fn read_calls(job: &[u8], start: usize, into: &mut [u64]) -> Result<Needs, Rejection>
     requires { MayRead job.now (length into.old) start }
     ensures { reading_as result ≡ remains job.now start 3 rules.no_needs }
 {
@@ -68,8 +61,7 @@ fn read_calls(job: &[u8], start: usize, into: &mut [u64]) -> Reading
     let mut at = start;
     let mut line: u64 = 3;
     loop {
-        let read = jobcalls::next_call(job, at, line, into);
-        match read {
+        match jobcalls::next_call(job, at, line, into)? {
             Next::Call {
                 call,
                 line: n,
@@ -81,15 +73,12 @@ fn read_calls(job: &[u8], start: usize, into: &mut [u64]) -> Reading
             }
             Next::Final { line: n, next } => {
                 if next == job.len() {
-                    return Reading::Needing { needs };
+                    return Ok(needs);
                 }
-                let line = n + 1;
-                let code = rules::MALFORMED;
-                return Reading::Unread { line, code };
-            }
-            Next::Malformed { line } => {
-                let code = rules::MALFORMED;
-                return Reading::Unread { line, code };
+                return Err(Rejection {
+                    line: n + 1,
+                    refusal: Refusal::Malformed,
+                });
             }
         }
     }
@@ -97,22 +86,18 @@ fn read_calls(job: &[u8], start: usize, into: &mut [u64]) -> Reading
 
 // What a job of any length needs. The lists of one that is not too long have at most half as many numbers as it has bytes, and between those of
 // an add one number is left free.
-pub fn read_needs(job: &[u8]) -> Reading
+pub fn read_needs(job: &[u8]) -> Result<Needs, Rejection>
     ensures { reading_as result ≡ rules.needs job.now }
 {
     if job.len() > rules::MOST_JOB_BYTES {
-        let code = rules::LONG_JOB;
-        return Reading::Unread { line: 1, code };
+        return Err(Rejection {
+            line: 1,
+            refusal: Refusal::LongJob,
+        });
     }
     let mut into = [0u64; rules::MOST_JOB_BYTES / 2 + 1];
-    let head = jobcalls::read_head(job, &mut into);
-    match head {
-        Head::Sizes { next, .. } => read_calls(job, next, &mut into),
-        Head::Malformed { line } => {
-            let code = rules::MALFORMED;
-            Reading::Unread { line, code }
-        }
-    }
+    let head = jobcalls::read_head(job, &mut into)?;
+    read_calls(job, head.next, &mut into)
 }
 
 // A ceiling on the spans that running the job releases; final flushes too.
@@ -130,12 +115,11 @@ pub extern "C" fn job_needs(job: &[u8], needs: &mut [u64; 4]) -> u64
     ensures result { result ≡ needs_result (rules.needs job.now) }
     ensures written { needs.new ≡ needs_after (rules.needs job.now) needs.old }
 {
-    let read = read_needs(job);
-    match read {
-        Reading::Needing { needs: c } => {
+    match read_needs(job) {
+        Ok(c) => {
             *needs = [c.registrations, c.pool, c.flushes, most_spans(c)];
             0
         }
-        Reading::Unread { line, code } => rules::REPLY_RADIX * line + code,
+        Err(e) => rules::REPLY_RADIX * e.line + u64::from(e.refusal),
     }
 }

@@ -1,5 +1,6 @@
 -- Laws for the loop that reads a list: the numbers read so far, before the fields that are left, are the list. Assumes nothing.
 use mathlib.Core.List.{List, [], ◌∷◌, ◌++◌, append_assoc}
+use Rattle.std.specs.Prelude.{Some, None}
 use Rattle.std.proofs.Math.Option.{Option, none, some}
 use Rattle.std.specs.Prelude.{◌≡◌, refl, ℕ, suc, ◌+◌, ◌-◌, ◌*◌, ◌/◌, ◌≤◌, ◌<◌, take, drop, set}
 use Rattle.std.proofs.Math.Path.{sym, ap}
@@ -11,7 +12,6 @@ use Rattle.rules.specs.Job.{fields_from, both, number, numbers, list}
 use Rattle.jobtext.specs.Text.{before, ListRead}
 use Rattle.jobtext.specs.Pieces.{before_le, fields_more, fields_last}
 use Rattle.jobtext.specs.Numbers.{number_some}
-use Rattle.jobtext.specs.declared.Items.TheVariants as items
 
 -- lists that agree from n on agree from any later place on
 pub drop_past : (n m : ℕ) (a b : List ℕ) → n ≤ m → drop n a ≡ drop n b → drop m a ≡ drop m b
@@ -100,7 +100,7 @@ module _ {s entry into : List ℕ} {off at n : ℕ} (i : Reading s entry into of
   pub end_in : e ≤ length s
   end_in = omega (arith, found, simp length-drop at (before_le 44 (drop at s)))
 
-  pub says_bad : none ≡ number (take (e - at) (drop at s)) → ListRead entry into off s items.Malformed
+  pub says_bad : none ≡ number (take (e - at) (drop at s)) → ListRead entry into off s None
   says_bad h =
       record {
         reads = list_bad s at (take n (drop off into)) i.inside i.left (h ∙ ap number as_field);
@@ -124,7 +124,7 @@ module _ {s entry into : List ℕ} {off at n : ℕ} (i : Reading s entry into of
     past_kept : drop (off + (n + 1)) (set into (off + n) v) ≡ drop (off + (n + 1)) entry
     past_kept = drop-set-lt (off + (n + 1)) into (off + n) v (omega arith) ∙ drop_past (off + n) (off + (n + 1)) into entry (omega arith) i.past
 
-    pub says_all : e ≡ length s → ListRead entry (set into (off + n) v) off s (items.Count (n + 1))
+    pub says_all : e ≡ length s → ListRead entry (set into (off + n) v) off s (Some (n + 1))
     says_all d =
         record {
           reads =
@@ -149,7 +149,7 @@ module _ {s entry into : List ℕ} {off at n : ℕ} (i : Reading s entry into of
           past = past_kept;
         }
 
-pub says_none : (s into : List ℕ) (off : ℕ) → 2 * off + length s < 2 * length into → length s ≡ 0 → ListRead into into off s (items.Count 0)
+pub says_none : (s into : List ℕ) (off : ℕ) → 2 * off + length s < 2 * length into → length s ≡ 0 → ListRead into into off s (Some 0)
 unfolding list
 says_none [] into off room e = record { reads = refl; few = zero-le; within = omega arith; kept = refl; past = λ x. refl; beyond = refl }
 says_none (x ∷ l) into off room e = absurd (suc-ne-zero (length l) e)

@@ -26,13 +26,13 @@ module _ (s : List ℕ) (i x : ℕ) (inside : i < length s) (inv : in_64_bits (d
       let e : drop i s ≡ get_or s i 0 ∷ drop (i + 1) s = rw (add-one, drop-cons s i 0) in
       sym (ap (λ (l : List ℕ). in_64_bits (digits_from x l)) e) ∙ inv
 
-  pub low_byte : get_or s i 0 < 48 → none ≡ in_64_bits (digits_from 0 s)
+  pub other_byte : (get_or s i 0 < 48) ⊎ (57 < get_or s i 0) → none ≡ in_64_bits (digits_from 0 s)
   unfolding digits_from in_64_bits
-  low_byte lt = sym (rw (digits_from, lt-leb 48 (get_or s i 0) lt)) ∙ at_byte
-
-  pub high_byte : 48 ≤ get_or s i 0 → 57 < get_or s i 0 → none ≡ in_64_bits (digits_from 0 s)
-  unfolding digits_from in_64_bits
-  high_byte le lt = sym (rw (digits_from, le-leb 48 (get_or s i 0) le, lt-leb (get_or s i 0) 57 lt)) ∙ at_byte
+  other_byte e = sym (rw (digits_from, no_digit_byte (get_or s i 0) e)) ∙ at_byte
+    where
+      no_digit_byte : (b : ℕ) → (b < 48) ⊎ (57 < b) → leb 48 b && leb b 57 ≡ false
+      no_digit_byte b (inl lt) = rw (lt-leb 48 b lt)
+      no_digit_byte b (inr lt) = rw (le-leb 48 b (omega arith), lt-leb b 57 lt)
 
   module _ (lo : 48 ≤ get_or s i 0) (hi : get_or s i 0 ≤ 57) where
     pub one_more : in_64_bits (digits_from (x * 10 + (get_or s i 0 - 48)) (drop (i + 1) s)) ≡ in_64_bits (digits_from 0 s)
@@ -82,3 +82,10 @@ pub number_some : (f : List ℕ) (v : ℕ) → some v ≡ number f → 1 ≤ len
 unfolding number
 number_some [] v e = let z : ◌≡◌ {A = ℕ} 0 1 = cc in omega arith
 number_some (x ∷ f) v e = suc-le-suc zero-le
+
+module _ (s : List ℕ) (i x : ℕ) (inside : i < length s) (inv : in_64_bits (digits_from x (drop i s)) ≡ in_64_bits (digits_from 0 s)) where
+  pub low_byte : get_or s i 0 < 48 → none ≡ in_64_bits (digits_from 0 s)
+  low_byte lt = other_byte s i x inside inv (inl lt)
+
+  pub high_byte : 48 ≤ get_or s i 0 → 57 < get_or s i 0 → none ≡ in_64_bits (digits_from 0 s)
+  high_byte le lt = other_byte s i x inside inv (inr lt)

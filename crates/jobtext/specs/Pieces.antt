@@ -1,8 +1,10 @@
 -- Laws of the pieces between separators: the first byte of a kind, and the lines and fields of rules/Job told by it, with no text carried
 -- along. Assumes nothing.
-use Rattle.std.specs.Prelude.{List, [], ◌∷◌, ◌++◌, Bool, true, false, ◌⊎◌, ◌≡◌, refl, ℕ, suc, ◌+◌, ◌≤◌, ◌<◌, length, get_or, take, drop, eqb}
+use Rattle.std.specs.List.{position_or_len}
+use Rattle.std.specs.Prelude.{Option as Answer, Some, None, position, List, [], ◌∷◌, ◌++◌, Bool, true, false, ◌⊎◌, ◌≡◌, refl, ℕ, suc, ◌+◌, ◌≤◌, ◌<◌, length, get_or, take, drop, eqb}
 use Rattle.std.proofs.Common.{append_assoc, append-nil, inl, inr, sym, ap, ◌∙◌, zero-le, suc-le-suc, le_of_suc-le-suc, not-suc-le-zero}
-use Rattle.std.proofs.Common.{add-one, arith, length-take, length-drop, take-append-drop, drop-cons, drop-drop, eq-eqb, ne_eqb}
+use Rattle.std.proofs.Common.{add-one, arith, length-take, length-drop, take-append-drop, drop-cons, drop-drop, eq-eqb, ne_eqb, lt-ltb, le-ltb}
+use Rattle.std.proofs.Math.Decide.{dec_lt}
 use Rattle.std.proofs.lemmas.Bool.{false≢true, eqb-false}
 use Rattle.rules.specs.Model.{member}
 use Rattle.rules.specs.Job.{lines_from, ragged, fields_from}
@@ -21,18 +23,25 @@ before_le b (x ∷ l) = go (bool (eqb x b)) (before_le b l)
     go (inl e) h = rw (before, e) zero-le
     go (inr e) h = rw (before, e) (suc-le-suc h)
 
--- a search from i: at a b it ends, else it goes on
-pub before_stop : (b : ℕ) (s : List ℕ) (i : ℕ) → i < length s → get_or s i 0 ≡ b → before b (drop i s) ≡ 0
+-- so std's search finds it
+counted : (b : ℕ) (l : List ℕ) → position_or_len (λ (x : ℕ). eqb x b) l ≡ before b l
 unfolding before
-before_stop b s i h e = rw (drop-cons s i 0 h, before, eq-eqb (get_or s i 0) b e)
+counted b [] = refl
+counted b (x ∷ l) = go (bool (eqb x b)) (counted b l)
+  where
+    go : (eqb x b ≡ true) ⊎ (eqb x b ≡ false) → position_or_len (λ (y : ℕ). eqb y b) l ≡ before b l → position_or_len (λ (y : ℕ). eqb y b) (x ∷ l) ≡ before b (x ∷ l)
+    go (inl e) i = rw (before, e)
+    go (inr e) i = rw (before, e) (omega (arith, i))
 
-pub before_on : (b : ℕ) (s : List ℕ) (i : ℕ) → i < length s → (get_or s i 0 ≡ b → ⊥) → before b (drop i s) ≡ suc (before b (drop (i + 1) s))
-unfolding before
-before_on b s i h n = rw (drop-cons s i 0 h, before, ne_eqb (get_or s i 0) b n, add-one)
+abbrev pub place_or : ℕ → Answer ℕ → ℕ
+place_or n (Some k) = k
+place_or n None = n
 
-pub before_end : (b : ℕ) → before b [] ≡ 0
-unfolding before
-before_end b = refl
+pub first_is : (b : ℕ) (l : List ℕ) → place_or (length l) (position (λ (x : ℕ). eqb x b) l) ≡ before b l
+first_is b l = elim (dec_lt n (length l)) [ yes lt ↦ rw (lt-ltb n (length l) lt) (counted b l) | no ge ↦ rw (le-ltb n (length l) (omega arith)) (omega (arith, counted b l, before_le b l)) ]
+  where
+    n : ℕ
+    n = position_or_len (λ (x : ℕ). eqb x b) l
 
 -- a search through bytes before others: it ends among them, or there is no b and it goes on
 before_within : (b : ℕ) (l r : List ℕ) → before b l < length l → before b (l ++ r) ≡ before b l
@@ -164,3 +173,16 @@ ragged_last x (y ∷ l) h = go (bool (eqb x 10)) (ragged_last y l)
     go : (eqb x 10 ≡ true) ⊎ (eqb x 10 ≡ false) → (suc (length l) ≤ before 10 (y ∷ l) → ragged (y ∷ l) ≡ true) → ragged (x ∷ (y ∷ l)) ≡ true
     go (inl e) i = absurd (not-suc-le-zero (rw (before, e) at h))
     go (inr e) i = i (le_of_suc-le-suc (rw (before, e) at h))
+
+-- a search from i: at a b it ends, else it goes on
+pub before_stop : (b : ℕ) (s : List ℕ) (i : ℕ) → i < length s → get_or s i 0 ≡ b → before b (drop i s) ≡ 0
+unfolding before
+before_stop b s i h e = rw (drop-cons s i 0 h, before, eq-eqb (get_or s i 0) b e)
+
+pub before_on : (b : ℕ) (s : List ℕ) (i : ℕ) → i < length s → (get_or s i 0 ≡ b → ⊥) → before b (drop i s) ≡ suc (before b (drop (i + 1) s))
+unfolding before
+before_on b s i h n = rw (drop-cons s i 0 h, before, ne_eqb (get_or s i 0) b n, add-one)
+
+pub before_end : (b : ℕ) → before b [] ≡ 0
+unfolding before
+before_end b = refl

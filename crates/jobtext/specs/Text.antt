@@ -1,14 +1,11 @@
 -- What the readers of this crate promise: where a line ends, and how an answer stands for document 01's numbers and lists (rules, Job).
 -- Assumes nothing.
 use Rattle.std.specs.Prelude.{List, [], ◌∷◌, ◌⊎◌, true, false, ◌≡◌, ℕ, zero, suc, ◌+◌, ◌*◌, ◌/◌, ◌%◌, ◌≤◌, ◌<◌, length, take, drop, leb, eqb}
+use Rattle.std.specs.Prelude.{Option as Answer, Some, None}
 use Rattle.std.proofs.Math.Option.{Option, some, none}
 use Rattle.rules.specs.Text.{newline}
 use Rattle.rules.specs.Model.{member}
 use Rattle.rules.specs.Job.{list}
-use Rattle.jobtext.specs.declared.Number.{Number}
-use Rattle.jobtext.specs.declared.Number.TheVariants as number
-use Rattle.jobtext.specs.declared.Items.{Items}
-use Rattle.jobtext.specs.declared.Items.TheVariants as items
 
 -- how many bytes stand before the first b, all of them where there is none
 unfoldable pub before : ℕ → List ℕ → ℕ
@@ -42,25 +39,25 @@ pub record Passed (n : ℕ) (s : List ℕ) (from i : ℕ) : Type 0 where
   pub no_further : (member newline (take n (drop i s)) ≡ true) ⊎ (length s < i + n)
 
 -- the number that an answer tells
-abbrev pub value_of : Number → Option ℕ
-value_of (number.Value n) = some n
-value_of number.Malformed = none
+abbrev pub value_of : Answer ℕ → Option ℕ
+value_of (Some n) = some n
+value_of None = none
 
--- the list that an answer tells, its numbers standing at the start of `read`
-abbrev pub list_of : Items → List ℕ → Option (List ℕ)
-list_of (items.Count n) read = some (take n read)
-list_of items.Malformed read = none
+-- the list that an answer, its count, tells, its numbers standing at the start of `read`
+abbrev pub list_of : Answer ℕ → List ℕ → Option (List ℕ)
+list_of (Some n) read = some (take n read)
+list_of None read = none
 
-abbrev pub count : Items → ℕ
-count (items.Count n) = n
-count items.Malformed = 0
+abbrev pub count : Answer ℕ → ℕ
+count (Some n) = n
+count None = 0
 
 -- a list was read from the bytes s into storage from `off` on: it is document 01's, it lies within, and what stands before and past it
 -- is as it was; of a malformed list some numbers may stand there, at most half as many as it has bytes
-pub record ListRead (entry exit : List ℕ) (off : ℕ) (s : List ℕ) (r : Items) : Type 0 where
+pub record ListRead (entry exit : List ℕ) (off : ℕ) (s : List ℕ) (r : Answer ℕ) : Type 0 where
   pub reads : list_of r (drop off exit) ≡ list s
   pub few : 2 * count r ≤ length s + 1
   pub within : off + count r ≤ length exit
   pub kept : take off exit ≡ take off entry
-  pub past : (r ≡ items.Malformed → ⊥) → drop (off + count r) exit ≡ drop (off + count r) entry
+  pub past : (r ≡ None → ⊥) → drop (off + count r) exit ≡ drop (off + count r) entry
   pub beyond : drop (off + (length s + 1) / 2) exit ≡ drop (off + (length s + 1) / 2) entry

@@ -1,24 +1,27 @@
 // The text of a job below its lines: the first byte of a kind, the end of a line, a number, a list of numbers.
 #![tactic(auto)]
 
-ghost use Rattle.std.specs.Prelude.{[], ◌∷◌, ◌++◌, ◌≡◌, ◌+◌, ◌*◌, ◌≤◌, ◌<◌, length, take, drop};
+ghost use Rattle.std.specs.Prelude.{[], ◌∷◌, ◌++◌, ◌≡◌, ◌+◌, ◌*◌, ◌≤◌, ◌<◌, length, take, drop, position, nat_eq};
 ghost use Rattle.rules.specs.Model.{member};
 ghost use Rattle.rules.specs.Job.{digits_from, in_64_bits, number as Job·number};
 ghost use Rattle.jobtext.specs.Text.{before, line_end, low_bytes, marks, Passed, value_of, ListRead};
+
+// How many bytes stand before the first byte `b`, where there is one.
+fn first(s: &[u8], b: u8) -> Option<usize>
+    ensures { result ≡ position (λ x. nat_eq x b) s.now }
+{
+    s.iter().position(|x| *x == b)
+}
 
 // The place of the first byte `b` at or after `from`, or the length where there is none.
 pub fn find(s: &[u8], from: usize, b: u8) -> usize
     requires { from ≤ length s.now }
     ensures { result ≡ from + before b (drop from s.now) }
 {
-    let mut i = from;
-    while i < s.len() {
-        if s[i] == b {
-            return i;
-        }
-        i += 1;
+    match first(&s[from..], b) {
+        Some(k) => from + k,
+        None => s.len(),
     }
-    i
 }
 
 // Two bytes as one number, the first lowest.
@@ -132,83 +135,58 @@ pub extern "C" fn job_line_end(job: &[u8], from: usize) -> usize
     line_end(job, from)
 }
 
-#[derive(Clone, Copy)]
-pub enum Number {
-    Value(u64),
-    Malformed,
-}
-
 // Digits, with a value of 64 bits; it stops at the first digit that passes them.
-fn digits(s: &[u8]) -> Number
+fn digits(s: &[u8]) -> Option<u64>
     ensures { value_of result ≡ in_64_bits (digits_from 0 s.now) }
 {
     let mut x: u64 = 0;
-    let mut i = 0;
-    while i < s.len() {
-        let b = s[i];
-        if b < b'0' {
-            return Number::Malformed;
-        }
-        if b > b'9' {
-            return Number::Malformed;
+    for &b in s {
+        if !b.is_ascii_digit() {
+            return None;
         }
         let d = (b - b'0') as u64;
-        if x > (18446744073709551615 - d) / 10 {
-            return Number::Malformed;
-        }
-        x = x * 10 + d;
-        i += 1;
+        x = x.checked_mul(10)?.checked_add(d)?;
     }
-    Number::Value(x)
+    Some(x)
 }
 
 // A number of a job: 1 to 20 digits, no leading zero but 0 itself, 64 bits.
-pub fn read_number(s: &[u8]) -> Number
+pub fn read_number(s: &[u8]) -> Option<u64>
     ensures { value_of result ≡ Job·number s.now }
 {
     if s.len() == 0 {
-        return Number::Malformed;
+        return None;
     }
     if s.len() > 20 {
-        return Number::Malformed;
+        return None;
     }
     if s.len() == 1 {
         return digits(s);
     }
     if s[0] == b'0' {
-        return Number::Malformed;
+        return None;
     }
     digits(s)
 }
 
-#[derive(Clone, Copy)]
-pub enum Items {
-    Count(usize),
-    Malformed,
-}
-
 // Reads a list into `into` from `off` on and leaves what stands before `off`. A number takes a byte and a comma, so half the bytes suffice.
-pub fn read_list(s: &[u8], into: &mut [u64], off: usize) -> Items
+pub fn read_list(s: &[u8], into: &mut [u64], off: usize) -> Option<usize>
     requires { 2 * off + length s.now < 2 * length into.old }
     ensures { ListRead into.old into.new off s.now result }
 {
     if s.len() == 0 {
-        return Items::Count(0);
+        return Some(0);
     }
     let mut at = 0;
     let mut n = 0;
     while at <= s.len() {
         let e = find(s, at, b',');
-        let x = read_number(&s[at..e]);
-        let Number::Value(v) = x else {
-            return Items::Malformed;
-        };
-        into[off + n] = v;
+        into[off + n] = read_number(&s[at..e])?;
         n += 1;
         if e == s.len() {
-            return Items::Count(n);
+            return Some(n);
         }
         at = e + 1;
     }
-    Items::Malformed
+    None
 }

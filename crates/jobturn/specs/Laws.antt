@@ -22,14 +22,14 @@ use Rattle.sorter.specs.Chain.{follows_step}
 use Rattle.sorter.specs.FinalWork.{Concludes}
 use Rattle.jobcalls.specs.declared.Call.{Call}
 use Rattle.jobcalls.specs.declared.Call.TheVariants as call
-use Rattle.jobcalls.specs.declared.Next.{Next}
-use Rattle.jobcalls.specs.declared.Next.TheVariants as next
+use Rattle.jobcalls.specs.Next.{Next}
+use Rattle.jobcalls.specs.Next as next
 use Rattle.jobcalls.specs.Told.{call_of, taken_by, FirstCall, found, first_as, NextCall}
 use Rattle.jobcalls.specs.Laws.{SomeLeft, none_left, some_left, line_of, Near, line_near}
 use Rattle.jobcalls.specs.Runs.{reads, makes, goes, call_runs}
-use Rattle.jobturn.specs.declared.End.TheVariants as end
-use Rattle.jobturn.specs.declared.Step.{Step}
-use Rattle.jobturn.specs.declared.Step.TheVariants as step'
+use Rattle.jobturn.specs.Ends as end
+use Rattle.jobturn.specs.Steps.{Step}
+use Rattle.jobturn.specs.Steps as step'
 use Rattle.jobturn.specs.Putting.{Puts}
 use Rattle.jobturn.specs.Turned.{AfterCall, AfterFinal, remains, StandsFor, Accepts, end_figures, FiguresOf, Turned}
 

@@ -18,9 +18,9 @@ use Rattle.admitting.specs.Promise.{Asks}
 use Rattle.sorter.specs.FinalWork.{Concludes}
 use Rattle.jobcalls.specs.Runs.{Run, reads}
 use Rattle.jobturn.specs.declared.EndFigures.{EndFigures}
-use Rattle.jobturn.specs.declared.End.TheVariants as end
-use Rattle.jobturn.specs.declared.Step.{Step}
-use Rattle.jobturn.specs.declared.Step.TheVariants as step'
+use Rattle.jobturn.specs.Ends as end
+use Rattle.jobturn.specs.Steps.{Step}
+use Rattle.jobturn.specs.Steps as step'
 
 -- what follows a call with this number on line m, the next starting at `next`
 pub record AfterCall (number m next : ℕ) (r : Step) : Type 0 where

@@ -7,20 +7,14 @@ use Prim.Native.Nat.{ℕ, suc, ◌+◌, ◌-◌, ◌*◌, ◌≤◌, ◌<◌, mi
 use Rattle.std.proofs.Math.Numerals.{add-one}
 use native.Mathlib.Omega.{arith}
 use Rattle.rules.specs.Guide.{Entry as OrderEntry}
-use Rattle.rules.specs.Listing.{field, line, least, floor, entry_line, rejection, word_status, word_line, word_entries, word_places, word_floor}
-use Rattle.rules.specs.Listing.{word_median, word_order, word_added, word_accepted, word_parallelism, word_written, word_lane}
-use Rattle.entries.specs.declared.Entry.{Entry}
-use Rattle.entries.specs.Entries.{entry_at, entry_of, item_of}
+use Rattle.rules.specs.Listing.{line, least, floor, word_status, word_entries, word_places, word_floor}
+use Rattle.rules.specs.Listing.{word_median}
+use Rattle.entries.specs.Entries.{entry_at, entry_of}
 use Rattle.writer.specs.Wrote.{Wrote, wrote_then, wrote_none}
 use Rattle.listing.specs.Listed.{line_bytes, entries_from, line_in, lines_from, listed}
-
--- an entry's line, by its fields; the last is a line
-pub wrote_entry : {o a b c d f g : List ℕ} {at p q r s t u : ℕ} (index : ℕ) (e : Entry) (written : ℕ)
-    → Wrote o a at p (field word_order index) → Wrote a b p q (field word_added e.added) → Wrote b c q r (field word_accepted e.accepted)
-    → Wrote c d r s (field word_parallelism e.parallelism) → Wrote d f s t (field word_written written) → Wrote f g t u (line word_lane e.lane)
-    → Wrote o g at u (entry_line index (entry_of e) written)
-unfolding entry_line entry_of item_of line
-wrote_entry index e written v w x y z l = wrote_then v (wrote_then w (wrote_then x (wrote_then y (wrote_then z l))))
+use Rattle.rules.specs.Listing.{field, entry_line, rejection, word_line, word_order, word_added, word_accepted, word_parallelism, word_written, word_lane}
+use Rattle.entries.specs.declared.Entry.{Entry}
+use Rattle.entries.specs.Entries.{item_of}
 
 -- a loop over the entries: i of them are written, and the others are left
 more : (o rows : List ℕ) (i n : ℕ) → i < n → lines_from o rows i (n - i) ≡ line_in o rows i ++ lines_from o rows (i + 1) (n - (i + 1))
@@ -101,14 +95,8 @@ module _ (o : List ℕ) (n : ℕ) where
 
   -- y is the least after the turn
   module _ (i m y x : ℕ) (h : i < n) (e : x ≡ least_of m (entries_from o i (n - i))) where
-    on_by : y ≡ min m (entry_at o i).parallelism → x ≡ least_of y (entries_from o (i + 1) (n - (i + 1)))
-    on_by k = e ∙ least_turn i m h ∙ ap (λ (z : ℕ). least_of z (entries_from o (i + 1) (n - (i + 1)))) (sym k)
-
-    pub least_less : (entry_at o i).parallelism < m → y ≡ (entry_at o i).parallelism → x ≡ least_of y (entries_from o (i + 1) (n - (i + 1)))
-    least_less lt k = on_by (omega arith)
-
-    pub least_same : m ≤ (entry_at o i).parallelism → y ≡ m → x ≡ least_of y (entries_from o (i + 1) (n - (i + 1)))
-    least_same le k = on_by (omega arith)
+    pub least_on : y ≡ min m (entry_at o i).parallelism → x ≡ least_of y (entries_from o (i + 1) (n - (i + 1)))
+    least_on k = e ∙ least_turn i m h ∙ ap (λ (z : ℕ). least_of z (entries_from o (i + 1) (n - (i + 1)))) (sym k)
 
   pub least_ends : (i m x : ℕ) → n ≤ i → x ≡ least_of m (entries_from o i (n - i)) → m ≡ x
   unfolding least_of
@@ -117,6 +105,31 @@ module _ (o : List ℕ) (n : ℕ) where
 pub least_none : (o : List ℕ) (n : ℕ) → n ≡ 0 → 0 ≡ least (entries_from o 0 n)
 unfolding least
 least_none o n e = ap (λ (k : ℕ). least (entries_from o 0 k)) (sym e)
+
+-- the head's lines, then the entries'
+pub listed_is : (or rows : List ℕ) (n P places low median : ℕ) → low ≡ floor P (entries_from or 0 n)
+    → line word_status 0 ++ (line word_entries n ++ (line word_places places ++ (line word_floor low ++ (line word_median median ++ lines_from or rows 0 n)))) ≡ listed or rows n P places median
+unfolding listed
+listed_is or rows n P places low median h = rw h
+
+-- an entry's line, by its fields; the last is a line
+pub wrote_entry : {o a b c d f g : List ℕ} {at p q r s t u : ℕ} (index : ℕ) (e : Entry) (written : ℕ)
+    → Wrote o a at p (field word_order index) → Wrote a b p q (field word_added e.added) → Wrote b c q r (field word_accepted e.accepted)
+    → Wrote c d r s (field word_parallelism e.parallelism) → Wrote d f s t (field word_written written) → Wrote f g t u (line word_lane e.lane)
+    → Wrote o g at u (entry_line index (entry_of e) written)
+unfolding entry_line entry_of item_of line
+wrote_entry index e written v w x y z l = wrote_then v (wrote_then w (wrote_then x (wrote_then y (wrote_then z l))))
+
+module _ (o : List ℕ) (n : ℕ) where
+  module _ (i m y x : ℕ) (h : i < n) (e : x ≡ least_of m (entries_from o i (n - i))) where
+    on_by : y ≡ min m (entry_at o i).parallelism → x ≡ least_of y (entries_from o (i + 1) (n - (i + 1)))
+    on_by k = e ∙ least_turn o n i m h ∙ ap (λ (z : ℕ). least_of z (entries_from o (i + 1) (n - (i + 1)))) (sym k)
+
+    pub least_less : (entry_at o i).parallelism < m → y ≡ (entry_at o i).parallelism → x ≡ least_of y (entries_from o (i + 1) (n - (i + 1)))
+    least_less lt k = on_by (omega arith)
+
+    pub least_same : m ≤ (entry_at o i).parallelism → y ≡ m → x ≡ least_of y (entries_from o (i + 1) (n - (i + 1)))
+    least_same le k = on_by (omega arith)
 
 -- the head's lines, then the entries'
 pub wrote_listing : {o a b c d e f : List ℕ} {p q r s t u : ℕ} (or rows : List ℕ) (n P places low median : ℕ) → low ≡ floor P (entries_from or 0 n)

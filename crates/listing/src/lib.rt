@@ -5,35 +5,35 @@ ghost use Rattle.std.specs.Prelude.{◌≡◌, ◌+◌, ◌*◌, ◌≤◌, ◌<
 ghost use Rattle.rules.specs.Listing.{least as Listing·least, floor as Listing·floor, entry_line, rejection};
 ghost use Rattle.entries.specs.Entries.{entry_of, fits};
 ghost use Rattle.writer.specs.Wrote.{Wrote};
+ghost use Rattle.writer.specs.Written.{Written};
 ghost use Rattle.listing.specs.Listed.{head_bytes, line_bytes, rejection_bytes, entries_from, lines_from, listed, Ready};
 
 use entries::Entry;
+use writer::Writer;
 
 // An entry's line: its order index, added, accepted and parallelism, its row's written, and its lane.
-fn put_entry(out: &mut [u8], at: usize, index: u64, e: Entry, written: u32) -> usize
-    requires { (index < 2 ^ 32) × (at + line_bytes ≤ length out.old) }
-    ensures { (Wrote out.old out.new at result (entry_line index (entry_of e) written)) × (result ≤ at + line_bytes) }
+fn put_entry(w: &mut Writer, index: u64, e: Entry, written: u32)
+    requires { (index < 2 ^ 32) × (w.old.at + line_bytes ≤ length w.old.out.now) }
+    ensures { (Written w.old w.new (entry_line index (entry_of e) written)) × (w.new.at ≤ w.old.at + line_bytes) }
 {
-    let a = writer::put_field(out, at, b"order=", index);
-    let b = writer::put_field(out, a, b" added=", e.added as u64);
-    let c = writer::put_field(out, b, b" accepted=", e.accepted as u64);
-    let d = writer::put_field(out, c, b" parallelism=", e.parallelism as u64);
-    let f = writer::put_field(out, d, b" written=", written as u64);
-    writer::put_line(out, f, b" lane=", e.lane as u64)
+    w.field(b"order=", index);
+    w.field(b" added=", e.added as u64);
+    w.field(b" accepted=", e.accepted as u64);
+    w.field(b" parallelism=", e.parallelism as u64);
+    w.field(b" written=", written as u64);
+    w.line(b" lane=", e.lane as u64);
 }
 
 // The lines of the first n entries, one after another.
-fn put_entries(order: &[u32], rows: &[u32], out: &mut [u8], at: usize, n: usize) -> usize
-    requires { (Ready order.now rows.now n) × (at + line_bytes * n ≤ length out.old) }
-    ensures { Wrote out.old out.new at result (lines_from order.now rows.now 0 n) }
+fn put_entries(order: &[u32], rows: &[u32], w: &mut Writer, n: usize)
+    requires { (Ready order.now rows.now n) × (w.old.at + line_bytes * n ≤ length w.old.out.now) }
+    ensures { Written w.old w.new (lines_from order.now rows.now 0 n) }
 {
-    let mut end = at;
     for i in 0..n {
         let e = entries::load(order, i);
         let written = records::written_of(rows, e.added);
-        end = put_entry(out, end, i as u64, e, written);
+        put_entry(w, i as u64, e, written);
     }
-    end
 }
 
 // The smallest parallelism of the first n entries, 0 where there are none.
@@ -46,10 +46,7 @@ fn least(order: &[u32], n: usize) -> u32
     }
     let mut least = entries::parallelism_at(order, 0);
     for i in 1..n {
-        let p = entries::parallelism_at(order, i);
-        if p < least {
-            least = p;
-        }
+        least = least.min(entries::parallelism_at(order, i));
     }
     least
 }
@@ -84,12 +81,14 @@ pub fn put_listing(
     ensures { Wrote out.old out.new 0 result (listed order.now rows.now n p places median) }
 {
     let low = floor(order, n, p);
-    let a = writer::put_line(out, 0, b"status=", 0);
-    let b = writer::put_line(out, a, b"entries=", n as u64);
-    let c = writer::put_line(out, b, b"places=", places as u64);
-    let d = writer::put_line(out, c, b"floor=", low as u64);
-    let e = writer::put_line(out, d, b"median=", median as u64);
-    put_entries(order, rows, out, e, n)
+    let mut w = Writer { out, at: 0 };
+    w.line(b"status=", 0);
+    w.line(b"entries=", n as u64);
+    w.line(b"places=", places as u64);
+    w.line(b"floor=", low as u64);
+    w.line(b"median=", median as u64);
+    put_entries(order, rows, &mut w, n);
+    w.at
 }
 
 // What a refused job prints: its number and its line.
@@ -97,6 +96,8 @@ pub fn put_rejection(out: &mut [u8], line: u64, code: u64) -> usize
     requires { rejection_bytes ≤ length out.old }
     ensures { Wrote out.old out.new 0 result (rejection line code) }
 {
-    let a = writer::put_line(out, 0, b"status=", code);
-    writer::put_line(out, a, b"line=", line)
+    let mut w = Writer { out, at: 0 };
+    w.line(b"status=", code);
+    w.line(b"line=", line);
+    w.at
 }

@@ -2,10 +2,11 @@
 -- Assumes nothing.
 use Rattle.std.specs.Prelude.{◌≡◌, List, [], ◌∷◌, length, get_or, take, drop}
 use Prim.Native.Nat.{ℕ, zero, suc, ◌+◌, ◌-◌, ◌≤◌, ◌<◌}
-use Rattle.std.proofs.Common.{add-zero, length-take, length-drop, get_or-take, get_or-drop}
-use Rattle.std.proofs.Math.Nat.{sub-zero}
+use Rattle.std.proofs.Common.{length-take, length-drop, get_or-take, get_or-drop}
 use native.Mathlib.Omega.{arith}
 use Rattle.std.proofs.Math.Seq.{drop-cons}
+use Rattle.std.proofs.Common.{add-zero}
+use Rattle.std.proofs.Math.Nat.{sub-zero}
 
 -- the n numbers of the pool from `at` on
 unfoldable pub part : List ℕ → ℕ → ℕ → List ℕ
@@ -33,9 +34,6 @@ module _ (pool : List ℕ) (at n : ℕ) (h : at + n ≤ length pool) where
   unfolding part
   part_end j k = let e : n - j ≡ 0 = omega arith in rw e
 
-  pub part_begin : part pool at n ≡ part pool (at + 0) (n - 0)
-  part_begin = rw (add-zero, sub-zero)
-
   pub part_length : length (part pool at n) ≡ n
   unfolding part
   part_length = simp (length-take, length-drop) (omega arith)
@@ -43,6 +41,14 @@ module _ (pool : List ℕ) (at n : ℕ) (h : at + n ≤ length pool) where
   pub part_at : (j : ℕ) → j < n → get_or (part pool at n) j 0 ≡ get_or pool (at + j) 0
   unfolding part
   part_at j k = rw (get_or-take, get_or-drop)
+
+-- `&pool[at..at + n]` as a contract sees it
+pub part_range : (pool : List ℕ) (at n : ℕ) → take (at + n - at) (drop at pool) ≡ part pool at n
+unfolding part
+part_range pool at n = let e : at + n - at ≡ n = omega arith in rw e
+
+pub range_at : (pool : List ℕ) (at n j : ℕ) → j < n → get_or (take (at + n - at) (drop at pool)) j 0 ≡ get_or pool (at + j) 0
+range_at pool at n j k = let e : at + n - at ≡ n = omega arith in rw (e, get_or-take, get_or-drop)
 
 pub below_at : (N : ℕ) (xs : List ℕ) → Below N xs → (j : ℕ) → j < length xs → get_or xs j 0 < N
 unfolding Below
@@ -64,3 +70,7 @@ listed_of pool at n N m h b k =
           let x = below_at N (part pool at n) b j (omega (arith, part_length pool at n h)) in
           omega (arith, part_at pool at n h j l);
     }
+
+module _ (pool : List ℕ) (at n : ℕ) (h : at + n ≤ length pool) where
+  pub part_begin : part pool at n ≡ part pool (at + 0) (n - 0)
+  part_begin = rw (add-zero, sub-zero)

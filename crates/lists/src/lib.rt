@@ -6,26 +6,30 @@ ghost use Rattle.rules.specs.Limits.{most_in_a_list};
 ghost use Rattle.rules.specs.Model.{greatest as greatest_of};
 ghost use Rattle.rules.specs.Checks.{any};
 
-// Whether there are more inputs or outputs than a registration may have.
-pub fn too_many(ins: &[u64], outs: &[u64]) -> bool
-    ensures { result ≡ (ltb most_in_a_list (length ins.now) || ltb most_in_a_list (length outs.now)) }
-{
-    if rules::MOST_IN_A_LIST < ins.len() {
-        return true;
-    }
-    rules::MOST_IN_A_LIST < outs.len()
+// A registration as a call gives it.
+#[derive(Clone, Copy)]
+pub struct Registration<'a> {
+    pub inputs: &'a [u64],
+    pub outputs: &'a [u64],
+    pub lane: u64,
 }
 
-// Whether one of xs is at least the bound.
+// Whether there are more inputs or outputs than a registration may have.
+pub fn too_many(r: Registration) -> bool
+    ensures { result ≡ (ltb most_in_a_list (length r.entry.inputs.now) || ltb most_in_a_list (length r.entry.outputs.now)) }
+{
+    rules::MOST_IN_A_LIST < r.inputs.len() || rules::MOST_IN_A_LIST < r.outputs.len()
+}
+
+// Whether one of xs is at least the bound. Lists are short: by `iter().any` it takes some instructions more for each call, as `greatest`
+// does by `max`.
 pub fn any_at_least(xs: &[u64], bound: u64) -> bool
     ensures { result ≡ any (λ x. leb bound x) xs.now }
 {
-    let mut i = 0;
-    while i < xs.len() {
-        if bound <= xs[i] {
+    for x in xs {
+        if bound <= *x {
             return true;
         }
-        i += 1;
     }
     false
 }
@@ -35,13 +39,8 @@ pub fn greatest(xs: &[u64]) -> u64
     ensures { result ≡ greatest_of xs.now }
 {
     let mut m: u64 = 0;
-    let mut i = 0;
-    while i < xs.len() {
-        let x = xs[i];
-        if m < x {
-            m = x;
-        }
-        i += 1;
+    for x in xs {
+        m = m.max(*x);
     }
     m
 }

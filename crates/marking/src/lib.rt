@@ -26,8 +26,5 @@ pub fn mark_set(
     taken::claim_one(waiting, v, x);
     let to = tracking::advance(marks, v, watermark);
     let top = registrar::advance_set(waiting, v, watermark, to);
-    Marked {
-        watermark: to,
-        top: top,
-    }
+    Marked { watermark: to, top }
 }

@@ -2,3 +2,5 @@
 pub mod Refusal
 pub mod Parts
 pub mod Opened
+pub mod Slices
+pub mod Verdicts

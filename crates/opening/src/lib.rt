@@ -1,117 +1,89 @@
-// Opening a session on storage that the caller provides: refusals 1 and 2, and the fresh state.
+// Opening a session on storage that the caller provides: refusals 1 and 2, and the fresh state. What both profiles look at and clear is here
+// once: ascending_opening uses it too.
 #![tactic(auto)]
 
-ghost use Rattle.std.specs.Prelude.{◌≡◌, ◌≤◌, length};
-ghost use Rattle.rules.specs.Limits.{most_parallelism, most_places};
-ghost use Rattle.rules.specs.Checks.{verdict, check_open, too_short};
-ghost use Rattle.opening.specs.Opened.{sizes_of, Lengths, ClearsOver, BeginsOver, OpensOver, first_session};
+ghost use Rattle.std.specs.Prelude.{◌≡◌, length};
+ghost use Rattle.rules.specs.Answer.{number};
+ghost use Rattle.rules.specs.Checks.{verdict, check_open};
+ghost use Rattle.rules.specs.Ascending.{check_open as check_lean};
+ghost use Rattle.session.specs.Slices.{contents, SameSlices};
+ghost use Rattle.session.specs.After.{session_after};
+ghost use Rattle.opening.specs.Opened.{sizes_of, sizes, PlaceLengths, Lengths, ClearsOver, Kept, Begins, Opens, first_session};
 
-use session::Session;
+use rules::Refusal;
+use session::{Session, Storage};
 
-// Opening's number, 0 if it was accepted, and the session. Refused, the session is of parallelism 0 and 0 places.
+// The lengths of the slices that a session of either profile has.
 #[derive(Clone, Copy)]
-pub struct Opened {
-    pub number: u64,
-    pub session: Session,
+pub struct SliceLengths {
+    pub spans: usize,
+    pub order: usize,
+    pub tally: usize,
+    pub rows: usize,
+    pub marks: usize,
+    pub locations: usize,
 }
 
-// Whether a length of the storage is too short for parallelism p and v places.
-fn too_short(
-    spans: usize,
-    order: usize,
-    tally: usize,
-    rows: usize,
-    marks: usize,
-    locations: usize,
-    waiting: usize,
-    p: usize,
-    v: usize,
-) -> bool
-    requires { (p ≤ most_parallelism) × (v ≤ most_places) }
-    ensures { result ≡ too_short p v (sizes_of spans order tally rows marks locations waiting) }
+// The checks of opening but for the waiting storage: those of the guide alone, then the lengths of what else there is for each place.
+pub fn check_lengths(l: SliceLengths, p: u64, v: u64) -> Result<(), Refusal>
+    ensures { number result ≡ verdict (check_lean p v (sizes_of l.spans l.order l.tally l.rows l.marks l.locations 0)) }
 {
-    if spans / entries::SIZE < window::SPANS * (p + 1) {
-        return true;
+    alone_checks::check_open(
+        l.spans / entries::SIZE,
+        l.order / entries::SIZE,
+        l.tally,
+        p,
+        v,
+    )?;
+    if l.rows / records::SIZE < v as usize || l.marks < v as usize || l.locations < v as usize {
+        return Err(Refusal::TooShort);
     }
-    if order / entries::SIZE < v {
-        return true;
-    }
-    if rows / records::SIZE < v {
-        return true;
-    }
-    if marks < v {
-        return true;
-    }
-    if locations < v {
-        return true;
-    }
-    if waiting < waiting::SIZE * v {
-        return true;
-    }
-    tally < p + 1
+    Ok(())
 }
 
-// The number of the first check of opening that fails, or 0.
-pub fn check_open(
-    spans: usize,
-    order: usize,
-    tally: usize,
-    rows: usize,
-    marks: usize,
-    locations: usize,
-    waiting: usize,
-    p: u64,
-    v: u64,
-) -> u64
-    ensures { result ≡ verdict (check_open p v (sizes_of spans order tally rows marks locations waiting)) }
+// The checks of opening.
+pub fn check_open(storage: &Storage, p: u64, v: u64) -> Result<(), Refusal>
+    ensures { number result ≡ verdict (check_open p v (sizes (contents storage.now))) }
 {
-    if p < 1 {
-        return rules::OUT_OF_RANGE;
+    let lengths = SliceLengths {
+        spans: storage.spans.len(),
+        order: storage.order.len(),
+        tally: storage.tally.len(),
+        rows: storage.rows.len(),
+        marks: storage.marks.len(),
+        locations: storage.locations.len(),
+    };
+    check_lengths(lengths, p, v)?;
+    if storage.waiting.len() < waiting::SIZE * v as usize {
+        return Err(Refusal::TooShort);
     }
-    if rules::MOST_PARALLELISM < p {
-        return rules::OUT_OF_RANGE;
-    }
-    if v < 1 {
-        return rules::OUT_OF_RANGE;
-    }
-    if rules::MOST_PLACES < v {
-        return rules::OUT_OF_RANGE;
-    }
-    if too_short(
-        spans, order, tally, rows, marks, locations, waiting, p as usize, v as usize,
-    ) {
-        return rules::TOO_SHORT;
-    }
-    0
+    Ok(())
 }
 
-// Clears rows, places with their locations, tally, and of the waiting storage what must be.
-fn clear(
+// Clears rows, places with their locations, and tally.
+pub fn clear(
     tally: &mut [u32],
     rows: &mut [u32],
     marks: &mut [u16],
     locations: &mut [u64],
-    waiting: &mut [u64],
     p: usize,
     v: usize,
 )
-    requires { Lengths p v (length tally.old) (length rows.old) (length marks.old) (length locations.old) (length waiting.old) }
-    ensures { ClearsOver p v tally rows marks locations waiting }
+    requires { PlaceLengths p v (length tally.old) (length rows.old) (length marks.old) (length locations.old) }
+    ensures { ClearsOver p v tally rows marks locations }
 {
-    zeros::clear32(tally, 0, p + 1);
-    zeros::clear32(rows, 0, records::SIZE * v);
-    zeros::clear16(marks, 0, v);
-    zeros::clear64(locations, 0, v);
-    waiting::clear(waiting, v);
+    tally[..p + 1].fill(0);
+    rows[..records::SIZE * v].fill(0);
+    marks[..v].fill(0);
+    locations[..v].fill(0);
 }
 
 // A session of parallelism p and v places just opened.
 pub fn fresh(p: u32, v: u32) -> Session
     ensures { result ≡ first_session p v }
 {
-    let g = guide::fresh(p, v);
     Session {
-        guide: g,
+        guide: guide::fresh(p, v),
         watermark: 0,
         added: 0,
         used: 0,
@@ -124,59 +96,30 @@ pub fn fresh(p: u32, v: u32) -> Session
 }
 
 // Opens a session of parallelism p and v places on storage that passes the checks.
-pub fn begin(
-    tally: &mut [u32],
-    rows: &mut [u32],
-    marks: &mut [u16],
-    locations: &mut [u64],
-    waiting: &mut [u64],
-    p: u64,
-    v: u64,
-) -> Session
-    requires { Lengths p v (length tally.old) (length rows.old) (length marks.old) (length locations.old) (length waiting.old) }
-    ensures { BeginsOver p v result tally rows marks locations waiting }
+pub fn begin(storage: &mut Storage, p: u64, v: u64) -> Session
+    requires { Lengths p v (contents storage.old) }
+    ensures begins { Begins p v result (contents storage.old) (contents storage.new) }
+    ensures kept { Kept (contents storage.old) (contents storage.new) }
+    ensures same { SameSlices storage.old storage.new }
 {
     clear(
-        tally, rows, marks, locations, waiting, p as usize, v as usize,
+        storage.tally,
+        storage.rows,
+        storage.marks,
+        storage.locations,
+        p as usize,
+        v as usize,
     );
+    waiting::clear(storage.waiting, v as usize);
     fresh(p as u32, v as u32)
 }
 
-// Opens a session of parallelism p and v places on the storage, or refuses. The pool stays as it is, so it is not asked for.
-pub fn open(
-    spans: &[u32],
-    order: &[u32],
-    tally: &mut [u32],
-    rows: &mut [u32],
-    marks: &mut [u16],
-    locations: &mut [u64],
-    waiting: &mut [u64],
-    p: u64,
-    v: u64,
-) -> Opened
-    ensures { OpensOver p v result.number result.session spans.now order.now tally rows marks locations waiting }
+// Opens a session of parallelism p and v places on the storage, or refuses: then storage is as it was.
+pub fn open(storage: &mut Storage, p: u64, v: u64) -> Result<Session, Refusal>
+    ensures opens { Opens p v (number result) (session_after (first_session 0 0) result) (contents storage.old) (contents storage.new) }
+    ensures kept { Kept (contents storage.old) (contents storage.new) }
+    ensures same { SameSlices storage.old storage.new }
 {
-    let n = check_open(
-        spans.len(),
-        order.len(),
-        tally.len(),
-        rows.len(),
-        marks.len(),
-        locations.len(),
-        waiting.len(),
-        p,
-        v,
-    );
-    if n != 0 {
-        let s = fresh(0, 0);
-        return Opened {
-            number: n,
-            session: s,
-        };
-    }
-    let s = begin(tally, rows, marks, locations, waiting, p, v);
-    Opened {
-        number: 0,
-        session: s,
-    }
+    check_open(storage, p, v)?;
+    Ok(begin(storage, p, v))
 }

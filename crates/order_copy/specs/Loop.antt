@@ -1,19 +1,21 @@
--- Laws of the copying loop: what is copied when nothing is, one entry more, and the length; and what is known of the loop once the checks
--- are done. Assumes nothing.
+-- Laws of the copying loop: what is copied when nothing is, one entry more, and the length;
+-- and the order that is left. Assumes nothing.
 use Rattle.std.specs.Prelude.{◌≡◌, refl, length, get_or}
 use Rattle.std.proofs.Common.{sym, ◌∙◌, add-one, drop-cons, length-take-le}
 use Rattle.std.proofs.Math.Path.{ap}
 use mathlib.Core.List.{List, [], ◌∷◌, ◌++◌, append_assoc}
 use Prim.Native.Nat.{ℕ, zero, suc, ◌+◌, ◌-◌, ◌≤◌, ◌<◌}
 use native.Mathlib.Omega.{arith}
-use Rattle.std.proofs.Math.Decide.{ℕ_discrete}
 use Rattle.std.proofs.Math.ListN.{take, drop, set, length-append, length-drop}
 use Rattle.std.proofs.Math.Seq.{set_at}
 use Rattle.order_copy.specs.declared.OrderInfo.{OrderInfo}
 use Rattle.rules.specs.Calls.{unless_refused}
 use Rattle.laws.specs.Accepted.{accepted_is, refused_is}
-use Rattle.order_copy.specs.Flat.{Readable, entry_of}
-use Rattle.order_copy.specs.Copied.{entries, copied, check_new}
+use Rattle.order_copy.specs.Flat.{entry_of}
+use Rattle.order_copy.specs.Copied.{entries, copied}
+use Rattle.std.proofs.Math.Decide.{ℕ_discrete}
+use Rattle.order_copy.specs.Flat.{Readable}
+use Rattle.order_copy.specs.Copied.{check_new}
 use Rattle.order_copy.specs.Checked.{Ready, ready}
 
 entries_length : (f : List ℕ) (k n : ℕ) → length (entries f k n) ≡ n
@@ -66,6 +68,14 @@ module _ (o : List OrderInfo) (f : List ℕ) (from k : ℕ) (lo : from ≤ k) wh
           let e : k + 1 - from ≡ suc (k - from) = omega arith in
           let d : from + (k - from) ≡ k = omega arith in
           rw e (entries_more f from (k - from) ∙ ap (λ m. entries f from (k - from) ++ (entry_of f m ∷ [])) d)
+
+-- the order after a copying that is refused, and after one that is not
+module _ (o : List OrderInfo) (f : List ℕ) (from to : ℕ) where
+  pub copied_not : (n : ℕ) → (n ≡ 0 → ⊥) → o ≡ unless_refused n o (copied o f from to)
+  copied_not n z = sym (refused_is n o (copied o f from to) z)
+
+  pub copied_all : copied o f from to ≡ unless_refused 0 o (copied o f from to)
+  copied_all = sym (accepted_is 0 o (copied o f from to) refl)
 
 -- a loop that copies the entries `from` to `stop` - 1, where n is the copying's number: each can be copied, and at the end the order is
 -- the one that is promised

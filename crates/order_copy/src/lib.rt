@@ -3,10 +3,12 @@
 #![tactic(auto)]
 
 ghost use Rattle.std.specs.Prelude.{◌≡◌, ◌<◌, ◌-◌, length, set};
-ghost use Rattle.rules.specs.Calls.{unless_refused};
+ghost use Rattle.rules.specs.Answer.{number};
 ghost use Rattle.entries.specs.Entries.{fits};
 ghost use Rattle.order_copy.specs.Flat.{Readable, entry_of};
 ghost use Rattle.order_copy.specs.Copied.{wide_entry, check_new};
+
+use rules::Refusal;
 
 // An entry of the order (the Rust's OrderInfo), laid out as in C: 16 bytes.
 #[repr(C)]
@@ -47,42 +49,20 @@ fn has_wide(flat: &[u32], from: usize, to: usize) -> bool
     requires { fits flat.now to }
     ensures { result ≡ wide_entry flat.now from (to - from) }
 {
-    let mut k = from;
-    while k < to {
-        let e = entries::load(flat, k);
-        if rules::MOST_LANE < e.lane as u64 {
+    for k in from..to {
+        if rules::MOST_LANE < entries::load(flat, k).lane as u64 {
             return true;
         }
-        k += 1;
     }
     false
 }
 
-// The number of a copying of entries `from` to `to` - 1 of the flat order to an order of `room` structs: 0, or 2 where it is refused.
-pub fn check_new(room: usize, flat: &[u32], from: usize, to: usize) -> u64
-    ensures { result ≡ check_new room flat.now from to }
+// Whether entries `from` to `to` - 1 of the flat order can be copied to an order of `room` structs, or 2.
+pub fn check_new(room: usize, flat: &[u32], from: usize, to: usize) -> Result<(), Refusal>
+    ensures { number result ≡ check_new room flat.now from to }
 {
-    if to < from {
-        return rules::TOO_SHORT;
+    if to < from || room < to || entries::capacity(flat) < to || has_wide(flat, from, to) {
+        return Err(Refusal::TooShort);
     }
-    if room < to {
-        return rules::TOO_SHORT;
-    }
-    if entries::capacity(flat) < to {
-        return rules::TOO_SHORT;
-    }
-    if has_wide(flat, from, to) {
-        return rules::TOO_SHORT;
-    }
-    0
-}
-
-// Where the copying stops: at `to`, or at once where it is refused.
-pub fn stop_at(n: u64, from: usize, to: usize) -> usize
-    ensures { result ≡ unless_refused n from to }
-{
-    if n == 0 {
-        return to;
-    }
-    from
+    Ok(())
 }

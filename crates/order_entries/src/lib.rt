@@ -21,13 +21,11 @@ pub extern "C" fn order_append_new(
     ensures { (result ≡ check_new (length order.old) flat.now from to)
         × (order.new ≡ unless_refused result order.old (copied order.old flat.now from to)) }
 {
-    let n = order_copy::check_new(order.len(), flat, from, to);
-    let end = order_copy::stop_at(n, from, to);
-    let mut k = from;
-    while k < end {
-        let e = order_copy::entry_at(flat, k);
-        order_copy::append(order, k, e);
-        k += 1;
+    if let Err(refusal) = order_copy::check_new(order.len(), flat, from, to) {
+        return refusal.into();
     }
-    n
+    for k in from..to {
+        order_copy::append(order, k, order_copy::entry_at(flat, k));
+    }
+    0
 }

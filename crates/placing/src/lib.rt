@@ -1,4 +1,6 @@
 // The steps of placing over the guide's storage: the release of span 0, and spans opened.
+// The slices spans, order and tally go together through here, putting and guide, and stay three parameters: a struct of them inside the
+// session's Storage was tried, and the borrow checker refuses it.
 #![tactic(auto)]
 
 ghost use Rattle.std.specs.Prelude.{◌≡◌, ◌≤◌};
@@ -17,11 +19,10 @@ pub fn release_one(g: Guide, spans: &[u32], order: &mut [u32], tally: &mut [u32]
     ensures becomes { Done g result spans.now order.old tally.old spans.now order.new tally.new (release g.p 1 (view g spans.now order.old)) }
     ensures rotated { result ≡ released_guide g }
 {
-    let w = g.window;
-    let a = w.lens[0] as u32;
-    let n = g.written;
+    let a = g.window.lens[0] as u32;
+    let n = g.written as usize;
     let h = buffer::release(g, spans, order);
-    tally::tally_new(order, tally, n as usize, a);
+    tally::tally_new(order, tally, n, a);
     h
 }
 

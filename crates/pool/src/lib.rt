@@ -8,12 +8,14 @@ ghost use Rattle.rules.specs.Checks.{waiting_needed};
 ghost use Rattle.pool.specs.Lists.{lane_limit, inputs_limit, start_limit, stored, Storable, with_cell, start_of, inputs_of, lane_of, end_of};
 
 // A cell has the lane in its lowest 8 bits, the count of inputs in 16 above them, and the start in the 40 above these: all outputs together
-// are at most v, a registration has at most 65,535 inputs, and so lists start below 2^40.
+// are at most v, a registration has at most 65,535 inputs, and so lists start below 2^40. It is one number and no struct, since it lies in
+// the caller's storage (the C interface).
 const LANE_LIMIT: u64 = 256;
 
 const INPUTS_LIMIT: u64 = 65536;
 
-// Copies xs into the pool from `at` on; the rest of the pool stays. The loop is compiled for long lists, and most have one number.
+// Copies xs into the pool from `at` on; the rest of the pool stays. A list of one number, which most are, is stored apart for speed: the
+// loop is compiled for long ones.
 pub fn store_list(pool: &mut [u32], at: usize, xs: &[u64])
     requires { Storable pool.old at xs.now }
     ensures { pool.new ≡ stored pool.old at xs.now }
@@ -22,10 +24,8 @@ pub fn store_list(pool: &mut [u32], at: usize, xs: &[u64])
         pool[at] = xs[0] as u32;
         return;
     }
-    let mut j = 0;
-    while j < xs.len() {
-        pool[at + j] = xs[j] as u32;
-        j += 1;
+    for (j, x) in xs.iter().enumerate() {
+        pool[at + j] = *x as u32;
     }
 }
 

@@ -1,4 +1,5 @@
-// An entry put into a span of the window, or into a newly opened one.
+// An entry put into a span of the window, or into a newly opened one. Both ways spell out the put: with one function for it, over `&mut Guide`,
+// a placing ran 187 instructions in place of 176.
 #![tactic(auto)]
 
 ghost use Rattle.std.specs.Prelude.{◌≡◌, ◌+◌, ◌<◌, ◌≤◌};
@@ -10,27 +11,13 @@ ghost use Rattle.placing.specs.Slices.{Standing, Becomes};
 
 use buffer::Guide;
 use entries::Entry;
-use window::Window;
+use window::Location;
 
 // A guide with the location that a placing gave.
 #[derive(Clone, Copy)]
 pub struct Pushed {
     pub guide: Guide,
-    pub span: u32,
-    pub pos: u32,
-}
-
-// A guide of these parts.
-fn guide_of(held: u32, window: Window, p: u32, v: u32, written: u32) -> Guide
-    ensures { result ≡ record { held = held; window = window; p = p; v = v; written = written } }
-{
-    Guide {
-        held: held,
-        window: window,
-        p: p,
-        v: v,
-        written: written,
-    }
+    pub at: Location,
 }
 
 // Puts an entry into span i, and releases span 0 where span i is then full, whichever span that is: with span 1 full, span 0 can gain no
@@ -47,33 +34,37 @@ pub fn place_existing(
     requires free { Free g }
     requires le_i { (1 ≤ i) × ((i < 32) × (length_of g i ≤ g.p)) }
     ensures becomes { Becomes g result.guide spans order tally (λ b. settle g.p (length_of g i + 1) (put i (item_of e) b)) }
-    ensures location { (result.span ≡ number_of g i) × (result.pos ≡ length_of g i) }
+    ensures location { (result.at.span ≡ number_of g i) × (result.at.pos ≡ length_of g i) }
 {
-    let mut w = g.window;
-    let mut n = g.written;
-    let p = g.p;
-    let at = w.ids[i];
-    let q = w.lens[i] as u32;
-    let start = buffer::row_start(w.rows[i], p);
-    entries::store_held(spans, start + q as usize, e);
-    w.lens[i] = (q + 1) as u16;
+    let mut window = g.window;
+    let mut written = g.written;
+    let span = window.ids[i];
+    let pos = window.lens[i] as u32;
+    let start = buffer::row_start(window.rows[i], g.p);
+    entries::store_held(spans, start + pos as usize, e);
+    window.lens[i] = (pos + 1) as u16;
     let mut held = g.held + 1;
-    if p <= q + 1 {
-        let h = placing::release_one(guide_of(held, w, p, g.v, n), spans, order, tally);
+    if g.p <= pos + 1 {
+        let filled = Guide {
+            held,
+            window,
+            written,
+            ..g
+        };
+        let h = placing::release_one(filled, spans, order, tally);
         held = h.held;
-        w = h.window;
-        n = h.written;
+        window = h.window;
+        written = h.written;
     }
+    let guide = Guide {
+        held,
+        window,
+        written,
+        ..g
+    };
     Pushed {
-        guide: Guide {
-            held: held,
-            window: w,
-            p: p,
-            v: g.v,
-            written: n,
-        },
-        span: at,
-        pos: q,
+        guide,
+        at: Location { span, pos },
     }
 }
 
@@ -90,24 +81,22 @@ pub fn place_opened(
     requires free_two { FreeTwo g }
     requires le_n { (1 ≤ n) × (n ≤ 2) }
     ensures becomes { Becomes g result.guide spans order tally (λ b. put 31 (item_of e) (release g.p n b)) }
-    ensures location { (result.span ≡ number_of g 31 + n) × (result.pos ≡ 0) }
+    ensures location { (result.at.span ≡ number_of g 31 + n) × (result.at.pos ≡ 0) }
 {
     let h = placing::open_spans(g, spans, order, tally, n);
-    let mut w = h.window;
-    let p = g.p;
-    let at = w.ids[window::LAST];
-    entries::store_held(spans, buffer::row_start(w.rows[window::LAST], p), e);
-    w.lens[window::LAST] = 1;
+    let mut window = h.window;
+    let span = window.ids[window::LAST];
+    entries::store_held(spans, buffer::row_start(window.rows[window::LAST], g.p), e);
+    window.lens[window::LAST] = 1;
     let held = h.held + 1;
+    let guide = Guide {
+        held,
+        window,
+        written: h.written,
+        ..g
+    };
     Pushed {
-        guide: Guide {
-            held: held,
-            window: w,
-            p: p,
-            v: g.v,
-            written: h.written,
-        },
-        span: at,
-        pos: 0,
+        guide,
+        at: Location { span, pos: 0 },
     }
 }

@@ -16,16 +16,15 @@ use Rattle.laws.specs.GuideInv.{eq_or_ne}
 use Rattle.laws.specs.Accepted.{accepted_is, refused_is}
 use Rattle.laws.specs.Sound.{Between, between}
 use Rattle.session.specs.declared.Session.{Session}
-use Rattle.session.specs.Storage.{Storage, with_lists}
+use Rattle.session.specs.Storage.{Storage, storage, with_lists}
 use Rattle.session.specs.Rep.{Rep}
 use Rattle.opening.specs.Opened.{sizes}
 use Rattle.admitting.specs.Promise.{positive}
 use Rattle.call_list.specs.Replay.{Replays, Ran, replay_number}
-use Rattle.explaining.specs.declared.Reason.{Reason}
-use Rattle.explaining.specs.declared.Reason.TheVariants as answer
-use Rattle.explaining.specs.Explaining.{explained_as, Small, MayExplain, Explains}
-use Rattle.job_reason.specs.declared.JobReason.{JobReason}
-use Rattle.job_reason.specs.declared.JobReason.TheVariants as job_answer
+use Rattle.explaining.specs.Explaining as answer
+use Rattle.explaining.specs.Explaining.{Reason, explained_as, Small, MayExplain, Explains}
+use Rattle.job_reason.specs.JobReason.{JobReason}
+use Rattle.job_reason.specs.JobReason as job_answer
 use Rattle.job_reason.specs.Explains.{ExplainsJob}
 use Rattle.reason.specs.Exported.{replay_reason, ReplayReason, OrderReason}
 
@@ -103,6 +102,12 @@ module _ {P N : ℕ} {l : List ℕ} {n : ℕ} {s : Session} {σ τ : Storage} {o
     pub replays_reason : ReplayReason P N l asked r σ τ out out'
     replays_reason =
         record { number = n; session = s; replays = p; is = number_is (eq_or_ne n 0); holds = λ z calls d v. reasons P N (length σ.pool) (one z) calls asked v }
+
+-- the same of the storage by its slices
+pub reason_over : {P N asked r : ℕ} {l sp o t rs m lo w pool out out' : List ℕ} {σ τ : Storage} → ReplayReason P N l asked r σ τ out out'
+    → sp ≡ τ.spans → o ≡ τ.order → t ≡ τ.tally → rs ≡ τ.rows → m ≡ τ.marks → lo ≡ τ.locations → w ≡ τ.waiting → pool ≡ τ.pool
+    → ReplayReason P N l asked r σ (storage sp o t rs m lo w pool) out out'
+reason_over h e₀ e₁ e₂ e₃ e₄ e₅ e₆ e₇ = rw (e₀, e₁, e₂, e₃, e₄, e₅, e₆, e₇) h
 
 -- after a job, the answer x being what it is
 module _ {job : List ℕ} {asked : ℕ} {x : JobReason} (h : ExplainsJob job asked x) where

@@ -1,37 +1,41 @@
-// Why a registration waits, for hosts, by one number: after an encoded list of calls on a fresh session, and after a job.
+// Why a registration waits, for hosts, by one number: after an encoded list of calls on a fresh session, and after a job. The slices and the
+// numbers for reasons and refusals stay: the C interface.
 #![tactic(auto)]
 
 ghost use Rattle.std.specs.Prelude.{◌≡◌};
+ghost use Rattle.rules.specs.Answer.{number};
 ghost use Rattle.rules.specs.Reason.{reason_number};
+ghost use Rattle.session.specs.Slices.{contents};
 ghost use Rattle.session.specs.Storage.{across};
-ghost use Rattle.explaining.specs.Explaining.{explained_as, Small};
+ghost use Rattle.explaining.specs.Explaining.{told, explained_as, Small};
+ghost use Rattle.call_list.specs.Replay.{opened};
 ghost use Rattle.reason.specs.Exported.{ReplayReason, OrderReason};
 ghost use Rattle.reason.specs.Telling.{MayTell, Tells};
 
 use explaining::Reason;
-use job_reason::JobReason;
-use session::Session;
+use rules::Refusal;
+use session::{Session, Storage};
 
 // A reason as one number, 64 · (2^24 · input + place), or the number of a refusal.
-fn by_number(x: Reason) -> u64
-    requires { Small x }
-    ensures { result ≡ reason_number (explained_as x) }
+fn by_number(x: Result<Reason, Refusal>) -> u64
+    requires { Small (told x) }
+    ensures { result ≡ reason_number (explained_as (told x)) }
 {
     match x {
-        Reason::Waits { input, place } => rules::REPLY_RADIX * (rules::PLACE_RADIX * input + place),
-        Reason::Refused { number } => number,
+        Ok(w) => rules::REPLY_RADIX * (rules::PLACE_RADIX * w.input + w.place),
+        Err(e) => e.into(),
     }
 }
 
 // The number of a replay that was refused, else why registration r of its session waits.
-fn number_after(number: u64, s: Session, waiting: &[u64], pool: &[u32], r: u64) -> u64
-    requires { MayTell number s waiting.now pool.now }
-    ensures { Tells number s waiting.now pool.now r result }
+fn number_after(a: Result<Session, Refusal>, storage: &Storage, r: u64) -> u64
+    requires { MayTell (number a) (opened a) (contents storage.now).waiting (contents storage.now).pool }
+    ensures { Tells (number a) (opened a) (contents storage.now).waiting (contents storage.now).pool r result }
 {
-    if number != 0 {
-        return number;
+    match a {
+        Ok(s) => by_number(explaining::explain(s, storage.waiting, storage.pool, r)),
+        Err(e) => e.into(),
     }
-    by_number(explaining::explain(s, waiting, pool, r))
 }
 
 // Opens a session of parallelism p and v places on the storage and makes the encoded calls, storing each one's number in `answers`, as
@@ -55,10 +59,18 @@ pub extern "C" fn replay_reason(
 ) -> u64
     ensures { across spans order tally rows marks locations waiting pool (λ σ τ. ReplayReason p v calls.now r result σ τ answers.old answers.new) }
 {
-    let a = call_list::replay(
-        spans, order, tally, rows, marks, locations, waiting, pool, answers, calls, p, v,
-    );
-    number_after(a.number, a.session, waiting, pool, r)
+    let mut storage = Storage {
+        spans,
+        order,
+        tally,
+        rows,
+        marks,
+        locations,
+        waiting,
+        pool,
+    };
+    let a = call_list::replay(&mut storage, answers, calls, p, v);
+    number_after(a, &storage, r)
 }
 
 // Runs a job on storage of its own and returns why registration r waits where it stopped: at a final that was accepted or refused with 12.
@@ -68,9 +80,8 @@ pub extern "C" fn replay_reason(
 pub extern "C" fn order_reason(job: &[u8], r: u64) -> u64
     ensures { OrderReason job.now r result }
 {
-    let x = job_reason::explain_job(job, r);
-    match x {
-        JobReason::Stopped { reason } => by_number(reason),
-        JobReason::Refused { line, code } => rules::REPLY_RADIX * line + code,
+    match job_reason::explain_job(job, r) {
+        Ok(reason) => by_number(reason),
+        Err(e) => rules::REPLY_RADIX * e.line + u64::from(e.refusal),
     }
 }

@@ -1,5 +1,6 @@
 // Record rows, SIZE numbers each: added, accepted, written, order index, and parallelism and lane in one. When entries were appended to the
-// order, the rows of their registrations are filled, all but written, which is stored apart.
+// order, the rows of their registrations are filled, all but written, which is stored apart. Flat numbers, since hosts read the rows in
+// this layout by the C interface.
 #![tactic(auto)]
 
 ghost use Rattle.std.specs.Prelude.{◌≡◌, ◌+◌, ◌^◌, ◌<◌};

@@ -14,12 +14,13 @@ use Rattle.rules.specs.Checks.{waiting_needed}
 use Rattle.laws.specs.Delaying.{left_sorted, left_above, queue_sorted}
 use Rattle.registrar.specs.Reading.{head_at, link_at}
 use Rattle.registrar.specs.Delayed.{with_head, with_link, newest, occurs, pends, Chain, Linked, Delayed, Later, Joins, Stacks, Aside, LinksOnly}
-use Rattle.registrar.specs.Delayed.{relinked, top_of, spliced, head_of, last_of, Chained, Oldest, Splices, Advancing, AdvancesSet, AdvancesPlaced}
+use Rattle.registrar.specs.Delayed.{relinked, top_of, spliced, head_of, last_of, Chained, Oldest, Splices, Advancing, AdvancesSet}
 use Rattle.registrar.specs.Queue.{From, lt_or_le, eq_or_ne, push_append, push_onto, push_twice, due_none, left_all, due_split, left_split, left_in}
 use Rattle.registrar.specs.Queue.{newest_left, newest_due, down, down_due, occurs_push, pends_split, newest_pends, newest_apart, queue_in, queue_pends, queue_newest, queue_others, pends_none}
 use Rattle.registrar.specs.Chains.{In, in_occurs, chain_same, linked_same, chain_frame, linked_frame, chain_below, chain_bound, links_set, links_refl, links_trans}
 use Rattle.registrar.specs.Chains.{chain_turn, head_turn, length_turn, links_turn, linked_turn, splice_linked, chain_splice, head_splice, length_splice, links_splice, last_in}
 use Rattle.registrar.specs.Loops.{ChainsAt}
+use Rattle.registrar.specs.Delayed.{AdvancesPlaced}
 
 -- what is neither head nor link, number by number
 pub aside_at : (w : List ℕ) (v : ℕ) (w' : List ℕ) → Aside w v w' → (i : ℕ) → 2 * v ≤ i → get_or w' i 0 ≡ get_or w i 0
@@ -280,20 +281,6 @@ joins w v p r hp hr =
 pub stacks : (w : List ℕ) (v r top : ℕ) → r < v → Stacks w v r top (r + 1) (with_link w v r top)
 stacks w v r top h = record { delayed = λ lo ps st d n. stack_keeps w v lo ps top st d r h n; top_is = refl; kept = links_set w v r top h }
 
-pub splices_none : (w : List ℕ) (v h onto : ℕ) → h ≡ 0 → Splices w v h onto onto w
-splices_none w v h onto z = record { placed = go }
-  where
-    go : (l : List ℕ) → Chain w v v h l → (onto ≡ head_of onto l) × (w ≡ spliced w v onto l)
-    go [] c = (refl, refl)
-    go (r ∷ l) c = absurd (suc-ne-zero r (sym c.0 ∙ z))
-
-pub splices_some : (w : List ℕ) (v h onto last : ℕ) → (h ≡ 0 → ⊥) → Oldest w v h last → Splices w v h onto h (with_link w v last onto)
-splices_some w v h onto last n o = record { placed = go }
-  where
-    go : (l : List ℕ) → Chain w v v h l → (h ≡ head_of onto l) × (with_link w v last onto ≡ spliced w v onto l)
-    go [] c = absurd (n c)
-    go (r ∷ l) c = (c.0, ap (λ (x : ℕ). with_link w v x onto) (o.found r l c))
-
 -- the oldest is below v
 pub oldest_below : (w : List ℕ) (v h last : ℕ) → Chained w v h → (h ≡ 0 → ⊥) → Oldest w v h last → last < v
 oldest_below w v h last c n o = go c.l c.chain
@@ -345,10 +332,6 @@ module _ {w₀ : List ℕ} {v lo hi top₀ : ℕ} (a : Advancing w₀ v lo hi to
           let k = s.placed (newest p (left p a.ps)) (there.chains p (omega arith) inside) in
           rw k.1 (splice_links w v p (left p a.ps) top (push (due p a.ps) a.st) there inside)
 
-pub placing_end : {w₀ : List ℕ} {v lo hi top₀ : ℕ} {w : List ℕ} {p top : ℕ} → Placing w₀ v lo top₀ w p top → p ≡ hi → AdvancesPlaced w₀ v lo hi top₀ top w
-placing_end {w₀} {v} {lo} {hi} {top₀} {w} {p} {top} g e =
-    record { delayed = λ ps st d. subst (λ (x : ℕ). Delayed w v x (left x ps) top (push (due x ps) st)) e (g.delayed ps st d); kept = g.kept }
-
 -- ---- the loop of advance_set
 
 pub set_advances : (w : List ℕ) (v lo hi : ℕ) (a : Advancing w v lo hi 0) (t : ℕ) (w' : List ℕ)
@@ -367,3 +350,21 @@ set_advances w v lo hi a t w' h = record { delayed = λ ps d. go ps d; kept = li
 -- the chains of a caller's delayed registrations
 pub advancing_places : (w : List ℕ) (v lo hi top : ℕ) (a : Advancing w v lo hi top) → ChainsAt w v lo hi (λ q. newest q a.ps)
 advancing_places w v lo hi top a = places_of w v lo hi a.ps top a.st a.delayed a.high
+
+pub splices_none : (w : List ℕ) (v h onto : ℕ) → h ≡ 0 → Splices w v h onto onto w
+splices_none w v h onto z = record { placed = go }
+  where
+    go : (l : List ℕ) → Chain w v v h l → (onto ≡ head_of onto l) × (w ≡ spliced w v onto l)
+    go [] c = (refl, refl)
+    go (r ∷ l) c = absurd (suc-ne-zero r (sym c.0 ∙ z))
+
+pub splices_some : (w : List ℕ) (v h onto last : ℕ) → (h ≡ 0 → ⊥) → Oldest w v h last → Splices w v h onto h (with_link w v last onto)
+splices_some w v h onto last n o = record { placed = go }
+  where
+    go : (l : List ℕ) → Chain w v v h l → (h ≡ head_of onto l) × (with_link w v last onto ≡ spliced w v onto l)
+    go [] c = absurd (n c)
+    go (r ∷ l) c = (c.0, ap (λ (x : ℕ). with_link w v x onto) (o.found r l c))
+
+pub placing_end : {w₀ : List ℕ} {v lo hi top₀ : ℕ} {w : List ℕ} {p top : ℕ} → Placing w₀ v lo top₀ w p top → p ≡ hi → AdvancesPlaced w₀ v lo hi top₀ top w
+placing_end {w₀} {v} {lo} {hi} {top₀} {w} {p} {top} g e =
+    record { delayed = λ ps st d. subst (λ (x : ℕ). Delayed w v x (left x ps) top (push (due x ps) st)) e (g.delayed ps st d); kept = g.kept }

@@ -20,9 +20,6 @@ pub record Turning (w₀ : List ℕ) (v from onto : ℕ) (w : List ℕ) (h top :
   pub links : relinked w v top l ≡ relinked w₀ v onto l₀
   pub long : waiting_needed v ≤ length w
 
-pub turn_start : (w : List ℕ) (v h top : ℕ) → Chained w v h → Turning w v h top w h top
-turn_start w v h top c = record { l₀ = c.l; chain₀ = c.chain; n = v; l = c.l; few = omega arith; chain = c.chain; tops = refl; links = refl; long = c.long }
-
 -- in a turn the link is that of a registration below v
 pub turn_at : (w₀ : List ℕ) (v from onto : ℕ) (w : List ℕ) (h top : ℕ) → Turning w₀ v from onto w h top → h ≤ v
 turn_at w₀ v from onto w h top t = omega (arith, chain_le w v t.n h t.l t.chain, t.few)
@@ -101,9 +98,6 @@ going_more w₀ v lo hi onto ch w p top w' top' g l ew et =
       links = rw (ew, et) (sym (relinked_append (ch p) (down ch lo (p - lo)) w v top) ∙ sym (ap (relinked w v top) d) ∙ g.links);
     }
 
-pub going_start : (w : List ℕ) (v lo hi onto : ℕ) (ch : ℕ → List ℕ) → lo ≤ hi → ChainsAt w v lo hi ch → Going w v lo hi onto ch w hi onto
-going_start w v lo hi onto ch l s = record { low = l; left = s; tops = refl; links = refl }
-
 pub going_end : (w₀ : List ℕ) (v lo hi onto : ℕ) (ch : ℕ → List ℕ) (w : List ℕ) (p top : ℕ) → Going w₀ v lo hi onto ch w p top → p ≤ lo
     → (top ≡ top_of onto (down ch lo (hi - lo))) × (w ≡ relinked w₀ v onto (down ch lo (hi - lo)))
 going_end w₀ v lo hi onto ch w p top g l =
@@ -123,12 +117,6 @@ module _ (w₀ : List ℕ) (v lo hi onto : ℕ) (ch : ℕ → List ℕ) (w : Lis
 
   pub going_chained : Chained w v (head_at w (p - 1))
   going_chained = record { l = ch (p - 1); chain = going_chain; long = at_more.left.long }
-
-  pub going_in : p ≤ v
-  going_in = g.left.high
-
-  pub going_long : waiting_needed v ≤ length w
-  going_long = g.left.long
 
 -- ---- the walk to the oldest
 
@@ -176,3 +164,16 @@ seek_end w v from r next s z = record { found = λ q l c. go s.l s.chain s.last 
     go : (k : List ℕ) → Chain w v r next k → last_of r k ≡ last_of s.q₀ s.l₀ → r ≡ last_of s.q₀ s.l₀
     go [] d e = e
     go (q ∷ k) d e = absurd (suc-ne-zero q (sym d.0 ∙ z))
+
+pub turn_start : (w : List ℕ) (v h top : ℕ) → Chained w v h → Turning w v h top w h top
+turn_start w v h top c = record { l₀ = c.l; chain₀ = c.chain; n = v; l = c.l; few = omega arith; chain = c.chain; tops = refl; links = refl; long = c.long }
+
+pub going_start : (w : List ℕ) (v lo hi onto : ℕ) (ch : ℕ → List ℕ) → lo ≤ hi → ChainsAt w v lo hi ch → Going w v lo hi onto ch w hi onto
+going_start w v lo hi onto ch l s = record { low = l; left = s; tops = refl; links = refl }
+
+module _ (w₀ : List ℕ) (v lo hi onto : ℕ) (ch : ℕ → List ℕ) (w : List ℕ) (p top : ℕ) (g : Going w₀ v lo hi onto ch w p top) (lt : lo < p) where
+  pub going_in : p ≤ v
+  going_in = g.left.high
+
+  pub going_long : waiting_needed v ≤ length w
+  going_long = g.left.long

@@ -1,7 +1,8 @@
 // Delayed registrations (document 01: those that wait), in a chain for each place, newest first, and the stack of those that came off.
 // The waiting storage has a head link for each place and a link for each registration; chains and stack share the registrations' links.
-// A link is 0 for none, else the registration plus 1. This crate alone knows where they lie, by `head`, `set_head`, `link`, `set_link` and
-// `clear`: of the quarters of v numbers, the first holds the heads, the second the links.
+// A link is 0 for none, else the registration plus 1: a number and no Option, since it lies in the caller's storage (the C interface).
+// This crate alone knows where they lie, by `head`, `set_head`, `link`, `set_link` and `clear`: of the quarters of v numbers, the first
+// holds the heads, the second the links.
 #![tactic(auto)]
 
 ghost use Rattle.std.specs.Prelude.{◌≡◌, ◌≤◌, ◌<◌, length};
@@ -15,7 +16,7 @@ pub fn clear(waiting: &mut [u64], v: usize)
     requires { waiting_needed v ≤ length waiting.old }
     ensures { Cleared 0 v waiting.old waiting.new }
 {
-    zeros::clear64(waiting, 0, v);
+    waiting[..v].fill(0);
 }
 
 // Place p's head link.
@@ -101,10 +102,8 @@ pub fn advance_set(waiting: &mut [u64], v: usize, lo: usize, hi: usize) -> u64
     requires { Advancing waiting.old v lo hi 0 }
     ensures { AdvancesSet waiting.old v lo hi result waiting.new }
 {
-    let mut p = hi;
     let mut top: u64 = 0;
-    while p > lo {
-        p -= 1;
+    for p in (lo..hi).rev() {
         let newest = head(waiting, p);
         top = turn_onto(waiting, v, newest, top);
     }
@@ -144,12 +143,10 @@ pub fn advance_placed(waiting: &mut [u64], v: usize, lo: usize, hi: usize, top: 
     requires { Advancing waiting.old v lo hi top }
     ensures { AdvancesPlaced waiting.old v lo hi top result waiting.new }
 {
-    let mut p = lo;
     let mut t = top;
-    while p < hi {
+    for p in lo..hi {
         let newest = head(waiting, p);
         t = splice(waiting, v, newest, t);
-        p += 1;
     }
     t
 }

@@ -1,2 +1,3 @@
--- What the exported calls promise.
+-- What the exported calls promise, and that what they tell meets it.
 pub mod Exported
+pub mod Telling

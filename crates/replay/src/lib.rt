@@ -1,19 +1,24 @@
 // An encoded list of calls on a fresh session, for hosts: crate call_list's `replay`, by one number. The two calls do the same and differ
-// in what they tell of the session.
+// in what they tell of the session. Each takes the storage in eight slices, which is the C interface; beside that they share one call.
 #![tactic(auto)]
 
 ghost use Rattle.std.specs.Prelude.{◌≡◌};
+ghost use Rattle.rules.specs.Answer.{number};
 ghost use Rattle.session.specs.Storage.{across};
 ghost use Rattle.replay.specs.Exported.{by_number, written, held, Exported};
+ghost use Rattle.replay.specs.Telling.{count_told};
+
+use rules::Refusal;
+use session::Storage;
 
 // 64 times a count of the session, or the number of a refusal.
-pub fn by_number(number: u64, count: u32) -> u64
-    ensures { result ≡ by_number number count }
+pub fn by_number(told: Result<u32, Refusal>) -> u64
+    ensures { result ≡ by_number (number told) (count_told told) }
 {
-    if number == 0 {
-        return rules::REPLY_RADIX * (count as u64);
+    match told {
+        Ok(count) => rules::REPLY_RADIX * (count as u64),
+        Err(e) => u64::from(e),
     }
-    number
 }
 
 // Opens a session of parallelism p and v places on the storage and makes the encoded calls, storing each one's number in `answers`.
@@ -36,10 +41,18 @@ pub extern "C" fn replay_calls(
 ) -> u64
     ensures { across spans order tally rows marks locations waiting pool (λ σ τ. Exported written p v calls.now result σ τ answers.old answers.new) }
 {
-    let a = call_list::replay(
-        spans, order, tally, rows, marks, locations, waiting, pool, answers, calls, p, v,
-    );
-    by_number(a.number, a.session.guide.written)
+    let mut storage = Storage {
+        spans,
+        order,
+        tally,
+        rows,
+        marks,
+        locations,
+        waiting,
+        pool,
+    };
+    let a = call_list::replay(&mut storage, answers, calls, p, v);
+    by_number(a.map(|s| s.guide.written))
 }
 
 // The same, and returns 64 times the entries that the window holds after the calls, or the number of a refusal.
@@ -60,8 +73,16 @@ pub extern "C" fn replay_held(
 ) -> u64
     ensures { across spans order tally rows marks locations waiting pool (λ σ τ. Exported held p v calls.now result σ τ answers.old answers.new) }
 {
-    let a = call_list::replay(
-        spans, order, tally, rows, marks, locations, waiting, pool, answers, calls, p, v,
-    );
-    by_number(a.number, session::held(a.session))
+    let mut storage = Storage {
+        spans,
+        order,
+        tally,
+        rows,
+        marks,
+        locations,
+        waiting,
+        pool,
+    };
+    let a = call_list::replay(&mut storage, answers, calls, p, v);
+    by_number(a.map(session::held))
 }

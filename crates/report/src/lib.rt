@@ -1,4 +1,5 @@
-// The listing of a session after final, from its storage and the numbers that the job's end tells.
+// The listing of a session after final, from its order and rows and the numbers that the job's end tells. Two slices, and no storage, stay:
+// `MayReport` and `Reports` (specs/Report) speak of these two alone.
 #![tactic(auto)]
 
 ghost use Rattle.std.specs.Prelude.{length};

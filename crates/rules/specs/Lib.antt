@@ -2,6 +2,7 @@
 -- document 02 what a job needs, why a registration waits, and the ascending profile.
 pub mod Limits
 pub mod Refusals
+pub mod Answer
 pub mod Text
 pub mod Guide
 pub mod Model

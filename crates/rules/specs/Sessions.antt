@@ -166,7 +166,7 @@ pub lane_checks_want : List (List ℕ)
 lane_checks_want = (0 ∷ 18 ∷ 18 ∷ 0 ∷ 7 ∷ []) ∷ (18 ∷ []) ∷ (18 ∷ 18 ∷ 18 ∷ 0 ∷ 18 ∷ 8 ∷ []) ∷ (0 ∷ 18 ∷ 9 ∷ []) ∷ (18 ∷ 10 ∷ []) ∷ []
 
 pub lanes : (lanes_got ≡ lanes_want) × (lane_checks_got ≡ lane_checks_want)
-unfolding lanes_got lanes_want lane_checks_got lane_checks_want labels order_labels held_labels row_labels one labelled parallelism parallelism_by last_parallelism annotate released
+unfolding lanes_got lanes_want lane_checks_got lane_checks_want labels order_labels held_labels row_labels labelled parallelism parallelism_by last_parallelism annotate released
     fresh release flush_guide seek found begin choose put settle apply place initial member marked tracked run_from watermark greatest ready loc_of later top after spotted reg_of
     place_one due left queue keep push off rest with_set with_add cascade settle_all do_set do_add with_record note_add note_flush note_final with_flush do_flush do_final verdict
     any repeats written_by taken pooled check_closed check_places check_set check_add check_flush check_final checks answer apply_call unless_refused step run answers unfilled fill

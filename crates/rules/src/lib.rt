@@ -1,6 +1,9 @@
-// The limits and the numbers of the refusals for code; specs/Limits and specs/Refusals have them, under the same names, for
-// the definitions, all of which stand in specs/.
+// The limits and the refusals for code; specs/Limits and specs/Refusals have the numbers, under the same names, for
+// the definitions, all of which stand in specs/. specs/Answer has a refusal's number.
 #![tactic(auto)]
+
+ghost use Rattle.std.specs.Prelude.{◌≡◌};
+ghost use Rattle.rules.specs.Answer.{number_of, number};
 
 // The greatest P and V.
 pub const MOST_PARALLELISM: u64 = 64999;
@@ -55,45 +58,54 @@ pub const JOB_PLACES: usize = 512;
 
 pub const JOB_POOL: usize = 4096;
 
-// The numbers of the refusals.
-pub const OUT_OF_RANGE: u64 = 1;
+// The refusals, and the number of each.
+#[derive(Clone, Copy, PartialEq, Eq)]
+pub enum Refusal {
+    OutOfRange = 1,
+    TooShort = 2,
+    TooManyNumbers = 3,
+    FlaggedPlace = 4,
+    UnknownPlace = 5,
+    RepeatedOutput = 6,
+    Closed = 7,
+    TakenPlace = 8,
+    TooManyRegistrations = 9,
+    FullPool = 10,
+    TooManyFlushes = 11,
+    StillWaiting = 12,
+    NotHeld = 13,
+    GuideExhausted = 14,
+    Malformed = 15,
+    LongJob = 16,
+    LongListing = 17,
+    UnknownLane = 18,
+    NeverAccepted = 19,
+    NotWaiting = 20,
+    ProfileBreach = 21,
+}
 
-pub const TOO_SHORT: u64 = 2;
+impl From<Refusal> for u32 {
+    ghost from_gives = { λ x r. r ≡ number_of x };
 
-pub const TOO_MANY_NUMBERS: u64 = 3;
+    fn from(x: Refusal) -> u32 {
+        x as u32
+    }
+}
 
-pub const FLAGGED_PLACE: u64 = 4;
+impl From<Refusal> for u64 {
+    ghost from_gives = { λ x r. r ≡ number_of x };
 
-pub const UNKNOWN_PLACE: u64 = 5;
+    fn from(x: Refusal) -> u64 {
+        x as u64
+    }
+}
 
-pub const REPEATED_OUTPUT: u64 = 6;
-
-pub const CLOSED: u64 = 7;
-
-pub const TAKEN_PLACE: u64 = 8;
-
-pub const TOO_MANY_REGISTRATIONS: u64 = 9;
-
-pub const FULL_POOL: u64 = 10;
-
-pub const TOO_MANY_FLUSHES: u64 = 11;
-
-pub const STILL_WAITING: u64 = 12;
-
-pub const NOT_HELD: u64 = 13;
-
-pub const GUIDE_EXHAUSTED: u64 = 14;
-
-pub const MALFORMED: u64 = 15;
-
-pub const LONG_JOB: u64 = 16;
-
-pub const LONG_LISTING: u64 = 17;
-
-pub const UNKNOWN_LANE: u64 = 18;
-
-pub const NEVER_ACCEPTED: u64 = 19;
-
-pub const NOT_WAITING: u64 = 20;
-
-pub const PROFILE_BREACH: u64 = 21;
+// The number that a call answers with: 0, or the refusal's.
+pub fn number<T>(answer: &Result<T, Refusal>) -> u64
+    ensures { result ≡ number answer.now }
+{
+    match answer {
+        Ok(_) => 0,
+        Err(x) => u64::from(*x),
+    }
+}

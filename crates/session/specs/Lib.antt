@@ -1,6 +1,9 @@
--- The session and its storage: what they stand for (Storage, Rep), what a host finds in them (Shows, Showing, Poll), one placing (Finding, Placed, Placing, Rows, Outputs, PlaceOne), one turn of
--- the cascade (PlaceNext) and the whole of it (Cascade, Settle), and what is noted after it (Noting, Recording).
+-- The session and its storage: what they stand for (Storage, Slices, After, Rep), what a host finds in them (Shows, Showing, Poll), one placing
+-- (Finding, Placed, Placing, Rows, Outputs, PlaceOne), one turn of the cascade (PlaceNext) and the whole of it (Cascade, Settle), and what is
+-- noted after it (Noting, Recording).
 pub mod Storage
+pub mod Slices
+pub mod After
 pub mod Rep
 pub mod Shows
 pub mod Showing

@@ -15,6 +15,7 @@ use Rattle.placing.specs.Stands.{Stands}
 use Rattle.guide.specs.Ready.{Ready, Near, after_of}
 use Rattle.guide.specs.Pushes.{Pushes}
 use Rattle.records.specs.Filling.{filled, Fillable}
+use Rattle.window.specs.Location.{has, span_of, pos_of}
 use Rattle.session.specs.declared.After.{After}
 use Rattle.session.specs.Storage.{Storage}
 use Rattle.session.specs.Outputs.{Settling, Settled}
@@ -64,18 +65,18 @@ module _ (c r : ℕ) (g : Guide) (watermark added used : ℕ) (σ : Storage) whe
     found : (a : MayPlace c g watermark added used σ r) → Found σ.locations σ.pool (reg_of a.k r) f
     found a = D.found a.k (lists_at a) (may a).mine a.added_is
 
-    abbrev put : MayPlace c g watermark added used σ r → MayPut c r g watermark σ f.has f.span f.pos f.lane
+    abbrev put : MayPlace c g watermark added used σ r → MayPut c r g watermark σ (has f.after) (span_of f.after) (pos_of f.after) f.lane
     put a = record { P = a.P; N = a.N; W = a.W; k = a.k; st = a.st; base = base a.core; sound = a.sound; ended = a.ended; led = (found a).led }
 
     pub asks_push : MayPlace c g watermark added used σ r
-        → Stands g σ.spans σ.order σ.tally × (Ready g.p g.v (view g σ.spans σ.order) × Near (view g σ.spans σ.order) (after_of f.has f.span f.pos))
+        → Stands g σ.spans σ.order σ.tally × (Ready g.p g.v (view g σ.spans σ.order) × Near (view g σ.spans σ.order) (after_of (has f.after) (span_of f.after) (pos_of f.after)))
     asks_push a = put_push (put a)
 
     pub asks_settle : MayPlace c g watermark added used σ r → Settling σ.marks σ.locations σ.pool f.at f.n g.v watermark
     asks_settle a = may_settle f (put a) (found a)
 
     module _ (h : Guide) (sp o t : List ℕ) (span pos : ℕ)
-        (U : Pushes g h (after_of f.has f.span f.pos) (item_of (entry_for r c f.lane)) σ.spans σ.order σ.tally sp o t span pos) where
+        (U : Pushes g h (after_of (has f.after) (span_of f.after) (pos_of f.after)) (item_of (entry_for r c f.lane)) σ.spans σ.order σ.tally sp o t span pos) where
       abbrev n : ℕ
       n = g.written
 

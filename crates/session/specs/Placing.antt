@@ -13,6 +13,7 @@ use Rattle.buffer.specs.declared.Guide.{Guide}
 use Rattle.guide.specs.Ready.{after_of}
 use Rattle.guide.specs.Pushes.{Pushes}
 use Rattle.records.specs.Filling.{filled}
+use Rattle.window.specs.Location.{has, span_of, pos_of}
 use Rattle.session.specs.declared.After.{After}
 use Rattle.session.specs.Storage.{Storage, Frame}
 use Rattle.session.specs.Outputs.{Settling, Settled}
@@ -21,12 +22,12 @@ use Rattle.session.specs.Placed.{Led, MayPut, entry_for, placed_storage, outs_be
 
 -- what is read of a registration a: what placing reads, and where its outputs lie
 pub record Found (locations pool : List ℕ) (a : Reg) (f : After) : Type 0 where
-  pub led : Led locations a f.has f.span f.pos f.lane
+  pub led : Led locations a (has f.after) (span_of f.after) (pos_of f.after) f.lane
   pub inside : f.at + f.n ≤ length pool
   pub outs_are : part pool f.at f.n ≡ a.outs
 
 module _ {c r : ℕ} {g : Guide} {watermark : ℕ} {σ : Storage} (f : After)
-    (a : MayPut c r g watermark σ f.has f.span f.pos f.lane) (F : Found σ.locations σ.pool (reg_of a.k r) f) where
+    (a : MayPut c r g watermark σ (has f.after) (span_of f.after) (pos_of f.after) f.lane) (F : Found σ.locations σ.pool (reg_of a.k r) f) where
   abbrev listed : List ℕ
   listed = part σ.pool f.at f.n
 
@@ -47,7 +48,7 @@ module _ {c r : ℕ} {g : Guide} {watermark : ℕ} {σ : Storage} (f : After)
       run_of v = run_from (tracked_in σ.marks) v 0
 
   module _ {h : Guide} {sp o t rs m l : List ℕ} {span pos watermark' : ℕ}
-      (U : Pushes g h (after_of f.has f.span f.pos) (item_of (entry_for r c f.lane)) σ.spans σ.order σ.tally sp o t span pos)
+      (U : Pushes g h (after_of (has f.after) (span_of f.after) (pos_of f.after)) (item_of (entry_for r c f.lane)) σ.spans σ.order σ.tally sp o t span pos)
       (er : rs ≡ filled σ.rows g.written (row o g.written (h.written - g.written)))
       (Z : Settled σ.marks σ.locations listed (packed span pos) g.v m l watermark') where
     stamps : Stamped σ.marks σ.locations (reg_of a.k r).outs (packed span pos) m l

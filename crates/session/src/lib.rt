@@ -1,4 +1,4 @@
-// The session by value, and the placing of registrations over its lent storage.
+// The session by value, and the placing of registrations over its storage.
 #![tactic(auto)]
 
 ghost use Rattle.std.specs.Prelude.{◌≡◌, ◌<◌};
@@ -6,7 +6,7 @@ ghost use Rattle.lists.specs.Part.{part};
 ghost use Rattle.records.specs.Filling.{rows_fit};
 ghost use Rattle.session.specs.Noting.{noted};
 ghost use Rattle.session.specs.Outputs.{Settling, Settled};
-ghost use Rattle.session.specs.Storage.{given_read, across_read, given_over, across_over};
+ghost use Rattle.session.specs.Slices.{contents, SameLists, SameSlices};
 ghost use Rattle.session.specs.PlaceNext.{MayPlace, PlacesOne, MayPlaceNext, PlacesNext};
 ghost use Rattle.session.specs.Settle.{MaySettle, Settles};
 ghost use Rattle.session.specs.PlaceOne.{MayFind, Finds};
@@ -14,6 +14,7 @@ ghost use Rattle.session.specs.Poll.{Polls};
 
 use buffer::Guide;
 use entries::Entry;
+use window::Location;
 
 #[derive(Clone, Copy)]
 pub struct Session {
@@ -33,6 +34,20 @@ pub struct Session {
     pub places: u32,
 }
 
+// A session's storage: entries of the spans and of the order, the tally's counts, rows, marks and locations of places, the waiting storage,
+// and the pool of input and output lists. Slices of plain numbers: the C interface.
+#[derive(Drop)]
+pub struct Storage<'a> {
+    pub spans: &'a mut [u32],
+    pub order: &'a mut [u32],
+    pub tally: &'a mut [u32],
+    pub rows: &'a mut [u32],
+    pub marks: &'a mut [u16],
+    pub locations: &'a mut [u64],
+    pub waiting: &'a mut [u64],
+    pub pool: &'a mut [u32],
+}
+
 // How many entries the window holds: a poll, which reads no storage.
 pub fn held(s: Session) -> u32
     ensures polls { Polls s result }
@@ -41,51 +56,38 @@ pub fn held(s: Session) -> u32
     s.guide.held
 }
 
-// What placing a registration reads of it: whether it has inputs, the greatest location of them, the n outputs, which lie in the pool from
+// What placing a registration reads of it: the greatest location of its inputs, if it has any, the n outputs, which lie in the pool from
 // `at` on, and its lane.
 #[derive(Clone, Copy)]
 pub struct After {
-    pub has: bool,
-    pub span: u32,
-    pub pos: u32,
+    pub after: Option<Location>,
     pub at: usize,
     pub n: usize,
     pub lane: u16,
 }
 
-fn wide(x: u32) -> usize
-    ensures { result ≡ x }
-{
-    x as usize
-}
-
 // Where the lists of registration r lie, the greatest location of its inputs, and its lane.
-fn find_after(
-    locations: &[u64],
-    waiting: &[u64],
-    pool: &[u32],
-    v: u32,
-    added: u32,
-    used: usize,
-    r: u32,
-) -> After
-    requires { MayFind locations.now waiting.now pool.now v added used r }
-    ensures { Finds locations.now waiting.now pool.now v added used r result }
+fn find_after(storage: &Storage, v: u32, added: u32, used: usize, r: u32) -> After
+    requires { MayFind (contents storage.now).locations (contents storage.now).waiting (contents storage.now).pool v added used r }
+    ensures { Finds (contents storage.now).locations (contents storage.now).waiting (contents storage.now).pool v added used r result }
 {
-    let size = wide(v);
-    let i = wide(r);
-    let start = pool::list_start(waiting, size, i);
-    let n = pool::list_inputs(waiting, size, i);
-    let end = pool::list_end(waiting, size, i, wide(added), used);
-    let top = tracking::top_loc(locations, pool, start, n);
+    let size = v as usize;
+    let i = r as usize;
+    let start = pool::list_start(storage.waiting, size, i);
+    let n = pool::list_inputs(storage.waiting, size, i);
+    let end = pool::list_end(storage.waiting, size, i, added as usize, used);
     let at = start + n;
+    let top = tracking::top_loc(storage.locations, storage.pool, start, n);
+    let after = if n == 0 {
+        None
+    } else {
+        Some(tracking::unpacked(top))
+    };
     After {
-        has: 0 < n,
-        span: tracking::span_of(top),
-        pos: tracking::position_of(top),
-        at: at,
+        after,
+        at,
         n: end - at,
-        lane: pool::lane_of(waiting, size, i),
+        lane: pool::lane_of(storage.waiting, size, i),
     }
 }
 
@@ -104,10 +106,11 @@ fn settle_outputs(
     ensures { Settled marks.old locations.old (part pool.now at n) loc v marks.new locations.new result }
 {
     tracking::stamp(marks, locations, pool, at, n, loc);
-    tracking::advance(marks, wide(v), watermark)
+    tracking::advance(marks, v as usize, watermark)
 }
 
-// A session after a turn of the cascade, and the link of the stack's new top.
+// A session after a turn of the cascade, and the link of the stack's new top. A link is a number, a registration's and 1 or 0 for none, as
+// the waiting storage holds it: the C interface.
 #[derive(Clone, Copy)]
 pub struct CascadeTurn {
     pub session: Session,
@@ -123,25 +126,15 @@ pub struct Moved {
 
 // Places registration r, the own add of c registrations having ended: it takes its place in the guide after its inputs, rows are filled
 // for what the guide released, and its outputs take its location.
-fn place_one(
-    s: Session,
-    spans: &mut [u32],
-    order: &mut [u32],
-    tally: &mut [u32],
-    rows: &mut [u32],
-    marks: &mut [u16],
-    locations: &mut [u64],
-    waiting: &[u64],
-    pool: &[u32],
-    r: u32,
-    c: u32,
-) -> Moved
-    requires { MayPlace c s.guide s.watermark s.added s.used (given_over spans order tally rows marks locations waiting.now pool.now) r }
-    ensures { across_over spans order tally rows marks locations waiting.now pool.now (λ σ τ. PlacesOne c r s.guide s.watermark s.added s.used σ result.guide result.watermark τ) }
+fn place_one(s: Session, storage: &mut Storage, r: u32, c: u32) -> Moved
+    requires { MayPlace c s.guide s.watermark s.added s.used (contents storage.old) r }
+    ensures placed { PlacesOne c r s.guide s.watermark s.added s.used (contents storage.old) result.guide result.watermark (contents storage.new) }
+    ensures lists { SameLists (contents storage.old) (contents storage.new) }
+    ensures same { SameSlices storage.old storage.new }
 {
     let v = s.guide.v;
     let n = s.guide.written;
-    let a = find_after(locations, waiting, pool, v, s.added, s.used, r);
+    let a = find_after(storage, v, s.added, s.used, r);
     let e = Entry {
         value: r,
         added: r,
@@ -149,83 +142,63 @@ fn place_one(
         parallelism: 0,
         lane: a.lane,
     };
-    let d = guide::push(s.guide, spans, order, tally, a.has, a.span, a.pos, e);
-    records::fill_rows(order, rows, n, d.guide.written - n);
-    let loc = tracking::packed(d.span, d.pos);
-    let to = settle_outputs(marks, locations, pool, a.at, a.n, loc, v, s.watermark);
-    let h = d.guide;
-    Moved {
-        guide: h,
-        watermark: to,
-    }
+    let d = guide::push(
+        s.guide,
+        storage.spans,
+        storage.order,
+        storage.tally,
+        a.after,
+        e,
+    );
+    let guide = d.guide;
+    records::fill_rows(&mut *storage.order, storage.rows, n, guide.written - n);
+    let loc = tracking::packed(d.at);
+    let watermark = settle_outputs(
+        storage.marks,
+        storage.locations,
+        &mut *storage.pool,
+        a.at,
+        a.n,
+        loc,
+        v,
+        s.watermark,
+    );
+    Moved { guide, watermark }
 }
 
 // Takes the top of the stack off, places it, and pushes what its outputs set free.
-pub fn place_next(
-    s: Session,
-    spans: &mut [u32],
-    order: &mut [u32],
-    tally: &mut [u32],
-    rows: &mut [u32],
-    marks: &mut [u16],
-    locations: &mut [u64],
-    waiting: &mut [u64],
-    pool: &[u32],
-    top: u64,
-    c: u32,
-) -> CascadeTurn
-    requires { MayPlaceNext c s (given_read spans order tally rows marks locations waiting pool.now) top }
-    ensures { across_read spans order tally rows marks locations waiting pool.now (λ σ τ. PlacesNext c s σ top result.session τ result.top) }
+pub fn place_next(s: Session, storage: &mut Storage, top: u64, c: u32) -> CascadeTurn
+    requires { MayPlaceNext c s (contents storage.old) top }
+    ensures placed { PlacesNext c s (contents storage.old) top result.session (contents storage.new) result.top }
+    ensures pool { (contents storage.new).pool ≡ (contents storage.old).pool }
+    ensures same { SameSlices storage.old storage.new }
 {
-    let v = wide(s.guide.v);
+    let v = s.guide.v as usize;
     let r = top - 1;
-    let under = registrar::next(waiting, v, r as usize);
-    let m = place_one(
-        s, spans, order, tally, rows, marks, locations, waiting, pool, r as u32, c,
-    );
-    let over = registrar::advance_placed(waiting, v, s.watermark, m.watermark, under);
-    let h = m.guide;
-    let z = Session {
-        guide: h,
+    let under = registrar::next(&mut *storage.waiting, v, r as usize);
+    let m = place_one(s, storage, r as u32, c);
+    let over = registrar::advance_placed(storage.waiting, v, s.watermark, m.watermark, under);
+    let session = Session {
+        guide: m.guide,
         watermark: m.watermark,
-        added: s.added,
-        used: s.used,
         delayed: s.delayed - 1,
-        flushes: s.flushes,
-        closed: s.closed,
-        registrations: s.registrations,
-        places: s.places,
+        ..s
     };
-    CascadeTurn {
-        session: z,
-        top: over,
-    }
+    CascadeTurn { session, top: over }
 }
 
 // The cascade: the registrations of the stack whose top link is `top` are placed, with all that they set off. The own add of c
 // registrations has ended.
-pub fn settle(
-    s: Session,
-    spans: &mut [u32],
-    order: &mut [u32],
-    tally: &mut [u32],
-    rows: &mut [u32],
-    marks: &mut [u16],
-    locations: &mut [u64],
-    waiting: &mut [u64],
-    pool: &[u32],
-    top: u64,
-    c: u32,
-) -> Session
-    requires { MaySettle c s (given_read spans order tally rows marks locations waiting pool.now) top }
-    ensures { across_read spans order tally rows marks locations waiting pool.now (λ σ τ. Settles c s σ top result τ) }
+pub fn settle(s: Session, storage: &mut Storage, top: u64, c: u32) -> Session
+    requires { MaySettle c s (contents storage.old) top }
+    ensures settled { Settles c s (contents storage.old) top result (contents storage.new) }
+    ensures pool { (contents storage.new).pool ≡ (contents storage.old).pool }
+    ensures same { SameSlices storage.old storage.new }
 {
     let mut z = s;
     let mut t = top;
     while t != 0 {
-        let d = place_next(
-            z, spans, order, tally, rows, marks, locations, waiting, pool, t, c,
-        );
+        let d = place_next(z, storage, t, c);
         z = d.session;
         t = d.top;
     }

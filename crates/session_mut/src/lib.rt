@@ -2,56 +2,32 @@
 // the same promise. A refused call leaves session and storage as they were.
 #![tactic(auto)]
 
+ghost use Rattle.rules.specs.Answer.{number};
 ghost use Rattle.rules.specs.Calls.{set as set_call, add as add_call};
-ghost use Rattle.session.specs.Storage.{given, across};
+ghost use Rattle.session.specs.Slices.{contents, SameSlices};
 ghost use Rattle.admitting.specs.Promise.{Asks, Called};
 
-use session::Session;
+use lists::Registration;
+use rules::Refusal;
+use session::{Session, Storage};
 
-// Sets place x: the call's number.
-pub fn set(
-    s: &mut Session,
-    spans: &mut [u32],
-    order: &mut [u32],
-    tally: &mut [u32],
-    rows: &mut [u32],
-    marks: &mut [u16],
-    locations: &mut [u64],
-    waiting: &mut [u64],
-    pool: &mut [u32],
-    x: u64,
-) -> u64
-    requires { Asks s.old (given spans order tally rows marks locations waiting pool) }
-    ensures { across spans order tally rows marks locations waiting pool (λ σ τ. Called (set_call x) result s.old s.new σ τ) }
+// Sets place x.
+pub fn set(s: &mut Session, storage: &mut Storage, x: u64) -> Result<(), Refusal>
+    requires { Asks s.old (contents storage.old) }
+    ensures called { Called (set_call x) (number result) s.old s.new (contents storage.old) (contents storage.new) }
+    ensures same { SameSlices storage.old storage.new }
 {
-    let a = sorter::set(
-        *s, spans, order, tally, rows, marks, locations, waiting, pool, x,
-    );
-    *s = a.session;
-    a.number
+    *s = sorter::set(*s, storage, x)?;
+    Ok(())
 }
 
-// Adds a registration in a lane that reads the places ins and writes the places outs: the call's number.
-pub fn add(
-    s: &mut Session,
-    spans: &mut [u32],
-    order: &mut [u32],
-    tally: &mut [u32],
-    rows: &mut [u32],
-    marks: &mut [u16],
-    locations: &mut [u64],
-    waiting: &mut [u64],
-    pool: &mut [u32],
-    ins: &[u64],
-    outs: &[u64],
-    lane: u64,
-) -> u64
-    requires { Asks s.old (given spans order tally rows marks locations waiting pool) }
-    ensures { across spans order tally rows marks locations waiting pool (λ σ τ. Called (add_call lane ins.now outs.now) result s.old s.new σ τ) }
+// Adds a registration.
+pub fn add(s: &mut Session, storage: &mut Storage, r: Registration) -> Result<(), Refusal>
+    requires { Asks s.old (contents storage.old) }
+    ensures called { Called (add_call r.entry.lane r.entry.inputs.now r.entry.outputs.now) (number result) s.old s.new
+        (contents storage.old) (contents storage.new) }
+    ensures same { SameSlices storage.old storage.new }
 {
-    let a = sorter::add(
-        *s, spans, order, tally, rows, marks, locations, waiting, pool, ins, outs, lane,
-    );
-    *s = a.session;
-    a.number
+    *s = sorter::add(*s, storage, r)?;
+    Ok(())
 }

@@ -5,7 +5,7 @@ use Rattle.std.proofs.Common.{arith}
 use Rattle.rules.specs.Record.{row_of}
 use Rattle.rules.specs.Model.{Model, tracked, watermark as watermark_of, with_record, with_flush, note_flush, note_final, do_flush, do_final}
 use Rattle.rules.specs.Checks.{taken}
-use Rattle.rules.specs.Calls.{Call, flush as flush_call, final as final_call, answer, apply_call}
+use Rattle.rules.specs.Calls.{flush as flush_call, final as final_call, answer, apply_call}
 use Rattle.laws.specs.Accepted.{flush_passed}
 use Rattle.laws.specs.Placeable.{Fits}
 use Rattle.laws.specs.Sound.{Between}
@@ -17,22 +17,7 @@ use Rattle.session.specs.Storage.{Storage, with_order}
 use Rattle.session.specs.Rep.{Core, Rep}
 use Rattle.session.specs.Parts.{base, few_places}
 use Rattle.admitting.specs.Promise.{MayDo, Does, positive}
-
--- what the work of flush or final, the call c, may presume and what it does, of the slices that it touches: asked of some storage with these
--- spans, order, tally and rows, and promised of every one
-pub record MayFlush (c : Call) (s : Session) (sp o t rs : List ℕ) : Type 0 where
-  pub around : Storage
-  pub may : MayDo c s (with_order around sp o t rs)
-
-abbrev pub Flushes : Call → Session → Session → List ℕ → List ℕ → List ℕ → List ℕ → List ℕ → List ℕ → List ℕ → Type 0
-Flushes c s s' sp o t rs o' t' rs' = (σ : Storage) → Does c s s' (with_order σ sp o t rs) (with_order σ sp o' t' rs')
-
-pub may_flush : {c : Call} {s : Session} {σ : Storage} → MayDo c s σ → MayFlush c s σ.spans σ.order σ.tally σ.rows
-may_flush {c} {s} {σ} m = record { around = σ; may = m }
-
-pub flushes : {c : Call} {s s' : Session} {σ : Storage} {o t rs : List ℕ} → Flushes c s s' σ.spans σ.order σ.tally σ.rows o t rs
-    → Does c s s' σ (with_order σ σ.spans o t rs)
-flushes {σ = σ} f = f σ
+use Rattle.rules.specs.Calls.{Call}
 
 -- the session after a plain flush, and after final
 abbrev pub flushed_session : Session → Guide → Session
@@ -161,3 +146,19 @@ module _ (s : Session) (σ : Storage) where
     unfolding apply_call
     final_does =
         record { rep = λ P N k R B e. rep_final P N k s σ R B (final_fits P N k s σ R B e) h o t rs Z; frame = Z.frame σ.marks σ.locations σ.waiting σ.pool }
+
+-- what the work of flush or final, the call c, may presume and what it does, of the slices that it touches: asked of some storage with these
+-- spans, order, tally and rows, and promised of every one
+pub record MayFlush (c : Call) (s : Session) (sp o t rs : List ℕ) : Type 0 where
+  pub around : Storage
+  pub may : MayDo c s (with_order around sp o t rs)
+
+abbrev pub Flushes : Call → Session → Session → List ℕ → List ℕ → List ℕ → List ℕ → List ℕ → List ℕ → List ℕ → Type 0
+Flushes c s s' sp o t rs o' t' rs' = (σ : Storage) → Does c s s' (with_order σ sp o t rs) (with_order σ sp o' t' rs')
+
+pub may_flush : {c : Call} {s : Session} {σ : Storage} → MayDo c s σ → MayFlush c s σ.spans σ.order σ.tally σ.rows
+may_flush {c} {s} {σ} m = record { around = σ; may = m }
+
+pub flushes : {c : Call} {s s' : Session} {σ : Storage} {o t rs : List ℕ} → Flushes c s s' σ.spans σ.order σ.tally σ.rows o t rs
+    → Does c s s' σ (with_order σ σ.spans o t rs)
+flushes {σ = σ} f = f σ

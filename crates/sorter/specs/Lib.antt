@@ -2,3 +2,4 @@
 pub mod Chain
 pub mod FlushWork
 pub mod FinalWork
+pub mod Finishing

@@ -1,7 +1,7 @@
 -- Laws of the exported call: the check of the sum, the number in each case, and the summary written in its parts. Assumes nothing.
 use Rattle.std.specs.Prelude.{◌≡◌, refl, List, [], ◌∷◌, ◌++◌, Bool, true, false, not, cond, length, take, drop, set, T, ltb}
 use Rattle.std.proofs.Math.Path.{sym}
-use Rattle.std.proofs.Common.{ap, ◌∙◌, subst, arith, length-take-le, take_all, drop-drop}
+use Rattle.std.proofs.Common.{ap, ◌∙◌, subst, arith, take_all, drop-drop}
 use Prim.Native.Nat.{ℕ, zero, suc, ◌+◌, ◌-◌, ◌*◌, ◌/◌, ◌%◌, ◌^◌, ◌≤◌, ◌<◌, compare}
 use Rattle.std.proofs.Math.Decide.{dec_lt}
 use Rattle.std.proofs.Math.Seq.{paste}
@@ -11,13 +11,17 @@ use Rattle.std.specs.Float.Ieee.{prec, emax, low, size, nearest, odd, units, rou
 use borrow.Author.Tests.{lt-ltb, le-ltb}
 use Rattle.rules.specs.Limits.{most_places, average_divisor, low_counts, sums_of_thousands}
 use Rattle.rules.specs.Refusals as refusal
+use Rattle.rules.specs.declared.Refusal.{Refusal}
+use Rattle.rules.specs.Answer.{number_of, number_of_pos}
 use Rattle.rules.specs.Checks.{verdict}
 use Rattle.rules.specs.Summary.{Figures, sum, average, figures}
 use Rattle.summary.specs.declared.Summary.{Summary}
 use Rattle.figures.specs.Small.{most_counts, Small}
 use Rattle.figures.specs.Loops.{counts_length, thousands_length}
-use Rattle.summary.specs.Figured.{figured, Tallied, Writable}
+use Rattle.summary.specs.Figured.{figured, Writable}
 use Rattle.summary.specs.Layout.{summary_size, summary_numbers, check_tally, summary_number, summary_after}
+use Rattle.std.proofs.Common.{length-take-le}
+use Rattle.summary.specs.Figured.{Tallied}
 
 -- a rounded fraction is a number
 cond_number : (b : Bool) (d : ℕ) (s : Bool) (q k l : ℕ) → T (not (is_nan (cond b (odd d s q k l) (inf s))))
@@ -47,10 +51,6 @@ writable s t e =
       low = ap (λ f. length f.low) e ∙ counts_length low_counts 0 t;
       thousands = ap (λ f. length f.thousands) e ∙ thousands_length sums_of_thousands 0 t;
     }
-
--- the counts of a tally that final sums up
-pub small : (t : List ℕ) (P : ℕ) → Tallied t P → Small (take (P + 1) t)
-small t P h = record { few = omega (arith, length-take-le (P + 1) t h.stored, h.most); total = h.total }
 
 -- the number in each case
 module _ (t : List ℕ) (count : ℕ) where
@@ -85,10 +85,10 @@ pub after_done : (n : ℕ) (t before : List ℕ) (f : Figures) → n ≡ 0 → f
 unfolding summary_after
 after_done n t before f e g = rw (e, g)
 
-pub after_refused : (n : ℕ) (t before : List ℕ) → (n ≡ 0 → ⊥) → before ≡ summary_after n t before
+pub after_refused : (x : Refusal) (n : ℕ) (t before : List ℕ) → n ≡ number_of x → before ≡ summary_after n t before
 unfolding summary_after
-after_refused zero t before h = absurd (h refl)
-after_refused (suc n) t before h = refl
+after_refused x zero t before e = absurd (number_of_pos x (sym e))
+after_refused x (suc n) t before e = refl
 
 -- the summary written in its parts: two numbers, then the counts, then the sums
 pub written : (b m : ℕ) (counts sums to x y : List ℕ) → length counts ≡ low_counts → length sums ≡ sums_of_thousands → summary_size ≤ length to
@@ -113,3 +113,7 @@ written b m counts sums (p ∷ (q ∷ to)) x y el es h ex ey =
 
     rest : drop summary_size x ≡ drop summary_size a
     rest = sym (drop-drop 65 130 x) ∙ ap (drop 65) (ap (drop 130) ex' ∙ drop-paste a 2 counts 128 (omega arith) (omega arith)) ∙ drop-drop 65 130 a
+
+-- the counts of a tally that final sums up
+pub small : (t : List ℕ) (P : ℕ) → Tallied t P → Small (take (P + 1) t)
+small t P h = record { few = omega (arith, length-take-le (P + 1) t h.stored, h.most); total = h.total }

@@ -2,12 +2,14 @@
 #![tactic(auto)]
 
 ghost use Rattle.std.specs.Prelude.{◌≡◌, ◌++◌, ◌+◌, ◌≤◌, ltb, length, take, drop};
-ghost use Rattle.std.proofs.Math.Seq.{paste};
+ghost use Rattle.rules.specs.Answer.{number as answer_number};
 ghost use Rattle.rules.specs.Limits.{most_places};
 ghost use Rattle.rules.specs.Summary as rules;
 ghost use Rattle.figures.specs.Small.{Small};
 ghost use Rattle.summary.specs.Figured.{figured, Tallied, Writable};
 ghost use Rattle.summary.specs.Layout.{summary_size, summary_numbers, summary_number, summary_after};
+
+use rules::Refusal;
 
 // The numbers of a summary: the average's 32 bits, the median, from LOW_AT on the low counts, and from SUMS_AT on the sums of thousands.
 const LOW_AT: usize = 2;
@@ -57,39 +59,29 @@ fn sum_too_great(t: &[u32]) -> bool
     ensures { result ≡ ltb most_places (rules.sum t.now) }
 {
     let mut s: u32 = 0;
-    for i in 0..t.len() {
-        if MOST - s < t[i] {
+    for x in t {
+        if MOST - s < *x {
             return true;
         }
-        s += t[i];
+        s += *x;
     }
     false
 }
 
-// The number of a summary of the tally in `count` numbers: 0, or 1 or 2 where it is refused.
-fn check_summary(tally: &[u32], count: usize) -> u64
-    ensures { result ≡ summary_number tally.now count }
+// Whether a summary of the tally in `count` numbers is refused.
+fn check_summary(tally: &[u32], count: usize) -> Result<(), Refusal>
+    ensures { answer_number result ≡ summary_number tally.now count }
 {
     if figures::COUNTS < tally.len() {
-        return rules::OUT_OF_RANGE;
+        return Err(Refusal::OutOfRange);
     }
     if sum_too_great(tally) {
-        return rules::OUT_OF_RANGE;
+        return Err(Refusal::OutOfRange);
     }
     if count < SIZE {
-        return rules::TOO_SHORT;
+        return Err(Refusal::TooShort);
     }
-    0
-}
-
-// Copies all of `from` to `to` from index `at` on; all else stays.
-fn copy(from: &[u32], to: &mut [u32], at: usize)
-    requires { at + length from.now ≤ length to.old }
-    ensures { to.new ≡ paste to.old at from.now (length from.now) }
-{
-    for i in 0..from.len() {
-        to[at + i] = from[i];
-    }
+    Ok(())
 }
 
 // Writes a summary as numbers; what lies past them stays.
@@ -97,12 +89,10 @@ fn write(s: Summary, to: &mut [u32])
     requires { (Writable s) × (summary_size ≤ length to.old) }
     ensures { to.new ≡ summary_numbers (figured s) ++ drop summary_size to.old }
 {
-    let low = s.low;
-    let sums = s.thousands;
     to[0] = f32::to_bits(s.average);
     to[1] = s.median;
-    copy(&low, to, LOW_AT);
-    copy(&sums, to, SUMS_AT);
+    to[LOW_AT..SUMS_AT].copy_from_slice(&s.low);
+    to[SUMS_AT..SIZE].copy_from_slice(&s.thousands);
 }
 
 // Fills `summary` with the summary of a tally, whose counts past its length are 0: the average's 32 bits, the median, 128 counts, 65 sums
@@ -113,9 +103,11 @@ pub extern "C" fn order_summary(tally: &[u32], summary: &mut [u32]) -> u64
     ensures number { result ≡ summary_number tally.now (length summary.old) }
     ensures written { summary.new ≡ summary_after result tally.now summary.old }
 {
-    let n = check_summary(tally, summary.len());
-    if n == 0 {
-        write(summarize(tally), summary);
+    match check_summary(tally, summary.len()) {
+        Ok(()) => {
+            write(summarize(tally), summary);
+            0
+        }
+        Err(refusal) => u64::from(refusal),
     }
-    n
 }

@@ -58,10 +58,6 @@ module _ {w : List ℕ} {v : ℕ} (f : Plain w v) where
   flag xs x b h = (flags_claimed v xs (taken_at w v) w b own).at x h
 
   module _ {xs : List ℕ} {i : ℕ} {w' : List ℕ} (g : Claiming w v xs i w') where
-    -- a place below v has its flag in storage
-    pub claim_in : get_or xs i 0 < v → (get_or xs i 0 < v) × (waiting_needed v ≤ length w')
-    claim_in b = (b, omega (arith, f.long, claim_length g))
-
     -- the place reached is v or more
     pub claim_outside : i < length xs → v ≤ get_or xs i 0 → unclaimable w v xs ≡ true
     unfolding unclaimable
@@ -140,3 +136,9 @@ module _ {w : List ℕ} {v : ℕ} (f : Plain w v) where
 -- taken back: one of them cannot be claimed, and storage is as it was
 pub claim_refused : {w : List ℕ} {v : ℕ} {xs w' : List ℕ} → unclaimable w v xs ≡ true → w' ≡ w → Claims w v xs false w'
 claim_refused e s = record { answer = rw e; claims = λ q. absurd (false≢true q); same = λ q. s }
+
+module _ {w : List ℕ} {v : ℕ} (f : Plain w v) where
+  module _ {xs : List ℕ} {i : ℕ} {w' : List ℕ} (g : Claiming w v xs i w') where
+    -- a place below v has its flag in storage
+    pub claim_in : get_or xs i 0 < v → (get_or xs i 0 < v) × (waiting_needed v ≤ length w')
+    claim_in b = (b, omega (arith, f.long, claim_length g))

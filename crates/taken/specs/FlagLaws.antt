@@ -1,13 +1,15 @@
 -- What the flags say: a test of flags is the test of taken places, and claiming places makes them taken. Assumes nothing.
 use Rattle.std.specs.Prelude.{◌≡◌, refl, List, [], ◌∷◌, ◌++◌, Bool, true, false, cond, ◌||◌, ℕ, ◌≤◌, ◌<◌, eqb, length}
 use Rattle.std.proofs.Common.{sym, ap, ◌∙◌, ⊎_elim, arith, eq-eqb, ne_eqb}
+use Rattle.std.proofs.Math.Bool.{or-false}
+use Rattle.std.specs.List.{list_any}
 use Rattle.rules.specs.Model.{Reg, Model, member, with_add, with_set, initial}
 use Rattle.rules.specs.Checks.{any, taken, written_by, waiting_needed}
 use Rattle.laws.specs.Apart.{written_append}
+use Rattle.laws.specs.GuideInv.{eq_or_ne}
 use Rattle.lists.specs.Part.{Below}
 use Rattle.taken.specs.Flag.{flag_at, with_flag, flag_length, flag_same, flag_other}
 use Rattle.taken.specs.Flags.{taken_at, Flags, claimed, Plain, Flagged}
-use Rattle.taken.specs.Repeats.{eq_or_ne, or_false}
 
 -- a place's flag says whether it is taken
 pub flag_is : (N : ℕ) (t : ℕ → Bool) (w : List ℕ) → Flags N t w → (x : ℕ) → x < N → taken_at w N x ≡ t x
@@ -17,6 +19,12 @@ flag_is N t w f x h = ap (λ (n : ℕ). eqb n 1) (f.at x h) ∙ tests (t x)
     tests : (c : Bool) → eqb (cond {A = ℕ} c 1 0) 1 ≡ c
     tests true = refl
     tests false = refl
+
+-- one of a list passes a test: the rules' word and std's
+pub any_is : (t : ℕ → Bool) (xs : List ℕ) → any t xs ≡ list_any t xs
+unfolding any
+any_is t [] = refl
+any_is t (x ∷ xs) = ap (λ (c : Bool). t x || c) (any_is t xs)
 
 -- the same for one of a list
 pub flags_any : (N : ℕ) (t : ℕ → Bool) (w : List ℕ) → Flags N t w → (xs : List ℕ) → Below N xs → any (taken_at w N) xs ≡ any t xs
@@ -69,7 +77,7 @@ flags_set N x k w h f =
 -- a list of them
 pub flags_claimed : (N : ℕ) (xs : List ℕ) (t : ℕ → Bool) (w : List ℕ) → Below N xs → Flags N t w → Flags N (λ x. t x || member x xs) (claimed w N xs)
 unfolding claimed member Below
-flags_claimed N [] t w b f = flags_same N t (λ x. t x || false) w (λ x h. or_false (t x)) f
+flags_claimed N [] t w b f = flags_same N t (λ x. t x || false) w (λ x h. or-false (t x)) f
 flags_claimed N (y ∷ xs) t w b f =
     flags_same N (λ x. (eqb x y || t x) || member x xs) (λ x. t x || (eqb x y || member x xs)) (claimed (with_flag w N y 1) N xs) (λ x h. three (t x) (eqb x y) (member x xs))
     (flags_claimed N xs (λ x. eqb x y || t x) (with_flag w N y 1) b.1 (flags_one N t w y b.0 f))
@@ -87,7 +95,7 @@ flags_add N a k w b f = flags_same N (λ x. taken k x || member x a.outs) (taken
     three : (a b c : Bool) → (a || (b || (c || false))) ≡ ((a || b) || c)
     three true b c = refl
     three false true c = refl
-    three false false c = or_false c
+    three false false c = or-false c
 
     one : (x : ℕ) → (member x k.sets || written_by x (k.adds ++ (a ∷ []))) ≡ ((member x k.sets || written_by x k.adds) || member x a.outs)
     one x = ap (λ (c : Bool). member x k.sets || c) (written_append x k.adds (a ∷ [])) ∙ three (member x k.sets) (written_by x k.adds) (member x a.outs)

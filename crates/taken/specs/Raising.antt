@@ -1,14 +1,17 @@
 -- Looking for a repeated place: flags are raised place by place, and lowered again, so that storage is as it was. Assumes nothing.
-use Rattle.std.specs.Prelude.{◌≡◌, refl, ◌⊎◌, List, [], ◌∷◌, ◌++◌, true, false, cond, ◌||◌, ℕ, ◌+◌, ◌-◌, ◌≤◌, ◌<◌, eqb, ltb, length, get_or, take}
-use Rattle.std.proofs.Common.{sym, ap, ◌∙◌, inl, inr, arith, take_all, eq-eqb, ne_eqb, ltb-true, ltb-false}
+use Rattle.std.specs.Prelude.{◌≡◌, refl, ◌⊎◌, List, [], ◌∷◌, ◌++◌, true, false, cond, ◌||◌, ℕ, ◌+◌, ◌-◌, ◌≤◌, ◌<◌, eqb, length, get_or, take}
+use Rattle.std.proofs.Common.{ap, ◌∙◌, inl, inr, arith, eq-eqb, ne_eqb}
 use Rattle.rules.specs.Model.{member}
 use Rattle.rules.specs.Checks.{repeats, waiting_needed}
 use Rattle.laws.specs.ModelBase.{bool_cases}
 use Rattle.laws.specs.Accepted.{or_false as or_split}
+use Rattle.laws.specs.GuideInv.{eq_or_ne}
 use Rattle.lists.specs.Part.{Below, below_at}
 use Rattle.taken.specs.Flag.{flag_at, with_flag, flag_length, flag_same, flag_other, flag_twice, flag_own}
 use Rattle.taken.specs.Flags.{raised, Flagged, Raises}
-use Rattle.taken.specs.Repeats.{eq_or_ne, take_next, take_last, repeats_snoc, repeats_met, repeats_last, below_first}
+use Rattle.taken.specs.Repeats.{take_next, take_last, repeats_snoc, repeats_met, repeats_last, below_first}
+use Rattle.std.specs.Prelude.{ltb}
+use Rattle.std.proofs.Common.{sym, take_all, ltb-true, ltb-false}
 
 raised_snoc : (w : List ℕ) (v : ℕ) (xs : List ℕ) (x : ℕ) → raised w v (xs ++ (x ∷ [])) ≡ with_flag (raised w v xs) v x (flag_at (raised w v xs) v x + 2)
 unfolding raised
@@ -80,9 +83,6 @@ module _ {w : List ℕ} {v : ℕ} {xs : List ℕ} (f : Flagged w v xs) {i : ℕ}
       new (inr m) = m
       new (inl m) = absurd (omega (arith, rw m at (found (get_or xs i 0))))
 
-  pub raise_end : length xs ≤ i → Raises w v xs i w'
-  raise_end h = record { most = g.most; single = g.single; again = λ k. absurd (omega arith); is = g.is }
-
   -- the last of those raised
   module _ (some : 0 < i) where
     abbrev x : ℕ
@@ -120,12 +120,16 @@ module _ {w : List ℕ} {v : ℕ} {xs : List ℕ} (f : Flagged w v xs) {i : ℕ}
             ap (with_flag w' v x) down ∙ ap (λ (l : List ℕ). with_flag l v x (flag_at before v x)) up
             ∙ flag_twice before v x (flag_at before v x + 2) (flag_at before v x) ∙ flag_own before v x
 
-pub lower_start : {w : List ℕ} {v : ℕ} {xs : List ℕ} {n : ℕ} {w' : List ℕ} → Raises w v xs n w' → Raising w v xs n w'
-lower_start r = record { most = r.most; single = r.single; is = r.is }
-
 pub lower_end : {w : List ℕ} {v : ℕ} {xs : List ℕ} {i : ℕ} {w' : List ℕ} → Raising w v xs i w' → i ≤ 0 → w' ≡ w
 unfolding raised
 lower_end {w} {v} {xs} {i} g z = let e : i ≡ 0 = omega arith in g.is ∙ ap (λ (n : ℕ). raised w v (take n xs)) e
+
+module _ {w : List ℕ} {v : ℕ} {xs : List ℕ} (f : Flagged w v xs) {i : ℕ} {w' : List ℕ} (g : Raising w v xs i w') where
+  pub raise_end : length xs ≤ i → Raises w v xs i w'
+  raise_end h = record { most = g.most; single = g.single; again = λ k. absurd (omega arith); is = g.is }
+
+pub lower_start : {w : List ℕ} {v : ℕ} {xs : List ℕ} {n : ℕ} {w' : List ℕ} → Raises w v xs n w' → Raising w v xs n w'
+lower_start r = record { most = r.most; single = r.single; is = r.is }
 
 -- the answer: more than n of them, exactly where they repeat
 pub repeats_is : {w : List ℕ} {v : ℕ} {xs : List ℕ} {n : ℕ} {w' : List ℕ} → Raises w v xs n w' → ltb n (length xs) ≡ repeats xs

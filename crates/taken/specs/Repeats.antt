@@ -1,17 +1,16 @@
 -- When a list of places has one twice, by its first i places. Assumes nothing.
-use Rattle.std.specs.Prelude.{◌≡◌, refl, ◌⊎◌, List, [], ◌∷◌, ◌++◌, Bool, true, false, cond, ◌||◌, ℕ, ◌+◌, ◌-◌, ◌≤◌, ◌<◌, eqb, length, get_or, take, drop}
-use Rattle.std.proofs.Common.{sym, ap, ◌∙◌, subst, inl, inr, ⊎_elim, add-one, arith, take-append-drop, take-suc, eq-eqb, ne_eqb}
-use Rattle.std.proofs.Math.Bool.{or-true}
-use Rattle.std.proofs.Math.Decide.{ℕ_discrete}
+use Rattle.std.specs.Prelude.{◌≡◌, refl, ◌⊎◌, List, [], ◌∷◌, ◌++◌, Bool, true, false, cond, ◌||◌, ℕ, ◌+◌, ◌-◌, ◌≤◌, ◌<◌, eqb, length, get_or, take, drop, reverse}
+use Rattle.std.proofs.Common.{sym, ap, ◌∙◌, subst, inl, inr, ⊎_elim, add-one, arith, take-append-drop, take-suc, length-take-le, get_or-take, eq-eqb, ne_eqb}
+use Rattle.std.proofs.lemmas.List.{get_or-reverse, length-reverse}
+use Rattle.std.proofs.lemmas.Grind.{get_or_default_zero}
+use Rattle.std.proofs.Math.Bool.{or-true, or-false}
 use Rattle.rules.specs.Model.{member}
 use Rattle.rules.specs.Checks.{repeats}
 use Rattle.laws.specs.ModelBase.{bool_cases}
 use Rattle.laws.specs.Accepted.{or_false as or_split}
+use Rattle.laws.specs.GuideInv.{eq_or_ne}
 use Rattle.lists.specs.Part.{Below}
 use Rattle.lists.specs.Arguments.{below_append}
-
-pub eq_or_ne : (a b : ℕ) → (a ≡ b) ⊎ (a ≡ b → ⊥)
-eq_or_ne a b = elim (ℕ_discrete a b) [ yes e ↦ inl e | no n ↦ inr n ]
 
 member_append : (x : ℕ) (a b : List ℕ) → member x (a ++ b) ≡ (member x a || member x b)
 unfolding member
@@ -22,16 +21,12 @@ member_append x (y ∷ a) b = go (eqb x y) (member_append x a b)
     go true e = refl
     go false e = e
 
-pub or_false : (a : Bool) → (a || false) ≡ a
-or_false true = refl
-or_false false = refl
-
 eqb_swap : (a b : ℕ) → eqb a b ≡ eqb b a
 eqb_swap a b = ⊎_elim (λ e. eq-eqb a b e ∙ sym (eq-eqb b a (sym e))) (λ n. ne_eqb a b n ∙ sym (ne_eqb b a (λ e. n (sym e)))) (eq_or_ne a b)
 
 member_snoc : (x y : ℕ) (a : List ℕ) → member x (a ++ (y ∷ [])) ≡ (member x a || eqb x y)
 unfolding member
-member_snoc x y a = member_append x a (y ∷ []) ∙ ap (λ (c : Bool). member x a || c) (or_false (eqb x y))
+member_snoc x y a = member_append x a (y ∷ []) ∙ ap (λ (c : Bool). member x a || c) (or-false (eqb x y))
 
 -- one more at the end: a list repeats where it did before, or where it has that one already
 pub repeats_snoc : (a : List ℕ) (x : ℕ) → repeats (a ++ (x ∷ [])) ≡ (repeats a || member x a)
@@ -84,3 +79,17 @@ repeats_few (x ∷ (y ∷ xs)) h = absurd (omega arith)
 -- the first i of places below v
 pub below_first : (v : ℕ) (xs : List ℕ) → Below v xs → (i : ℕ) → Below v (take i xs)
 below_first v xs b i = (below_append v (take i xs) (drop i xs) (rw take-append-drop b)).0
+
+-- a walk from the n-th of a list down to the first: after i of them it is at the one before those
+pub walked_back : (xs : List ℕ) (n i x : ℕ) → n ≤ length xs → (i < length (reverse (take n xs))) × (x ≡ get_or (reverse (take n xs)) i x) → (i < n) × (x ≡ get_or xs (n - i - 1) 0)
+walked_back xs n i x most h =
+    let l : length (take n xs) ≡ n = length-take-le n xs most in
+    let k : i < n = omega (arith, h.0, length-reverse (take n xs)) in
+    let e : length (take n xs) - 1 - i ≡ n - i - 1 = omega arith in (
+      k,
+      h.1 ∙ get_or_default_zero (reverse (take n xs)) i x h.0 ∙ get_or-reverse (take n xs) i 0 (omega arith) ∙ ap (λ (j : ℕ). get_or (take n xs) j 0) e ∙ get_or-take n xs (n - i - 1) 0 (omega arith),
+    )
+
+pub or_false : (a : Bool) → (a || false) ≡ a
+or_false true = refl
+or_false false = refl

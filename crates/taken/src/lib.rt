@@ -14,7 +14,7 @@ pub fn clear(waiting: &mut [u64], v: usize)
     requires { waiting_needed v ≤ length waiting.old }
     ensures { Cleared (flags_at v) (waiting_needed v) waiting.old waiting.new }
 {
-    zeros::clear64(waiting, 3 * v, 4 * v);
+    waiting[3 * v..4 * v].fill(0);
 }
 
 // The flag of place x of v.
@@ -34,21 +34,20 @@ fn set_flag(waiting: &mut [u64], v: usize, x: usize, to: u64)
 }
 
 // Raises the flag of each place by 2, up to the first place that is raised already: the index of that one, or the count of them all.
+// ascending_marks::raise_marks is alike over 16-bit marks. One walk for both would be no plainer: a trait for the cells, with the test
+// and the two steps, and a part cut out of this storage, in the place of two loops of seven lines; so for the walks that lower.
 fn raise_flags(outs: &[u64], waiting: &mut [u64], v: usize) -> usize
     requires { Flagged waiting.old v outs.now }
     ensures { Raises waiting.old v outs.now result waiting.new }
 {
-    let mut i = 0;
-    while i < outs.len() {
-        let x = outs[i] as usize;
-        let up = flag(waiting, v, x);
+    for (i, x) in outs.iter().enumerate() {
+        let up = flag(waiting, v, *x as usize);
         if 1 < up {
             return i;
         }
-        set_flag(waiting, v, x, up + 2);
-        i += 1;
+        set_flag(waiting, v, *x as usize, up + 2);
     }
-    i
+    outs.len()
 }
 
 // Lowers the flags of the first n places again.
@@ -56,12 +55,9 @@ fn lower_flags(outs: &[u64], waiting: &mut [u64], v: usize, n: usize)
     requires { Lowering waiting.old v outs.now n }
     ensures { Lowers waiting.old v outs.now n waiting.new }
 {
-    let mut i = n;
-    while i > 0 {
-        i -= 1;
-        let x = outs[i] as usize;
-        let up = flag(waiting, v, x);
-        set_flag(waiting, v, x, up - 2);
+    for x in outs[..n].iter().rev() {
+        let up = flag(waiting, v, *x as usize);
+        set_flag(waiting, v, *x as usize, up - 2);
     }
 }
 
@@ -91,14 +87,7 @@ pub fn any_taken(outs: &[u64], waiting: &[u64], v: usize) -> bool
     requires { (Below v outs.now) × (waiting_needed v ≤ length waiting.now) }
     ensures { result ≡ any (taken_at waiting.now v) outs.now }
 {
-    let mut i = 0;
-    while i < outs.len() {
-        if is_taken(waiting, v, outs[i] as usize) {
-            return true;
-        }
-        i += 1;
-    }
-    false
+    outs.iter().any(|x| is_taken(waiting, v, *x as usize))
 }
 
 // Flags place x as taken.
@@ -114,10 +103,8 @@ fn unclaim(outs: &[u64], waiting: &mut [u64], v: usize, n: usize)
     requires { Unclaiming waiting.old v outs.now n }
     ensures { Unclaims waiting.old v outs.now n waiting.new }
 {
-    let mut i = n;
-    while i > 0 {
-        i -= 1;
-        set_flag(waiting, v, outs[i] as usize, 0);
+    for x in outs[..n].iter().rev() {
+        set_flag(waiting, v, *x as usize, 0);
     }
 }
 
@@ -127,19 +114,13 @@ pub fn claim_new(outs: &[u64], waiting: &mut [u64], v: usize) -> bool
     requires { Plain waiting.old v }
     ensures { Claims waiting.old v outs.now result waiting.new }
 {
-    let mut i = 0;
-    while i < outs.len() {
-        let x = outs[i] as usize;
-        if x >= v {
+    for (i, x) in outs.iter().enumerate() {
+        let place = *x as usize;
+        if place >= v || flag(waiting, v, place) != 0 {
             unclaim(outs, waiting, v, i);
             return false;
         }
-        if flag(waiting, v, x) != 0 {
-            unclaim(outs, waiting, v, i);
-            return false;
-        }
-        set_flag(waiting, v, x, 1);
-        i += 1;
+        set_flag(waiting, v, place, 1);
     }
     true
 }

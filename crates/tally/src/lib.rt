@@ -11,8 +11,7 @@ fn count_one(tally: &mut [u32], w: u32)
     requires { (w < length tally.old) × (get_or tally.old w 0 + 1 < 2 ^ 32) }
     ensures { tally.new ≡ set tally.old w (get_or tally.old w 0 + 1) }
 {
-    let i = w as usize;
-    tally[i] = tally[i] + 1;
+    tally[w as usize] += 1;
 }
 
 // Counts the a entries of the order from index n on.

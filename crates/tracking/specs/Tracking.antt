@@ -4,10 +4,14 @@ use Rattle.std.specs.Prelude.{◌≡◌, List, [], ◌∷◌, Bool, true, false,
 use Rattle.rules.specs.Limits.{location_radix, mark_written}
 use Rattle.rules.specs.Guide.{Loc}
 use Rattle.rules.specs.Record.{pack}
+use Rattle.window.specs.declared.Location.{Location}
 
--- a span and a position as one number, and the location that a number stands for (Places.unpacked-packs)
+-- a span and a position as one number, a location of code as document 01's, and the location that a number stands for (Places.unpacked-packs)
 abbrev pub packed : ℕ → ℕ → ℕ
 packed span pos = pack (record { span = span; pos = pos })
+
+abbrev pub located : Location → Loc
+located at = record { span = at.span; pos = at.pos }
 
 abbrev pub unpacked : ℕ → Loc
 unpacked n = record { span = n / location_radix; pos = n % location_radix }

@@ -2,3 +2,4 @@
 pub mod Wrote
 pub mod Decimal
 pub mod Lines
+pub mod Written

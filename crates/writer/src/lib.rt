@@ -1,59 +1,61 @@
-// Text appended to bytes: each function puts its text at `at` and returns the place after it; what stands before `at` stays.
+// Text appended to bytes; what stands before it and past it stays.
 #![tactic(auto)]
 
-ghost use Rattle.std.specs.Prelude.{◌≡◌, ◌+◌, ◌≤◌, ◌<◌, length};
-ghost use Rattle.std.proofs.Math.Seq.{paste};
+ghost use Rattle.std.specs.Prelude.{[], ◌∷◌, ◌+◌};
 ghost use Rattle.rules.specs.Listing.{decimal, field, line};
-ghost use Rattle.writer.specs.Wrote.{Wrote};
+ghost use Rattle.writer.specs.Written.{Fits, Written};
 
-// Copies the first n bytes of `s` to `out` from `at` on; all else stays.
-pub fn copy(out: &mut [u8], at: usize, s: &[u8], n: usize)
-    requires { (at + n ≤ length out.old) × (n ≤ length s.now) }
-    ensures { out.new ≡ paste out.old at s.now n }
-{
-    for j in 0..n {
-        out[at + j] = s[j];
+// Bytes that text is put into, and the place where the next goes.
+#[derive(Drop)]
+pub struct Writer<'a> {
+    pub out: &'a mut [u8],
+    pub at: usize,
+}
+
+impl<'a> Writer<'a> {
+    fn byte(&mut self, b: u8)
+        requires { Fits self.old (b ∷ []) }
+        ensures { Written self.old self.new (b ∷ []) }
+    {
+        self.out[self.at] = b;
+        self.at += 1;
     }
-}
 
-pub fn put_word(out: &mut [u8], at: usize, word: &[u8]) -> usize
-    requires { at + length word.now ≤ length out.old }
-    ensures { Wrote out.old out.new at result word.now }
-{
-    let n = word.len();
-    copy(out, at, word, n);
-    at + n
-}
-
-// A number in decimal: the digits before the last, then the last. At most 20 calls deep.
-pub fn put_decimal(out: &mut [u8], at: usize, n: u64) -> usize
-    requires { at + length (decimal n) ≤ length out.old }
-    ensures { Wrote out.old out.new at result (decimal n) }
-{
-    if n < 10 {
-        out[at] = b'0' + n as u8;
-        return at + 1;
+    pub fn word(&mut self, word: &[u8])
+        requires { Fits self.old word.now }
+        ensures { Written self.old self.new word.now }
+    {
+        let end = self.at + word.len();
+        self.out[self.at..end].copy_from_slice(word);
+        self.at = end;
     }
-    let end = put_decimal(out, at, n / 10);
-    out[end] = b'0' + (n % 10) as u8;
-    end + 1
-}
 
-// A word and its number.
-pub fn put_field(out: &mut [u8], at: usize, word: &[u8], n: u64) -> usize
-    requires { at + length (field word.now n) ≤ length out.old }
-    ensures { Wrote out.old out.new at result (field word.now n) }
-{
-    let end = put_word(out, at, word);
-    put_decimal(out, end, n)
-}
+    // A number in decimal: the digits before the last, then the last. At most 20 calls deep.
+    pub fn decimal(&mut self, n: u64)
+        requires { Fits self.old (decimal n) }
+        ensures { Written self.old self.new (decimal n) }
+    {
+        if n >= 10 {
+            self.decimal(n / 10);
+        }
+        self.byte(b'0' + (n % 10) as u8);
+    }
 
-// The same, as a line.
-pub fn put_line(out: &mut [u8], at: usize, word: &[u8], n: u64) -> usize
-    requires { at + length (line word.now n) ≤ length out.old }
-    ensures { Wrote out.old out.new at result (line word.now n) }
-{
-    let end = put_field(out, at, word, n);
-    out[end] = b'\n';
-    end + 1
+    // A word and its number.
+    pub fn field(&mut self, word: &[u8], n: u64)
+        requires { Fits self.old (field word.now n) }
+        ensures { Written self.old self.new (field word.now n) }
+    {
+        self.word(word);
+        self.decimal(n);
+    }
+
+    // The same, as a line.
+    pub fn line(&mut self, word: &[u8], n: u64)
+        requires { Fits self.old (line word.now n) }
+        ensures { Written self.old self.new (line word.now n) }
+    {
+        self.field(word, n);
+        self.byte(b'\n');
+    }
 }

@@ -1,6 +1,13 @@
--- Part of a list filled with zeros: what the functions promise, and the law by which their loops go. Assumes nothing.
-use Rattle.std.specs.Prelude.{◌≡◌, refl, List, ℕ, ◌+◌, ◌-◌, ◌≤◌, ◌<◌, length, get_or, take, drop, set}
-use Rattle.std.proofs.Common.{sym, ap, ◌∙◌, subst, arith, length-set, get_or-set_same, get_or-set_other, get_or-take, get_or-drop, drop-set-lt}
+-- Part of a list filled with zeros, and the law by which std's `fill` gives it. Assumes nothing.
+use Rattle.std.specs.Prelude.{◌≡◌, List, ℕ, ◌+◌, ◌-◌, ◌≤◌, ◌<◌, length, get_or, take, drop, replicate}
+use Rattle.std.proofs.Common.{sym, ap, ◌∙◌, subst, arith, length-take, length-drop, length-take-le, get_or-take, get_or-drop}
+use Rattle.std.proofs.Math.ListN.{get_or-append}
+use Rattle.std.proofs.Math.Seq.{drop_at}
+use Rattle.std.proofs.lemmas.List.{length-replicate, get_or-replicate}
+use Rattle.std.proofs.lemmas.Slice.{take-put_mid_below, drop-put_mid}
+use borrow.Rule.Slice.PartMut.{put_mid, same_len_mid}
+use Rattle.std.specs.Prelude.{refl, set}
+use Rattle.std.proofs.Common.{length-set, get_or-set_same, get_or-set_other, drop-set-lt}
 use Rattle.std.proofs.Math.Decide.{ℕ_discrete}
 use Rattle.std.proofs.lemmas.List.{take-set-le}
 
@@ -42,6 +49,27 @@ clear_turn a b i l m h c =
 
 pub clear_end : (a b i : ℕ) (l m : List ℕ) → b ≤ i → Clearing a b i l m → Cleared a b l m
 clear_end a b i l m h c = record { long = c.long; before = c.before; zero = λ j x y. c.zero j x (omega arith); beyond = c.beyond }
+
+-- after `s[a..b].fill(0)`: k is b - a, l is what s held, and m is what the part holds now
+pub cleared_fill : (a b k : ℕ) (l m : List ℕ) → m ≡ replicate k 0 → k ≡ b - a → a ≤ b → b ≤ length l → Cleared a b l (put_mid a k l m)
+cleared_fill a b k l m e d h q =
+    record {
+      long = same_len_mid a k l m (omega (arith, m_long, length-take k (drop a l), length-drop a l));
+      before = take-put_mid_below a k l m a (omega arith) (omega arith);
+      zero = go;
+      beyond = drop-put_mid a k l m b (omega arith) (omega arith) m_long;
+    }
+  where
+    m_long : length m ≡ k
+    m_long = ap length e ∙ length-replicate k 0
+
+    go : (i : ℕ) → a ≤ i → i < b → get_or (put_mid a k l m) i 0 ≡ 0
+    go i x y =
+        let j : i - a < k = omega arith in
+        subst (λ (n : ℕ). get_or (put_mid a k l m) n 0 ≡ 0) (let n : a + (i - a) ≡ i = omega arith in n) (
+        sym (get_or-drop a (put_mid a k l m) (i - a) 0) ∙ ap (λ (x : List ℕ). get_or x (i - a) 0) (drop_at (take a l) _ a (length-take-le a l (omega arith)))
+        ∙ get_or-append m _ 0 (i - a) (omega (arith, m_long)) ∙ ap (λ (x : List ℕ). get_or x (i - a) 0) e ∙ get_or-replicate k (i - a) 0 0 j
+        )
 
 -- what lies before a or from b on, number by number
 module _ {a b : ℕ} {l m : List ℕ} (c : Cleared a b l m) where

@@ -10,10 +10,10 @@ use Rattle.add_checks.proofs.check_state.Goals.{After-repeats, Else-any_taken, E
 same : (c : After-repeats) → c.repeats.new.waiting ≡ c.args.waiting.now
 same c = c.repeats.ensures.same
 
-single : (c : Else-repeats) → repeats c.args.outs.now ≡ false
+single : (c : Else-repeats) → repeats c.args.r.outputs.now ≡ false
 single c = sym c.repeats.ensures.answer ∙ c.if-repeats.false
 
-none : (c : Else-any_taken) → any (taken_at c.repeats.new.waiting c.args.v) c.args.outs.now ≡ false
+none : (c : Else-any_taken) → any (taken_at c.repeats.new.waiting c.args.at.v) c.args.r.outputs.now ≡ false
 none c = sym c.any_taken.ensures ∙ c.if-any_taken.false
 
 pub repeats-requires : goal.repeats-requires
@@ -29,17 +29,17 @@ pub returns-then-any_taken : goal.returns-then-any_taken
 returns-then-any_taken c =
     occupied _ c.requires (same (goal.at.returns-then-any_taken c).After-repeats) (single (goal.at.returns-then-any_taken c).Else-repeats) (sym c.any_taken.ensures ∙ c.if-any_taken.true)
 
-pub returns-then-v-added : goal.returns-then-v-added
-returns-then-v-added c =
-    all_added _ c.requires (same (goal.at.returns-then-v-added c).After-repeats) (single (goal.at.returns-then-v-added c).Else-repeats)
-    (none (goal.at.returns-then-v-added c).Else-any_taken) c.if-v-added.true
+pub returns-then-at : goal.returns-then-at
+returns-then-at c =
+    all_added _ c.requires (same (goal.at.returns-then-at c).After-repeats) (single (goal.at.returns-then-at c).Else-repeats)
+    (none (goal.at.returns-then-at c).Else-any_taken) c.if-at.true
 
-pub returns-then-room-used : goal.returns-then-room-used
-returns-then-room-used c =
-    pool_full _ c.requires (same (goal.at.returns-then-room-used c).After-repeats) (single (goal.at.returns-then-room-used c).Else-repeats)
-    (none (goal.at.returns-then-room-used c).Else-any_taken) c.if-v-added.false c.if-room-used.true
+pub returns-then-at-r : goal.returns-then-at-r
+returns-then-at-r c =
+    pool_full _ c.requires (same (goal.at.returns-then-at-r c).After-repeats) (single (goal.at.returns-then-at-r c).Else-repeats)
+    (none (goal.at.returns-then-at-r c).Else-any_taken) c.if-at.false c.if-at-r.true
 
 pub returns : goal.returns
 returns c =
-    let free : any (taken_at c.repeats.new.waiting c.args.v) c.args.outs.now ≡ false = cc in
-    state_good _ c.requires (same (goal.at.returns c).After-repeats) (single (goal.at.returns c).Else-repeats) free c.if-v-added.false c.if-room-used.false
+    let free : any (taken_at c.repeats.new.waiting c.args.at.v) c.args.r.outputs.now ≡ false = cc in
+    state_good _ c.requires (same (goal.at.returns c).After-repeats) (single (goal.at.returns c).Else-repeats) free c.if-at.false c.if-at-r.false

@@ -2,62 +2,39 @@
 -- are stored and the new registration is on the stack or waits.
 use mathlib.Core.Path.{refl}
 use native.Mathlib.Omega.{arith}
+use Rattle.std.proofs.Common.{rules}
+use Rattle.std.specs.Prelude.{◌≡◌, Result, Err}
+use Rattle.rules.specs.declared.Refusal.{Refusal}
+use Rattle.rules.specs.Answer.{number_of_pos}
+use Rattle.admitting.specs.declared.Admitted.{Admitted}
 use Rattle.admitting.specs.Promise.{same_waiting}
-use Rattle.admitting.specs.Numbers.{may_check, add_number, may_add}
+use Rattle.admitting.specs.Numbers.{add_number, may_add}
 use Rattle.admitting.specs.Begun.{admits_not}
 use Rattle.admitting.specs.AddWork.{add_counts, add_stores, add_links, add_admits}
 use Rattle.admitting.proofs.admit_add.Goals as goal
 
-pub claim_add-n-requires : goal.claim_add-n-requires
-claim_add-n-requires c = may_check _ _ _ _ _ c.wide-v.ensures c.greatest-m.ensures c.requires.asks
-
-pub returns-then-n-ne0 : goal.returns-then-n-ne0
-returns-then-n-ne0 c = λ σ q.
-    admits_not _ _ _ _ _ (add_number _ _ _ _ _ _ _ _ _ c.wide-v.ensures c.wide-r.ensures c.claim_add-n.ensures) c.if-n-ne0.true
-    (same_waiting _ _ (c.claim_add-n.ensures.same c.if-n-ne0.true))
+pub returns-in_err-claim_add : goal.returns-in_err-claim_add
+returns-in_err-claim_add c =
+    let e : ◌≡◌ {A = Result Admitted Refusal} c.from_residual.result (Err c.in_err-claim_add.field-0.0) = search rules in
+    let n = c.in_err-claim_add.ensures in
+    rw e (λ σ q. admits_not _ _ _ _ _ (add_number _ _ _ _ _ _ _ _ _ refl refl n) (number_of_pos _) (same_waiting _ _ (n.same (number_of_pos _))))
 
 pub store_lists-requires : goal.store_lists-requires
-store_lists-requires c = add_stores _ _ _ _ _ _ _ c.wide-v.ensures c.wide-r.ensures _ (c.claim_add-n.ensures.claims c.if-n-ne0.false)
-    (may_add _ _ _ _ _ _ _ _ _ c.wide-v.ensures c.wide-r.ensures c.claim_add-n.ensures c.if-n-ne0.false
-    c.requires.asks)
+store_lists-requires c =
+    let n = c.in_ok-claim_add.ensures in
+    add_stores _ _ _ _ _ _ _ refl refl _ (n.claims refl) (may_add _ _ _ _ _ _ _ _ _ refl refl n refl c.requires.asks)
 
 pub link_new-top-requires : goal.link_new-top-requires
-link_new-top-requires c = add_links _ _ _ _ _ _ _ c.wide-v.ensures c.wide-r.ensures _ (c.claim_add-n.ensures.claims c.if-n-ne0.false) _ _
-    c.store_lists.ensures
-    (may_add _ _ _ _ _ _ _ _ _ c.wide-v.ensures c.wide-r.ensures c.claim_add-n.ensures c.if-n-ne0.false c.requires.asks)
+link_new-top-requires c =
+    let n = c.in_ok-claim_add.ensures in
+    add_links _ _ _ _ _ _ _ refl refl _ (n.claims refl) _ _ c.store_lists.ensures (may_add _ _ _ _ _ _ _ _ _ refl refl n refl c.requires.asks)
     _ c.greatest-m.ensures
 
-pub overflow_add-result : goal.overflow_add-result
-overflow_add-result c = omega (
-  arith,
-  (add_counts _ _ _ _ _ (may_add _ _ _ _ _ _ _ _ _ c.wide-v.ensures c.wide-r.ensures c.claim_add-n.ensures
-      c.if-n-ne0.false c.requires.asks)).0,
-)
-
-pub overflow_add-result-2 : goal.overflow_add-result-2
-overflow_add-result-2 c = omega (
-  arith,
-  (add_counts _ _ _ _ _ (may_add _ _ _ _ _ _ _ _ _ c.wide-v.ensures c.wide-r.ensures c.claim_add-n.ensures
-      c.if-n-ne0.false c.requires.asks)).3,
-)
-
-pub overflow_add-result-3 : goal.overflow_add-result-3
-overflow_add-result-3 c = omega (
-  arith,
-  (add_counts _ _ _ _ _ (may_add _ _ _ _ _ _ _ _ _ c.wide-v.ensures c.wide-r.ensures c.claim_add-n.ensures
-      c.if-n-ne0.false c.requires.asks)).2,
-  c.well_formed,
-)
-
 pub overflow_add-result-4 : goal.overflow_add-result-4
-overflow_add-result-4 c = omega (
-  arith,
-  (add_counts _ _ _ _ _ (may_add _ _ _ _ _ _ _ _ _ c.wide-v.ensures c.wide-r.ensures c.claim_add-n.ensures
-      c.if-n-ne0.false c.requires.asks)).1,
-)
+overflow_add-result-4 c = omega (arith, (add_counts _ _ _ _ _ (may_add _ _ _ _ _ _ _ _ _ refl refl c.in_ok-claim_add.ensures refl c.requires.asks)).1)
 
 pub returns : goal.returns
 returns c = λ σ q.
-    add_admits _ _ _ _ _ _ _ c.wide-v.ensures c.wide-r.ensures _ (c.claim_add-n.ensures.claims c.if-n-ne0.false)
-    _ _ c.store_lists.ensures _ _ c.link_new-top.auto.waiting (c.link_new-top.ensures _ refl c.greatest-m.ensures)
-    _ (add_number _ _ _ _ _ _ _ _ _ c.wide-v.ensures c.wide-r.ensures c.claim_add-n.ensures) c.if-n-ne0.false q
+    let n = c.in_ok-claim_add.ensures in
+    add_admits _ _ _ _ _ _ _ refl refl _ (n.claims refl) _ _ c.store_lists.ensures _ _ c.link_new-top.auto.waiting
+    (c.link_new-top.ensures _ refl c.greatest-m.ensures) _ (add_number _ _ _ _ _ _ _ _ _ refl refl n) refl q

@@ -1,42 +1,20 @@
--- `alone_list::well_formed` meets its contract. The invariant: what the kinds say is left to those from k on. Assumes nothing.
-use Rattle.alone_list.specs.Requests.{request_size}
-use Rattle.alone_list.specs.Forms.{not_sixes, sixes, kind_unknown, kind_known, kinds_none_left}
-use Prim.Native.Nat.{◌/◌}
-use lib.ListN.{length}
-use mathlib.Core.Path.{◌∙◌}
-use native.Mathlib.Nat.{div-mul-le_self, sub-zero}
-use native.Mathlib.Omega.{arith}
+-- `alone_list::well_formed` meets its contract: no numbers are left over, and of each six the first is a known kind. Assumes nothing.
+use Rattle.std.proofs.Common.{rules, sym, ◌∙◌, ap, ◌≡◌, ◌≢◌, length}
+use Rattle.std.specs.List.{list_all}
+use Rattle.std.proofs.lemmas.Iterator.{YieldsList-from_slice}
+use Rattle.std.proofs.lemmas.Iterator.Search.{all_from_yields_List}
+use borrow.Author.Tests.{tests, eqb-true, eqb-false}
+use Rattle.alone_list.specs.Forms.{kind_known, sixes, not_sixes}
 use Rattle.alone_list.proofs.well_formed.Goals as goal
 
-pub returns-then-requests-ne0 : goal.returns-then-requests-ne0
-returns-then-requests-ne0 c = not_sixes c.args.requests.now c.if-requests-ne0.true
+pub returns-then-is_empty : goal.returns-then-is_empty
+returns-then-is_empty c =
+    let z : length c.as_chunks.result.1.now ≡ 0 = eqb-true (length c.as_chunks.result.1.now) 0 (sym c.is_empty.ensures ∙ c.if-is_empty.true) in
+    sixes c.args.requests.now (sym c.as_chunks.ensures.back_len ∙ z)
+    (all_from_yields_List kind_known _ _ _ c.all.ensures.ran (YieldsList-from_slice c.as_chunks.result.0.now cc) (λ x b q k. search (rules, tests))
+    ∙ ap (list_all kind_known) c.as_chunks.ensures.front)
 
-pub loop-k-init : goal.loop-k-init
-loop-k-init c = (omega arith, rw sub-zero)
-
-pub overflow_mul-k : goal.overflow_mul-k
-overflow_mul-k c = omega (arith, div-mul-le_self (length c.args.requests.now) request_size)
-
-pub offset_bounds-requests-k : goal.offset_bounds-requests-k
-offset_bounds-requests-k c = omega (arith, div-mul-le_self (length c.args.requests.now) request_size)
-
-pub bounds-requests-k : goal.bounds-requests-k
-bounds-requests-k c = omega (arith, div-mul-le_self (length c.args.requests.now) request_size)
-
-pub returns-then-requests-k-gt-PUSH_AFTER : goal.returns-then-requests-k-gt-PUSH_AFTER
-returns-then-requests-k-gt-PUSH_AFTER c = let q = c.args.requests.now in
-    sixes q c.if-requests-ne0.false (c.loop-k.invariant.1 ∙ kind_unknown q (length q / request_size) c.loop-k.k c.loop-k-test.true c.if-requests-k-gt-PUSH_AFTER.true)
-
-pub overflow_step-k : goal.overflow_step-k
-overflow_step-k c = omega (arith, div-mul-le_self (length c.args.requests.now) request_size)
-
-pub loop-k-smaller : goal.loop-k-smaller
-loop-k-smaller c = omega arith
-
-pub loop-k-preserved : goal.loop-k-preserved
-loop-k-preserved c = let q = c.args.requests.now in
-    (omega arith, c.loop-k.invariant.1 ∙ kind_known q (length q / request_size) c.loop-k.k c.loop-k-test.true c.if-requests-k-gt-PUSH_AFTER.false)
-
-pub returns : goal.returns
-returns c = let q = c.args.requests.now in
-    sixes q c.if-requests-ne0.false (c.loop-k.invariant.1 ∙ kinds_none_left q (length q / request_size) c.loop-k.k c.loop-k-test.false)
+pub returns-else-is_empty : goal.returns-else-is_empty
+returns-else-is_empty c =
+    let z : length c.as_chunks.result.1.now ≢ 0 = eqb-false (length c.as_chunks.result.1.now) 0 (sym c.is_empty.ensures ∙ c.if-is_empty.false) in
+    c.if-is_empty.false ∙ not_sixes c.args.requests.now (λ e. z (c.as_chunks.ensures.back_len ∙ e))

@@ -1,14 +1,26 @@
--- `ascending_calls::close` meets its contract: the number is the model's, and 0 lets the work be done.
+-- `ascending_calls::close` meets its contract: the number is the model's, and 0 lets the work be done: what releasing all spans leaves, closed,
+-- with registrations and places fixed.
+use mathlib.Core.Path.{◌≡◌, refl}
+use borrow.Author.Rules.{rules}
+use Rattle.std.specs.Prelude.{Result, Err}
+use Rattle.rules.specs.declared.Refusal.{Refusal}
+use Rattle.rules.specs.Answer.{number_of_pos}
+use Rattle.ascending_session.specs.declared.Ascending.{Ascending}
 use Rattle.ascending_calls.specs.Numbers.{final_number}
 use Rattle.ascending_session.specs.Promise.{called_refused, called_done, may_do}
-use Rattle.ascending_calls.specs.Flushing.{may_flush, flushes}
+use Rattle.ascending_calls.specs.Flushing.{final_releases, final_counts, final_does}
 use Rattle.ascending_calls.proofs.close.Goals as goal
 
-pub returns-then-n-ne0 : goal.returns-then-n-ne0
-returns-then-n-ne0 c = called_refused (final_number c.check_final-n.ensures) c.if-n-ne0.true
+pub returns-in_err-check_final-clause-called : goal.returns-in_err-check_final-clause-called
+returns-in_err-check_final-clause-called c =
+    let e : ◌≡◌ {A = Result Ascending Refusal} c.from_residual.result (Err c.in_err-check_final.field-0.0) = search rules in
+    rw e (called_refused (final_number c.in_err-check_final.ensures) (number_of_pos _))
 
-pub do_final-t-requires : goal.do_final-t-requires
-do_final-t-requires c = may_flush (may_do (final_number c.check_final-n.ensures) c.if-n-ne0.false c.requires)
+pub release_all-guide-requires : goal.release_all-guide-requires
+release_all-guide-requires c = final_releases (may_do (final_number c.in_ok-check_final.ensures) refl c.requires)
 
-pub returns : goal.returns
-returns c = called_done (final_number c.check_final-n.ensures) c.if-n-ne0.false (flushes c.do_final-t.ensures)
+pub overflow_cast-result : goal.overflow_cast-result
+overflow_cast-result c = record { fits = final_counts (may_do (final_number c.in_ok-check_final.ensures) refl c.requires) }
+
+pub returns-clause-called : goal.returns-clause-called
+returns-clause-called c = called_done (final_number c.in_ok-check_final.ensures) refl (final_does c.release_all-guide.ensures)

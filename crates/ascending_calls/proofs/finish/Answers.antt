@@ -1,22 +1,20 @@
--- `ascending_calls::finish` meets its contract: the number is the model's, 0 lets the work be done, and the summary is that of the tally after it.
-use mathlib.Core.Path.{refl}
+-- `ascending_calls::finish` meets its contract: it closes, and the summary is that of the tally after that.
+use mathlib.Core.Path.{◌≡◌, refl}
+use borrow.Author.Rules.{rules}
+use Rattle.std.specs.Prelude.{Result, Err}
+use Rattle.rules.specs.declared.Refusal.{Refusal}
+use Rattle.rules.specs.Answer.{number_of_pos}
+use Rattle.ascending_calls.specs.declared.Finished.{Finished}
 use Rattle.ascending_calls.specs.Closing.{not_concluded, final_tallied, concluded}
-use Rattle.ascending_calls.specs.Numbers.{final_number}
-use Rattle.ascending_session.specs.Promise.{called_refused, called_done, may_do}
-use Rattle.ascending_calls.specs.Flushing.{may_flush, flushes}
 use Rattle.ascending_calls.proofs.finish.Goals as goal
 
-pub returns-then-n-ne0 : goal.returns-then-n-ne0
-returns-then-n-ne0 c = let z = c.if-n-ne0.true in
-    not_concluded (called_refused (final_number c.check_final-n.ensures) z) z c.no_summary.ensures
+pub returns-in_err-session-clause-concludes : goal.returns-in_err-session-clause-concludes
+returns-in_err-session-clause-concludes c =
+    let e : ◌≡◌ {A = Result Finished Refusal} c.from_residual.result (Err c.in_err-session.field-0.0) = search rules in
+    rw e (not_concluded c.in_err-session.ensures.called (number_of_pos _) refl)
 
-pub do_final-t-requires : goal.do_final-t-requires
-do_final-t-requires c = may_flush (may_do (final_number c.check_final-n.ensures) c.if-n-ne0.false c.requires)
+pub finalize-requires : goal.finalize-requires
+finalize-requires c = final_tallied c.in_ok-session.ensures.called c.requires
 
-pub finalize-figures-requires : goal.finalize-figures-requires
-finalize-figures-requires c = final_tallied (called_done (final_number c.check_final-n.ensures) c.if-n-ne0.false (flushes c.do_final-t.ensures))
-    c.requires
-
-pub returns : goal.returns
-returns c = concluded (called_done (final_number c.check_final-n.ensures) c.if-n-ne0.false (flushes c.do_final-t.ensures)) refl
-    c.finalize-figures.ensures
+pub returns-clause-concludes : goal.returns-clause-concludes
+returns-clause-concludes c = concluded c.in_ok-session.ensures.called refl c.finalize.ensures

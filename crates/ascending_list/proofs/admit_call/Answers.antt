@@ -1,13 +1,14 @@
 -- `ascending_list::admit_call` meets its contract: a set has its place and an add both its lists, and its number is worked out.
-use mathlib.Core.Path.{refl, ap}
+use mathlib.Core.Path.{◌≡◌, ap}
+use borrow.Author.Rules.{rules}
+use Rattle.std.specs.Prelude.{None}
 use native.Mathlib.Omega.{arith}
 use Prim.Native.Nat.{ℕ, ◌+◌, ◌≤◌}
 use lib.ListN.{length}
 use Rattle.call_runs.specs.Making.{set_inside, says_set, ins_there, outs_there, add_inside, says_add}
 use mathlib.Core.List.{List}
-use Rattle.ascending_calls.specs.Numbers.{add_number, may_check}
 use Rattle.ascending_calls.specs.Setting.{marked}
-use Rattle.ascending_list.specs.Made.{admits_set, admits_add}
+use Rattle.ascending_list.specs.Made.{accepted_as, set_told, add_told}
 use Rattle.ascending_list.proofs.admit_call.Goals as goal
 use Rattle.ascending_list.proofs.admit_call.Goals.{After-past_list-next}
 
@@ -26,14 +27,16 @@ offset_bounds-calls-at-then-calls-at-eq-SET c = omega (arith, set_inside c.requi
 pub bounds-calls-at-then-calls-at-eq-SET : goal.bounds-calls-at-then-calls-at-eq-SET
 bounds-calls-at-then-calls-at-eq-SET c = set_inside c.requires.readable.0 c.if-calls-at-eq-SET.true
 
-pub admit_set-n-requires : goal.admit_set-n-requires
-admit_set-n-requires c = c.requires.asks_call
+pub admit_set-requires : goal.admit_set-requires
+admit_set-requires c = c.requires.asks_call
 
 pub overflow_add-result : goal.overflow_add-result
 overflow_add-result c = omega (arith, set_inside c.requires.readable.0 c.if-calls-at-eq-SET.true)
 
 pub returns-then-calls-at-eq-SET : goal.returns-then-calls-at-eq-SET
-returns-then-calls-at-eq-SET c = λ σ q. admits_set (says_set c.requires.readable.0 c.if-calls-at-eq-SET.true) refl (c.admit_set-n.ensures σ q)
+returns-then-calls-at-eq-SET c =
+    let m : c.map.result ≡ accepted_as None c.admit_set.result = search rules in
+    λ σ q. rw m (set_told _ (says_set c.requires.readable.0 c.if-calls-at-eq-SET.true) (c.admit_set.ensures σ q))
 
 pub add_start-d-requires : goal.add_start-d-requires
 add_start-d-requires c = (c.requires.readable.0, c.requires.readable.1, c.if-calls-at-eq-SET.false)
@@ -49,45 +52,40 @@ inside : (c : After-past_list-next) →
     (c.add_start-d.result.lists + 1 ≤ c.past_list-middle.result) × ((c.past_list-middle.result + 1 ≤ c.past_list-next.result) × (c.past_list-next.result ≤ length c.args.calls.now))
 inside c = add_inside c.requires.readable.0 c.add_start-d.ensures _ c.past_list-middle.ensures _ c.past_list-next.ensures
 
-pub overflow_add-ins : goal.overflow_add-ins
-overflow_add-ins c = omega (arith, inside (goal.at.overflow_add-ins c).After-past_list-next)
+pub overflow_add-r : goal.overflow_add-r
+overflow_add-r c = omega (arith, inside (goal.at.overflow_add-r c).After-past_list-next)
 
 pub offset_bounds-calls-d : goal.offset_bounds-calls-d
 offset_bounds-calls-d c = omega (arith, inside (goal.at.offset_bounds-calls-d c).After-past_list-next)
 
-pub slice_bounds-ins-count : goal.slice_bounds-ins-count
-slice_bounds-ins-count c = omega (arith, inside (goal.at.slice_bounds-ins-count c).After-past_list-next)
+pub slice_bounds-r-count : goal.slice_bounds-r-count
+slice_bounds-r-count c = omega (arith, inside (goal.at.slice_bounds-r-count c).After-past_list-next)
 
-pub slice_bounds-ins-start : goal.slice_bounds-ins-start
-slice_bounds-ins-start c = (inside (goal.at.slice_bounds-ins-start c).After-past_list-next).0
+pub slice_bounds-r-start : goal.slice_bounds-r-start
+slice_bounds-r-start c = (inside (goal.at.slice_bounds-r-start c).After-past_list-next).0
 
-pub slice_bounds-ins-end : goal.slice_bounds-ins-end
-slice_bounds-ins-end c = omega (arith, inside (goal.at.slice_bounds-ins-end c).After-past_list-next)
+pub slice_bounds-r-end : goal.slice_bounds-r-end
+slice_bounds-r-end c = omega (arith, inside (goal.at.slice_bounds-r-end c).After-past_list-next)
 
-pub overflow_add-outs : goal.overflow_add-outs
-overflow_add-outs c = omega (arith, inside (goal.at.overflow_add-outs c).After-past_list-next)
+pub overflow_add-r-2 : goal.overflow_add-r-2
+overflow_add-r-2 c = omega (arith, inside (goal.at.overflow_add-r-2 c).After-past_list-next)
 
 pub offset_bounds-calls-middle : goal.offset_bounds-calls-middle
 offset_bounds-calls-middle c = omega (arith, inside (goal.at.offset_bounds-calls-middle c).After-past_list-next)
 
-pub slice_bounds-outs-count : goal.slice_bounds-outs-count
-slice_bounds-outs-count c = omega (arith, inside (goal.at.slice_bounds-outs-count c).After-past_list-next)
+pub slice_bounds-r-count-2 : goal.slice_bounds-r-count-2
+slice_bounds-r-count-2 c = omega (arith, inside (goal.at.slice_bounds-r-count-2 c).After-past_list-next)
 
-pub slice_bounds-outs-start : goal.slice_bounds-outs-start
-slice_bounds-outs-start c = (inside (goal.at.slice_bounds-outs-start c).After-past_list-next).1.0
+pub slice_bounds-r-start-2 : goal.slice_bounds-r-start-2
+slice_bounds-r-start-2 c = (inside (goal.at.slice_bounds-r-start-2 c).After-past_list-next).1.0
 
-pub slice_bounds-outs-end : goal.slice_bounds-outs-end
-slice_bounds-outs-end c = (inside (goal.at.slice_bounds-outs-end c).After-past_list-next).1.1
+pub slice_bounds-r-end-2 : goal.slice_bounds-r-end-2
+slice_bounds-r-end-2 c = (inside (goal.at.slice_bounds-r-end-2 c).After-past_list-next).1.1
 
-pub check_add-n-requires : goal.check_add-n-requires
-check_add-n-requires c = rw c.wide-v.ensures (may_check c.requires.asks_call.asks)
-
-pub overflow_add-result-2 : goal.overflow_add-result-2
-overflow_add-result-2 c = omega (arith, inside (goal.at.overflow_add-result-2 c).After-past_list-next)
+pub admit_add-requires : goal.admit_add-requires
+admit_add-requires c = c.requires.asks_call
 
 pub returns : goal.returns
-returns c = λ σ q.
-    let within = inside (goal.at.returns c).After-past_list-next in
-    let checked = c.check_add-n.ensures in
-    admits_add (says_add c.requires.readable.0 c.add_start-d.ensures _ c.past_list-middle.ensures _ c.past_list-next.ensures) refl within.0 within.1.0
-    (add_number c.wide-v.ensures c.wide-r.ensures checked) (ap (λ (m : List ℕ). marked σ m) checked.same)
+returns c = λ σ q. let x = c.admit_add.ensures in
+    add_told _ x.left (says_add c.requires.readable.0 c.add_start-d.ensures _ c.past_list-middle.ensures _ c.past_list-next.ensures) (x.numbers σ q)
+    (ap (λ (m : List ℕ). marked σ m) x.same)

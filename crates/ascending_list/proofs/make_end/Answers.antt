@@ -12,12 +12,12 @@ bounds-calls-at c = c.requires.readable.0.inside
 pub flush-requires : goal.flush-requires
 flush-requires c = c.requires.asks
 
-pub returns-then-calls-at-eq-FLUSH : goal.returns-then-calls-at-eq-FLUSH
-returns-then-calls-at-eq-FLUSH c = made_flush c.requires.readable.0 c.if-calls-at-eq-FLUSH.true c.flush.ensures
+pub returns-then-calls-at-eq-FLUSH-clause-made : goal.returns-then-calls-at-eq-FLUSH-clause-made
+returns-then-calls-at-eq-FLUSH-clause-made c = made_flush c.requires.readable.0 c.if-calls-at-eq-FLUSH.true c.flush.ensures.called
 
 pub close-requires : goal.close-requires
 close-requires c = c.requires.asks
 
-pub returns : goal.returns
-returns c = let e = c.requires.readable in
-    made_final e.0 e.1 c.if-calls-at-eq-FLUSH.false c.close.ensures
+pub returns-clause-made : goal.returns-clause-made
+returns-clause-made c = let e = c.requires.readable in
+    made_final e.0 e.1 c.if-calls-at-eq-FLUSH.false c.close.ensures.called

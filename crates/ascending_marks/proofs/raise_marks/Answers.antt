@@ -2,12 +2,12 @@
 use lib.ListN.{length, get_or}
 use Prim.Native.Nat.{◌<◌}
 use native.Mathlib.Omega.{arith}
-use Rattle.ascending_marks.specs.Raising.{raise_start, raise_length, raise_in, raise_met, raise_next, raise_end}
+use Rattle.ascending_marks.specs.Raising.{raise_start, raise_length, raise_in, raise_met, raise_next}
 use Rattle.ascending_marks.proofs.raise_marks.Goals as goal
 use Rattle.ascending_marks.proofs.raise_marks.Goals.{In-loop-i}
 
 inside : (c : In-loop-i) → get_or c.args.outs.now c.loop-i.i 0 < length c.loop-i.marks
-inside c = raise_in c.requires c.loop-i.invariant c.loop-i-test.true
+inside c = raise_in c.requires c.loop-i.invariant (omega arith)
 
 pub loop-i-init : goal.loop-i-init
 loop-i-init c = raise_start c.args.marks.now c.args.outs.now
@@ -18,12 +18,8 @@ offset_bounds-marks-x c = record { fits = omega (arith, inside (goal.at.offset_b
 pub bounds-marks-x : goal.bounds-marks-x
 bounds-marks-x c = inside (goal.at.bounds-marks-x c).In-loop-i
 
-pub returns-then-mark-ne0 : goal.returns-then-mark-ne0
-returns-then-mark-ne0 c = raise_met c.requires c.loop-i.invariant c.loop-i-test.true c.if-mark-ne0.true
-
--- an even 16-bit mark is not the greatest number
-pub overflow_add-marks : goal.overflow_add-marks
-overflow_add-marks c = omega (arith, c.if-mark-ne0.false)
+pub returns-then-marks-x-ne0 : goal.returns-then-marks-x-ne0
+returns-then-marks-x-ne0 c = raise_met c.requires c.loop-i.invariant (omega arith) c.if-marks-x-ne0.true
 
 pub offset_bounds-marks-x-in-loop-i : goal.offset_bounds-marks-x-in-loop-i
 offset_bounds-marks-x-in-loop-i c = record { fits = omega (arith, inside (goal.at.offset_bounds-marks-x-in-loop-i c).In-loop-i, raise_length c.loop-i.invariant) }
@@ -31,8 +27,8 @@ offset_bounds-marks-x-in-loop-i c = record { fits = omega (arith, inside (goal.a
 pub bounds-marks-x-in-loop-i : goal.bounds-marks-x-in-loop-i
 bounds-marks-x-in-loop-i c = inside (goal.at.bounds-marks-x-in-loop-i c).In-loop-i
 
-pub loop-i-preserved : goal.loop-i-preserved
-loop-i-preserved c = raise_next c.requires c.loop-i.invariant c.loop-i-test.true c.if-mark-ne0.false
+pub bounds-marks-x-in-loop-i-2 : goal.bounds-marks-x-in-loop-i-2
+bounds-marks-x-in-loop-i-2 c = inside (goal.at.bounds-marks-x-in-loop-i-2 c).In-loop-i
 
-pub returns : goal.returns
-returns c = raise_end c.requires c.loop-i.invariant c.loop-i-test.false
+pub loop-i-preserved : goal.loop-i-preserved
+loop-i-preserved c = raise_next c.requires c.loop-i.invariant (omega arith) c.if-marks-x-ne0.false

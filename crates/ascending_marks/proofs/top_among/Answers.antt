@@ -1,44 +1,32 @@
--- What remains to be done keeps the answer: the greatest of `m` and of the locations of the places not yet looked at. The list is walked as
--- the part of it that begins with its first place, as in tracking::top_loc. Assumes nothing.
-use lib.ListN.{length, get_or}
-use Prim.Native.Nat.{ℕ, ◌<◌}
-use mathlib.Core.Path.{sym, ap, ◌∙◌}
-use native.Mathlib.Nat.{zero-add}
+-- The greatest of the locations, in std's word and then in the definition's. Assumes nothing.
+use Rattle.std.proofs.Common.{◌∙◌, ap, ◌≡◌, Option, sym, get_or, length, map}
+use Prim.Native.Nat.{ℕ, max, ◌<◌}
 use native.Mathlib.Omega.{arith}
+use borrow.Author.Rules.{rules}
+use Rattle.std.specs.List.{reduce}
+use Rattle.std.specs.Option.{unwrap_or}
+use Rattle.std.proofs.lemmas.Iterator.{YieldsList-from_slice, YieldsList-from_map}
+use Rattle.std.proofs.lemmas.Iterator.Adapters.{option_map_id, serves_from_places}
+use Rattle.std.proofs.lemmas.Iterator.Consumers.{YieldsList-at, max_from_yields_List}
+use Rattle.std.proofs.lemmas.Grind.{get_or_default_zero}
 use Rattle.lists.specs.Part.{below_at}
-use Rattle.tracking.specs.Tracking.{peak}
-use Rattle.tracking.specs.Loops.{peak_begins, peak_less, peak_more, peak_ends}
-use Rattle.ascending_marks.specs.Runs.{part_whole}
+use Rattle.lists.specs.Scan.{greatest_is}
+use Rattle.ascending_marks.specs.Runs.{peak_is}
 use Rattle.ascending_marks.proofs.top_among.Goals as goal
-use Rattle.ascending_marks.proofs.top_among.Goals.{In-loop-j}
 
--- the place that the turn looks at
-inside : (c : In-loop-j) → get_or c.args.places.now c.loop-j.j 0 < length c.args.locations.now
-inside c =
-    below_at (length c.args.locations.now) c.args.places.now c.requires c.loop-j.j c.loop-j-test.true
-
-pub loop-j-init : goal.loop-j-init
-loop-j-init c = let l = c.args.locations.now in
-    let xs = c.args.places.now in
-    (omega arith, ap (peak l) (sym (part_whole xs (length xs) (omega arith))) ∙ peak_begins xs 0 (length xs) (omega arith) l)
-
-pub offset_bounds-locations-places : goal.offset_bounds-locations-places
-offset_bounds-locations-places c = record { fits = omega (arith, inside (goal.at.offset_bounds-locations-places c).In-loop-j) }
-
-pub bounds-locations-places : goal.bounds-locations-places
-bounds-locations-places c = inside (goal.at.bounds-locations-places c).In-loop-j
-
-pub loop-j-preserved : goal.loop-j-preserved
-loop-j-preserved c =
-    let xs = c.args.places.now in
-    let l = c.args.locations.now in
-    let at_x = ap (λ (i : ℕ). get_or l (get_or xs i 0) 0) (zero-add c.loop-j.j) in
-    let more = peak_more xs 0 (length xs) (omega arith) l c.loop-j.m c.loop-j.j c.loop-j-test.true in
-    let less = peak_less xs 0 (length xs) (omega arith) l c.loop-j.m c.loop-j.j c.loop-j-test.true in
-    grind (arith, more, less, at_x, c.loop-j.invariant)
+pub max-requires-clause-can : goal.max-requires-clause-can
+max-requires-clause-can c = let xs = c.args.places.now in (
+  tt,
+  serves_from_places (YieldsList-at c.map.ensures.source (YieldsList-from_slice xs cc)) (λ x q k. search rules) (λ x k h e.
+      let low : x.now < length c.args.locations.now = omega (arith, e, get_or_default_zero xs k x.now h, below_at (length c.args.locations.now) xs c.requires k h) in
+      search rules),
+)
 
 pub returns : goal.returns
-returns c = let a = c.args in
-    let xs = a.places.now in
-    let k = c.loop-j in
-    sym (k.invariant.1 ∙ peak_ends xs 0 (length xs) (omega arith) a.locations.now k.m k.j c.loop-j-test.false)
+returns c = let xs = c.args.places.now in
+    let at = λ (x : ℕ). get_or c.args.locations.now x 0 in
+    let m : c.max.result ≡ reduce max (map at xs) =
+    sym (option_map_id c.max.result)
+    ∙ max_from_yields_List c.map.result _ c.max.ensures.ran
+    (YieldsList-from_map _ at (YieldsList-at c.map.ensures.source (YieldsList-from_slice xs cc)) c.map.ensures.closure (λ x r q k. search rules)) in
+    c.unwrap_or.ensures ∙ ap (λ (r : Option ℕ). unwrap_or r 0) m ∙ greatest_is (map at xs) ∙ peak_is c.args.locations.now xs

@@ -1,18 +1,17 @@
--- `ascending_opening::open` meets its contract: refused by the checks, or begun.
-use mathlib.Core.Path.{sym, ◌∙◌}
+-- Refused by the checks, or begun. Assumes nothing.
+use Rattle.std.proofs.Common.{◌≡◌, rules, Err}
+use Rattle.rules.specs.Answer.{number_of_pos}
+use Rattle.ascending_session.specs.Slices.{contents}
 use Rattle.ascending_opening.specs.Opened.{opens_refused, lengths_of}
 use Rattle.ascending_opening.proofs.open.Goals as goal
 
-pub returns-then-n-ne0 : goal.returns-then-n-ne0
-returns-then-n-ne0 c = let a = c.args in
-    let n = c.check_open-n in
-    opens_refused a.p a.v a.w a.spans.now a.order.now a.tally.now a.rows.now a.marks.now a.locations.now
-    n.result c.fresh-s.result n.ensures c.if-n-ne0.true c.fresh-s.ensures
+pub returns-in_err-check_open-clause-opens : goal.returns-in_err-check_open-clause-opens
+returns-in_err-check_open-clause-opens c =
+    let e : c.from_residual.result ≡ Err c.in_err-check_open.field-0.0 = search rules in
+    rw e (opens_refused _ _ c.args.w _ _ c.in_err-check_open.ensures (number_of_pos c.in_err-check_open.field-0.0))
 
-pub begin-s-requires : goal.begin-s-requires
-begin-s-requires c = let a = c.args in
-    lengths_of a.p a.v a.spans.now a.order.now a.tally.now a.rows.now a.marks.now a.locations.now
-    (sym c.if-n-ne0.false ∙ c.check_open-n.ensures)
+pub begin-requires : goal.begin-requires
+begin-requires c = lengths_of _ _ (contents c.args.storage.now) c.in_ok-check_open.ensures
 
-pub returns : goal.returns
-returns c = c.begin-s.ensures.opens _ _ (sym c.if-n-ne0.false ∙ c.check_open-n.ensures)
+pub returns-clause-opens : goal.returns-clause-opens
+returns-clause-opens c = c.begin.ensures.begins.opens c.in_ok-check_open.ensures

@@ -1,5 +1,12 @@
 -- `ascending_replay::replay_ascending` meets its contract: the promise of `replay`, by one number.
+use mathlib.Core.Path.{◌≡◌}
+use borrow.Author.Rules.{rules}
+use Rattle.replay.specs.Telling.{counted}
+use Rattle.ascending_replay.specs.Telling.{written, exported}
 use Rattle.ascending_replay.proofs.replay_ascending.Goals as goal
 
 pub returns : goal.returns
-returns c = record { number = _; session = _; replays = c.replay-a.ensures; is = c.by_number.ensures }
+returns c =
+    let e : c.map.result ≡ counted written c.replay-a.result = search rules in
+    exported c.replay-a.new.storage c.replay-a.result c.replay-a.ensures.replays c.by_number.ensures e
+    (search rules) (search rules) (search rules) (search rules) (search rules) (search rules)

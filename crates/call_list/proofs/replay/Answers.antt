@@ -1,32 +1,44 @@
 -- `call_list::replay` meets its contract: malformed, refused by opening, no room for the answers, or all calls made.
-use mathlib.Core.Path.{sym, ◌∙◌}
-use borrow.Author.Tests.{not-true, not-false}
+use mathlib.Core.Path.{◌≡◌, refl, sym}
+use borrow.Author.Rules.{rules}
+use Rattle.std.specs.Prelude.{Result, Err}
+use Rattle.rules.specs.declared.Refusal.{Refusal}
+use Rattle.rules.specs.declared.Refusal.TheVariants.{Malformed}
+use Rattle.rules.specs.Answer.{number_of_pos}
+use Rattle.session.specs.declared.Session.{Session}
 use Rattle.opening.specs.Opened.{lengths_of}
+use Rattle.call_runs.specs.Continuing.{same_trans}
 use Rattle.call_list.specs.Running.{replay_malformed, replay_refused, replay_no_room, may_run, replay_done}
 use Rattle.call_list.proofs.replay.Goals as goal
 
-pub returns-then-not-c : goal.returns-then-not-c
-returns-then-not-c c = let d = c.refused.ensures in
-    replay_malformed c.count_calls-c.ensures d.number d.session (not-true _ c.if-not-c.true)
+pub returns-in_err-count-clause-replays : goal.returns-in_err-count-clause-replays
+returns-in_err-count-clause-replays c =
+    let e : ◌≡◌ {A = Result Session Refusal} c.from_residual.result (Err c.in_err-count.field-0.0) = search rules in
+    let m : c.in_err-count.field-0.0 ≡ Malformed = search rules in
+    rw (e, m) (replay_malformed c.count_calls.ensures refl refl (sym c.in_err-count.ensures.variant))
 
-pub returns-then-n-ne0 : goal.returns-then-n-ne0
-returns-then-n-ne0 c = let d = c.refused-then-n-ne0.ensures in
-    replay_refused c.count_calls-c.ensures (not-false _ c.if-not-c.false) d.number d.session c.check_open-n.ensures c.if-n-ne0.true
+pub returns-in_err-check_open-clause-replays : goal.returns-in_err-check_open-clause-replays
+returns-in_err-check_open-clause-replays c =
+    let e : ◌≡◌ {A = Result Session Refusal} c.from_residual-in_err-check_open.result (Err c.in_err-check_open.field-0.0) = search rules in
+    rw e (replay_refused c.count_calls.ensures (sym c.in_ok-count.ensures.variant) refl refl c.in_err-check_open.ensures (number_of_pos _))
 
-pub returns-then-answers-c : goal.returns-then-answers-c
-returns-then-answers-c c = let d = c.refused-then-answers-c.ensures in
-    replay_no_room c.count_calls-c.ensures (not-false _ c.if-not-c.false) d.number d.session
-    (sym c.if-n-ne0.false ∙ c.check_open-n.ensures) c.if-answers-c.true
+pub returns-then-answers-count-clause-replays : goal.returns-then-answers-count-clause-replays
+returns-then-answers-count-clause-replays c =
+    let C = rw c.in_ok-count.ensures.ok_part at c.count_calls.ensures in
+    replay_no_room C refl refl refl c.in_ok-check_open.ensures c.if-answers-count.true
 
 pub begin-s-requires : goal.begin-s-requires
-begin-s-requires c = let a = c.args in
-    lengths_of a.p a.v a.spans.now a.order.now a.tally.now a.rows.now a.marks.now a.locations.now a.waiting.now a.pool.now
-    (sym c.if-n-ne0.false ∙ c.check_open-n.ensures)
+begin-s-requires c = lengths_of _ _ _ c.in_ok-check_open.ensures
 
-pub run_calls-z-requires : goal.run_calls-z-requires
-run_calls-z-requires c = may_run c.count_calls-c.ensures (not-false _ c.if-not-c.false) c.if-answers-c.false
-    (c.begin-s.ensures.opens _ _ _ (sym c.if-n-ne0.false ∙ c.check_open-n.ensures))
+pub run_calls-requires : goal.run_calls-requires
+run_calls-requires c =
+    let C = rw c.in_ok-count.ensures.ok_part at c.count_calls.ensures in
+    may_run C refl c.if-answers-count.false (c.begin-s.ensures.begins.opens c.in_ok-check_open.ensures)
 
 pub returns : goal.returns
-returns c = replay_done c.count_calls-c.ensures (not-false _ c.if-not-c.false) c.if-answers-c.false
-    (c.begin-s.ensures.opens _ _ _ (sym c.if-n-ne0.false ∙ c.check_open-n.ensures)) c.run_calls-z.ensures
+returns c =
+    let C = rw c.in_ok-count.ensures.ok_part at c.count_calls.ensures in
+    record {
+      replays = replay_done C refl c.if-answers-count.false (c.begin-s.ensures.begins.opens c.in_ok-check_open.ensures) c.run_calls.ensures.runs;
+      same = same_trans c.begin-s.ensures.same c.run_calls.ensures.same;
+    }

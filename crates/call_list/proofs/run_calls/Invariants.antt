@@ -4,18 +4,19 @@ use mathlib.Core.Path.{◌≡◌}
 use mathlib.Core.Bool.{true}
 use lib.ListN.{length, get_or}
 use Prim.Native.Nat.{◌-◌, ◌<◌}
-use Rattle.session.specs.Storage.{storage}
+use Rattle.session.specs.Slices.{contents, SameSlices}
 use Rattle.call_runs.specs.Made.{ends_run}
 use Rattle.call_runs.specs.Continuing.{Going}
 use Rattle.call_list.proofs.run_calls.Given as goal
 
 abbrev pub invariant-loop-r : goal.invariant-loop-r
 invariant-loop-r l =
-    Going l.calls l.initial.r.session
-    (storage l.initial.spans l.initial.order l.initial.tally l.initial.rows l.initial.marks l.initial.locations l.initial.waiting l.initial.pool)
-    l.initial.answers l.initial.r.at l.initial.r.made
-    l.r.session (storage l.spans l.order l.tally l.rows l.marks l.locations l.waiting l.pool) l.answers l.r.at l.r.made
-    × (l.r.at < length l.calls → ends_run (get_or l.calls l.r.at 0) ≡ true)
+    record {
+      going : Going l.calls l.initial.r.session (contents l.initial.storage) l.initial.answers l.initial.r.at l.initial.r.made
+          l.r.session (contents l.storage) l.answers l.r.at l.r.made;
+      stops : l.r.at < length l.calls → ends_run (get_or l.calls l.r.at 0) ≡ true;
+      same : SameSlices l.initial.storage l.storage;
+    }
 
 abbrev pub decreases-loop-r : goal.decreases-loop-r
 decreases-loop-r l = length l.calls - l.r.at

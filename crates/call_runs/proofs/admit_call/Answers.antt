@@ -22,14 +22,14 @@ offset_bounds-calls-at-then-calls-at-eq-SET c = omega (arith, set_inside c.requi
 pub bounds-calls-at-then-calls-at-eq-SET : goal.bounds-calls-at-then-calls-at-eq-SET
 bounds-calls-at-then-calls-at-eq-SET c = set_inside c.requires.readable.0 c.if-calls-at-eq-SET.true
 
-pub admit_set-a-requires : goal.admit_set-a-requires
-admit_set-a-requires c = set_asked c.requires.asks_call.asks
+pub admit_set-requires : goal.admit_set-requires
+admit_set-requires c = set_asked c.requires.asks_call.asks
 
 pub overflow_add-result : goal.overflow_add-result
 overflow_add-result c = omega (arith, set_inside c.requires.readable.0 c.if-calls-at-eq-SET.true)
 
 pub returns-then-calls-at-eq-SET : goal.returns-then-calls-at-eq-SET
-returns-then-calls-at-eq-SET c = λ σ q. admits_set c.requires.readable.0 c.if-calls-at-eq-SET.true (set_admitted q c.admit_set-a.ensures)
+returns-then-calls-at-eq-SET c = λ σ q. admits_set c.requires.readable.0 c.if-calls-at-eq-SET.true (set_admitted q c.admit_set.ensures)
 
 pub add_start-d-requires : goal.add_start-d-requires
 add_start-d-requires c = (c.requires.readable.0, c.requires.readable.1, c.if-calls-at-eq-SET.false)
@@ -45,39 +45,39 @@ inside : (c : After-past_list-next) →
     (c.add_start-d.result.lists + 1 ≤ c.past_list-middle.result) × ((c.past_list-middle.result + 1 ≤ c.past_list-next.result) × (c.past_list-next.result ≤ length c.args.calls.now))
 inside c = add_inside c.requires.readable.0 c.add_start-d.ensures _ c.past_list-middle.ensures _ c.past_list-next.ensures
 
-pub overflow_add-ins : goal.overflow_add-ins
-overflow_add-ins c = omega (arith, inside (goal.at.overflow_add-ins c).After-past_list-next)
+pub overflow_add-r : goal.overflow_add-r
+overflow_add-r c = omega (arith, inside (goal.at.overflow_add-r c).After-past_list-next)
 
 pub offset_bounds-calls-d : goal.offset_bounds-calls-d
 offset_bounds-calls-d c = omega (arith, inside (goal.at.offset_bounds-calls-d c).After-past_list-next)
 
-pub slice_bounds-ins-count : goal.slice_bounds-ins-count
-slice_bounds-ins-count c = omega (arith, inside (goal.at.slice_bounds-ins-count c).After-past_list-next)
+pub slice_bounds-r-count : goal.slice_bounds-r-count
+slice_bounds-r-count c = omega (arith, inside (goal.at.slice_bounds-r-count c).After-past_list-next)
 
-pub slice_bounds-ins-start : goal.slice_bounds-ins-start
-slice_bounds-ins-start c = (inside (goal.at.slice_bounds-ins-start c).After-past_list-next).0
+pub slice_bounds-r-start : goal.slice_bounds-r-start
+slice_bounds-r-start c = (inside (goal.at.slice_bounds-r-start c).After-past_list-next).0
 
-pub slice_bounds-ins-end : goal.slice_bounds-ins-end
-slice_bounds-ins-end c = omega (arith, inside (goal.at.slice_bounds-ins-end c).After-past_list-next)
+pub slice_bounds-r-end : goal.slice_bounds-r-end
+slice_bounds-r-end c = omega (arith, inside (goal.at.slice_bounds-r-end c).After-past_list-next)
 
-pub overflow_add-outs : goal.overflow_add-outs
-overflow_add-outs c = omega (arith, inside (goal.at.overflow_add-outs c).After-past_list-next)
+pub overflow_add-r-2 : goal.overflow_add-r-2
+overflow_add-r-2 c = omega (arith, inside (goal.at.overflow_add-r-2 c).After-past_list-next)
 
 pub offset_bounds-calls-middle : goal.offset_bounds-calls-middle
 offset_bounds-calls-middle c = omega (arith, inside (goal.at.offset_bounds-calls-middle c).After-past_list-next)
 
-pub slice_bounds-outs-count : goal.slice_bounds-outs-count
-slice_bounds-outs-count c = omega (arith, inside (goal.at.slice_bounds-outs-count c).After-past_list-next)
+pub slice_bounds-r-count-2 : goal.slice_bounds-r-count-2
+slice_bounds-r-count-2 c = omega (arith, inside (goal.at.slice_bounds-r-count-2 c).After-past_list-next)
 
-pub slice_bounds-outs-start : goal.slice_bounds-outs-start
-slice_bounds-outs-start c = (inside (goal.at.slice_bounds-outs-start c).After-past_list-next).1.0
+pub slice_bounds-r-start-2 : goal.slice_bounds-r-start-2
+slice_bounds-r-start-2 c = (inside (goal.at.slice_bounds-r-start-2 c).After-past_list-next).1.0
 
-pub slice_bounds-outs-end : goal.slice_bounds-outs-end
-slice_bounds-outs-end c = (inside (goal.at.slice_bounds-outs-end c).After-past_list-next).1.1
+pub slice_bounds-r-end-2 : goal.slice_bounds-r-end-2
+slice_bounds-r-end-2 c = (inside (goal.at.slice_bounds-r-end-2 c).After-past_list-next).1.1
 
-pub admit_add-a-requires : goal.admit_add-a-requires
-admit_add-a-requires c = add_asked c.requires.asks_call.asks
+pub admit_add-requires : goal.admit_add-requires
+admit_add-requires c = add_asked c.requires.asks_call.asks
 
 pub returns : goal.returns
 returns c = λ σ q. admits_add c.requires.readable.0 c.add_start-d.ensures _ c.past_list-middle.ensures _ c.past_list-next.ensures
-    (add_admitted q c.admit_add-a.ensures)
+    (add_admitted q c.admit_add.ensures)

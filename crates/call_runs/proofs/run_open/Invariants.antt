@@ -2,26 +2,27 @@
 -- is left of the numbers.
 use lib.ListN.{length}
 use Prim.Native.Nat.{◌-◌}
-use Rattle.session.specs.Storage.{storage}
+use Rattle.session.specs.Slices.{contents, SameSlices}
 use Rattle.call_runs.specs.Cascading.{Cascading}
 use Rattle.call_runs.specs.Continuing.{Going}
 use Rattle.call_runs.proofs.run_open.Given as goal
 
 abbrev pub invariant-loop-t : goal.invariant-loop-t
 invariant-loop-t l =
-    Cascading l.c l.initial.z
-    (storage l.initial.spans l.initial.order l.initial.tally l.initial.rows l.initial.marks l.initial.locations l.initial.waiting l.pool)
-    l.initial.t l.z (storage l.spans l.order l.tally l.rows l.marks l.locations l.waiting l.pool) l.t
+    record {
+      cascading : Cascading l.c l.initial.z (contents l.initial.storage) l.initial.t l.z (contents l.storage) l.t;
+      same : SameSlices l.initial.storage l.storage;
+    }
 
 abbrev pub decreases-loop-t : goal.decreases-loop-t
 decreases-loop-t l = l.z.delayed
 
 abbrev pub invariant-loop-at : goal.invariant-loop-at
 invariant-loop-at l =
-    Going l.calls l.initial.z
-    (storage l.initial.spans l.initial.order l.initial.tally l.initial.rows l.initial.marks l.initial.locations l.initial.waiting l.initial.pool)
-    l.initial.answers l.initial.at l.initial.n l.z (storage l.spans l.order l.tally l.rows l.marks l.locations l.waiting l.pool)
-    l.answers l.at l.n
+    record {
+      going : Going l.calls l.initial.z (contents l.initial.storage) l.initial.answers l.initial.at l.initial.n l.z (contents l.storage) l.answers l.at l.n;
+      same : SameSlices l.initial.storage l.storage;
+    }
 
 abbrev pub decreases-loop-at : goal.decreases-loop-at
 decreases-loop-at l = length l.calls - l.at

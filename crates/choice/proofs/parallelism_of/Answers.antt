@@ -12,13 +12,9 @@ pub returns-then-q-b : goal.returns-then-q-b
 unfolding parallelism parallelism_by
 returns-then-q-b c = simp (le-leb _ _ c.if-p-a.true, lt-leb _ _ c.if-p-b.false, lt-ltb _ _ c.if-q-b.true)
 
-pub returns-then-t-lt1 : goal.returns-then-t-lt1
-unfolding parallelism parallelism_by
-returns-then-t-lt1 c = simp (le-leb _ _ c.if-p-a.true, lt-leb _ _ c.if-p-b.false, le-ltb _ _ c.if-q-b.false) (omega arith)
-
 pub returns-then-p-a : goal.returns-then-p-a
 unfolding parallelism parallelism_by
-returns-then-p-a c = simp (le-leb _ _ c.if-p-a.true, lt-leb _ _ c.if-p-b.false, le-ltb _ _ c.if-q-b.false) (omega arith)
+returns-then-p-a c = rw c.max.ensures (simp (le-leb _ _ c.if-p-a.true, lt-leb _ _ c.if-p-b.false, le-ltb _ _ c.if-q-b.false))
 
 pub returns-then-p-b-2 : goal.returns-then-p-b-2
 unfolding parallelism parallelism_by

@@ -1,5 +1,5 @@
 -- `encoding::past_list` meets its contract: the list that is there lies inside.
-use native.Mathlib.Omega.{arith}
+use Rattle.std.proofs.Common.{refl, arith}
 use Rattle.encoding.specs.Ends.{list_there, list_whole}
 use Rattle.encoding.proofs.past_list.Goals as goal
 
@@ -15,9 +15,9 @@ bounds-calls-at c = (list_there _ _ c.requires).0
 pub overflow_add-result-2 : goal.overflow_add-result-2
 overflow_add-result-2 c = let a = c.args in
     let t = list_there a.calls.now a.at c.requires in
-    omega (arith, t.0, t.1, c.short.ensures, c.well_formed)
+    omega (arith, t.0, t.1, c.well_formed)
 
 pub returns : goal.returns
 returns c = let a = c.args in
     let t = list_there a.calls.now a.at c.requires in
-    list_whole _ _ _ c.short.ensures t.0 (omega (arith, t.1, c.short.ensures))
+    list_whole _ _ _ refl t.0 (omega (arith, t.1))

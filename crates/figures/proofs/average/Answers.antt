@@ -3,9 +3,9 @@ use mathlib.Core.Path.{◌≡◌, ap, ◌∙◌}
 use mathlib.Core.Bool.{true, false, true≢false}
 use Prim.Native.Nat.{ℕ, ◌*◌}
 use native.Mathlib.Nat.{mul_assoc, mul_comm, mul-pos}
-use lib.Dec.{lit<, le→leb}
+use lib.Dec.{lit<}
 use lib.IntN.{pos}
-use lib.Ieee.{Float, nan, inf, fin, binary32, round, div, of_int, of_bits, in_float, up, down}
+use lib.Ieee.{Float, nan, inf, fin, binary32, round, div, of_int, of_bits, up, down}
 use lib.Ieee.Fits.{down_pos}
 use lib.Ieee.Exact.{HasValue}
 use lib.Ieee.Back.{round_whole}
@@ -21,10 +21,6 @@ over-65000 (fin true m e) n h = absurd (true≢false h.0)
 over-65000 (fin false m e) n h =
     round_same binary32 false (m * up e * 1) (65000 * down e) n 65000 (mul-pos (lit< tt) (down_pos e)) (lit< tt)
     (rw h.1 (mul_assoc n (down e) 65000 ∙ ap (λ (k : ℕ). n * k) (mul_comm (down e) 65000)))
-
-pub int_to_float-result : goal.int_to_float-result
-unfolding in_float
-int_to_float-result c = le→leb c.args.sum 16777216 c.requires
 
 pub returns : goal.returns
 unfolding of_int of_bits

@@ -1,19 +1,14 @@
--- The sum so far and the sum of what remains make up the tally's sum. Assumes nothing.
-use mathlib.Core.Path.{refl}
-use native.Mathlib.Omega.{arith}
-use Rattle.figures.specs.Loops.{sum_more, sum_ends}
+-- The sum in std's word and then in the definition's; it fits, being at most 2^24. Assumes nothing.
+use Rattle.std.proofs.Common.{◌∙◌, arith}
+use Rattle.std.proofs.lemmas.Iterator.{YieldsList-from_slice}
+use Rattle.std.proofs.lemmas.Iterator.Consumers.{sum_from_yields_List, fits_from_yields_list}
+use Rattle.figures.specs.Loops.{sum_is}
 use Rattle.figures.proofs.sum.Goals as goal
 
-pub loop-i-init : goal.loop-i-init
-loop-i-init c = (refl, (omega arith, omega arith))
-
-pub overflow_add-s : goal.overflow_add-s
-overflow_add-s c = let m = sum_more c.args.t.now c.loop-i.i (omega arith) in
-    omega (arith, c.requires.total)
-
-pub loop-i-preserved : goal.loop-i-preserved
-loop-i-preserved c = let m = sum_more c.args.t.now c.loop-i.i (omega arith) in
-    (c.loop-i.invariant.0, (omega arith, omega arith))
+pub sum-requires-clause-fits : goal.sum-requires-clause-fits
+sum-requires-clause-fits c = let t = c.args.t.now in
+    fits_from_yields_list c.iter.result _ (YieldsList-from_slice t cc) (omega (arith, sum_is t, c.requires.total))
 
 pub returns : goal.returns
-returns c = let e = sum_ends c.args.t.now c.loop-i.i (omega arith) in omega arith
+returns c = let t = c.args.t.now in
+    sum_from_yields_List c.iter.result _ c.sum.ensures.ran (YieldsList-from_slice t cc) ∙ sum_is t

@@ -7,16 +7,10 @@ use Rattle.figures.proofs.thousands.Goals as goal
 pub loop-i-init : goal.loop-i-init
 loop-i-init c = (refl, (omega arith, thousands_begin c.args.t.now))
 
-pub bounds-sums-k : goal.bounds-sums-k
-bounds-sums-k c = omega (arith, c.requires.few)
-
 pub overflow_add-sums : goal.overflow_add-sums
 overflow_add-sums c = let l = c.loop-i in
     let f = thousands_fit c.args.t.now l.i l.sums (omega arith) (omega (arith, c.requires.few)) l.invariant.1.1 in
     omega (arith, c.requires.total)
-
-pub bounds-sums-k-in-loop-i : goal.bounds-sums-k-in-loop-i
-bounds-sums-k-in-loop-i c = omega (arith, c.requires.few)
 
 pub loop-i-preserved : goal.loop-i-preserved
 loop-i-preserved c = let l = c.loop-i in

@@ -1,19 +1,19 @@
 -- The number of each answer. Assumes nothing.
 use native.Mathlib.Omega.{arith}
-use Rattle.host.specs.Laws.{replied_as, called_listed, called_refused}
+use Rattle.host.specs.Laws.{called_listed, called_refused}
 use Rattle.host.proofs.order_job.Goals as goal
 
 pub overflow_mul-result : goal.overflow_mul-result
-overflow_mul-result c = omega (arith, (replied_as c.reply_to-r.ensures c.in-Listed.is).small.1)
+overflow_mul-result c = omega (arith, c.in-Ok.ensures.small.1)
 
-pub overflow_mul-result-in-Refused : goal.overflow_mul-result-in-Refused
-overflow_mul-result-in-Refused c = omega (arith, (replied_as c.reply_to-r.ensures c.in-Refused.is).small)
+pub overflow_mul-result-in-Err : goal.overflow_mul-result-in-Err
+overflow_mul-result-in-Err c = omega (arith, c.in-Err.ensures.small)
 
 pub overflow_add-result : goal.overflow_add-result
-overflow_add-result c = omega (arith, (replied_as c.reply_to-r.ensures c.in-Refused.is).small)
+overflow_add-result c = omega (arith, c.in-Err.ensures.small, c.from.ensures)
 
-pub returns-in-Listed : goal.returns-in-Listed
-returns-in-Listed c = called_listed _ (replied_as c.reply_to-r.ensures c.in-Listed.is)
+pub returns-in-Ok : goal.returns-in-Ok
+returns-in-Ok c = called_listed _ c.in-Ok.ensures
 
-pub returns-in-Refused : goal.returns-in-Refused
-returns-in-Refused c = called_refused _ _ (replied_as c.reply_to-r.ensures c.in-Refused.is)
+pub returns-in-Err : goal.returns-in-Err
+returns-in-Err c = rw c.from.ensures (called_refused _ _ c.in-Err.ensures)

@@ -1,16 +1,19 @@
--- The search begun at `from` and the one begun at i end at the same place. Assumes nothing.
-use mathlib.Core.Path.{ap}
-use lib.ListN.{drop_of_length-le}
+-- The search through what stands from `from` on. Assumes nothing.
+use Rattle.std.proofs.Common.{◌-◌, ◌≡◌, ℕ, ap, ◌∙◌, take, drop, length, take_all, length-drop, arith, List, position, nat_eq}
+use Rattle.jobtext.specs.Pieces.{place_or, first_is}
 use Rattle.jobtext.specs.Text.{before}
-use Rattle.jobtext.specs.Pieces.{before_stop, before_on, before_end}
-use native.Mathlib.Omega.{arith}
 use Rattle.jobtext.proofs.find.Goals as goal
+use Rattle.jobtext.proofs.find.Goals.{After-first}
 
-pub returns-then-s-i : goal.returns-then-s-i
-returns-then-s-i c = omega (arith, c.loop-i.invariant.1, before_stop c.args.b c.args.s.now c.loop-i.i c.loop-i-test.true c.if-s-i.true)
+place : (c : After-first) → place_or (length (drop c.args.from c.args.s.now)) c.first.result ≡ before c.args.b (drop c.args.from c.args.s.now)
+place c = let s = c.args.s.now in
+    let rest : take (length s - c.args.from) (drop c.args.from s) ≡ drop c.args.from s = take_all (length s - c.args.from) (drop c.args.from s) (rw (length-drop c.args.from s) (omega arith)) in
+    ap (place_or (length (drop c.args.from s))) (c.first.ensures ∙ ap (λ (l : List ℕ). position (λ (x : ℕ). nat_eq x c.args.b) l) rest) ∙ first_is c.args.b (drop c.args.from s)
 
-pub loop-i-preserved : goal.loop-i-preserved
-loop-i-preserved c = omega (arith, c.loop-i.invariant, before_on c.args.b c.args.s.now c.loop-i.i c.loop-i-test.true c.if-s-i.false)
+pub returns-in-Some : goal.returns-in-Some
+returns-in-Some c = let k = ap (place_or (length (drop c.args.from c.args.s.now))) c.in-Some.is in
+    omega (arith, k, place (goal.at.returns-in-Some c).After-first)
 
-pub returns : goal.returns
-returns c = omega (arith, c.loop-i.invariant.1, ap (before c.args.b) (drop_of_length-le c.args.s.now c.loop-i-test.false), before_end c.args.b)
+pub returns-in-None : goal.returns-in-None
+returns-in-None c = let n = ap (place_or (length (drop c.args.from c.args.s.now))) c.in-None.is in
+    omega (arith, n, place (goal.at.returns-in-None c).After-first, length-drop c.args.from c.args.s.now)

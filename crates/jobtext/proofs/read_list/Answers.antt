@@ -1,7 +1,5 @@
 -- The numbers read so far, before those of the fields that are left, are the list. Assumes nothing.
-use mathlib.Core.Path.{sym, ap, ◌∙◌}
 use Rattle.jobtext.specs.Lists.{reading_begins, says_none, end_in, says_bad, not_empty, says_all, reads_on}
-use Rattle.jobtext.specs.Text.{value_of}
 use native.Mathlib.Omega.{arith}
 use Rattle.jobtext.proofs.read_list.Goals as goal
 
@@ -14,12 +12,12 @@ loop-at-init c = reading_begins c.args.s.now c.args.into.now c.args.off c.if-s-e
 pub slice_bounds-read_number-end : goal.slice_bounds-read_number-end
 slice_bounds-read_number-end c = end_in c.loop-at.invariant c.requires c.find-e.result c.find-e.ensures
 
-pub returns-in_default : goal.returns-in_default
-returns-in_default c = says_bad c.loop-at.invariant c.requires c.find-e.result c.find-e.ensures (ap value_of (sym c.in_default.is) ∙ c.read_number-x.ensures)
+pub returns-in_err-into : goal.returns-in_err-into
+returns-in_err-into c = rw c.from_residual.ensures (says_bad c.loop-at.invariant c.requires c.find-e.result c.find-e.ensures c.in_err-into.ensures)
 
 pub returns-then-e-s : goal.returns-then-e-s
 returns-then-e-s c = says_all c.loop-at.invariant c.requires c.find-e.result c.find-e.ensures _
-    (ap value_of (sym c.in-Value.is) ∙ c.read_number-x.ensures) c.if-e-s.true
+    c.in_ok-into.ensures c.if-e-s.true
 
 pub overflow_add-at : goal.overflow_add-at
 overflow_add-at c = omega (arith, end_in c.loop-at.invariant c.requires c.find-e.result c.find-e.ensures, c.well_formed.0.0, c.if-e-s.false)
@@ -28,13 +26,13 @@ pub loop-at-smaller : goal.loop-at-smaller
 loop-at-smaller c = omega (
   arith,
   not_empty c.loop-at.invariant c.requires c.find-e.result c.find-e.ensures _
-      (ap value_of (sym c.in-Value.is) ∙ c.read_number-x.ensures),
+      c.in_ok-into.ensures,
   end_in c.loop-at.invariant c.requires c.find-e.result c.find-e.ensures,
 )
 
 pub loop-at-preserved : goal.loop-at-preserved
 loop-at-preserved c = reads_on c.loop-at.invariant c.requires c.find-e.result c.find-e.ensures _
-    (ap value_of (sym c.in-Value.is) ∙ c.read_number-x.ensures) c.if-e-s.false
+    c.in_ok-into.ensures c.if-e-s.false
 
 pub returns : goal.returns
 returns c = absurd (omega (arith, c.loop-at.invariant.inside, c.loop-at-test.false))

@@ -2,12 +2,9 @@
 use lib.Dec.{leb}
 use lib.ListN.{length, drop}
 use mathlib.Core.Path.{◌≡◌}
-use Prim.Native.Nat.{◌-◌, ◌≤◌}
+use Prim.Native.Nat.{◌≤◌}
 use Rattle.rules.specs.Checks.{any}
 use Rattle.lists.proofs.any_at_least.Given as goal
 
-abbrev pub invariant-loop-i : goal.invariant-loop-i
-invariant-loop-i l = (l.i ≤ length l.xs) × (any (λ x. leb l.bound x) l.xs ≡ any (λ x. leb l.bound x) (drop l.i l.xs))
-
-abbrev pub decreases-loop-i : goal.decreases-loop-i
-decreases-loop-i l = length l.xs - l.i
+abbrev pub invariant-loop-x : goal.invariant-loop-x
+invariant-loop-x l = (l.x-index ≤ length l.xs) × (any (λ x. leb l.bound x) l.xs ≡ any (λ x. leb l.bound x) (drop l.x-index l.xs))

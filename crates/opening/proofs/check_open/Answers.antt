@@ -1,22 +1,21 @@
--- A law for each way out. Assumes nothing.
-use Rattle.opening.specs.Refusal.{low_p, high_p, low_v, high_v, short_of, enough}
-use mathlib.Core.Path.{sym, ◌∙◌}
+-- The waiting storage's length comes last. Assumes nothing.
+use Rattle.std.proofs.Common.{◌≡◌, rules, arith}
+use Rattle.rules.specs.Answer.{number, number_of, number_of_pos}
+use Rattle.session.specs.Slices.{contents}
+use Rattle.opening.specs.Opened.{sizes}
+use Rattle.opening.specs.Refusal.{lean_refuses, short_waiting, waiting_suffices, few_places}
 use Rattle.opening.proofs.check_open.Goals as goal
 
-pub returns-then-p-lt1 : goal.returns-then-p-lt1
-returns-then-p-lt1 c = low_p _ _ _ c.if-p-lt1.true
+pub returns-in_err-check_lengths : goal.returns-in_err-check_lengths
+returns-in_err-check_lengths c =
+    let e : number c.from_residual.result ≡ number_of c.in_err-check_lengths.field-0.0 = search rules in
+    rw e (lean_refuses c.args.p c.args.v (sizes (contents c.args.storage.now)) c.in_err-check_lengths.ensures (number_of_pos c.in_err-check_lengths.field-0.0))
 
-pub returns-then-p-gt-MOST_PARALLELISM : goal.returns-then-p-gt-MOST_PARALLELISM
-returns-then-p-gt-MOST_PARALLELISM c = high_p _ _ _ c.if-p-lt1.false c.if-p-gt-MOST_PARALLELISM.true
+pub overflow_mul-v : goal.overflow_mul-v
+overflow_mul-v c = omega (arith, few_places c.args.p c.args.v (sizes (contents c.args.storage.now)) c.in_ok-check_lengths.ensures)
 
-pub returns-then-v-lt1 : goal.returns-then-v-lt1
-returns-then-v-lt1 c = low_v _ _ _ c.if-p-lt1.false c.if-p-gt-MOST_PARALLELISM.false c.if-v-lt1.true
-
-pub returns-then-v-gt-MOST_PLACES : goal.returns-then-v-gt-MOST_PLACES
-returns-then-v-gt-MOST_PLACES c = high_v _ _ _ c.if-p-lt1.false c.if-p-gt-MOST_PARALLELISM.false c.if-v-lt1.false c.if-v-gt-MOST_PLACES.true
-
-pub returns-then-too_short : goal.returns-then-too_short
-returns-then-too_short c = short_of _ _ _ c.if-p-lt1.false c.if-p-gt-MOST_PARALLELISM.false c.if-v-lt1.false c.if-v-gt-MOST_PLACES.false (sym c.too_short.ensures ∙ c.if-too_short.true)
+pub returns-then-storage-v : goal.returns-then-storage-v
+returns-then-storage-v c = short_waiting c.args.p c.args.v (sizes (contents c.args.storage.now)) c.in_ok-check_lengths.ensures c.if-storage-v.true
 
 pub returns : goal.returns
-returns c = enough _ _ _ c.if-p-lt1.false c.if-p-gt-MOST_PARALLELISM.false c.if-v-lt1.false c.if-v-gt-MOST_PLACES.false (sym c.too_short.ensures ∙ c.if-too_short.false)
+returns c = waiting_suffices c.args.p c.args.v (sizes (contents c.args.storage.now)) c.in_ok-check_lengths.ensures c.if-storage-v.false

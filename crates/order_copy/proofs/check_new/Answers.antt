@@ -4,22 +4,20 @@ use native.Mathlib.Omega.{arith}
 use Rattle.entries.specs.Stored.{capacity_fits}
 use Rattle.order_copy.specs.Checked.{past, short_order, short_flat, wide, fine}
 use Rattle.order_copy.proofs.check_new.Goals as goal
+use Rattle.order_copy.proofs.check_new.Goals.{then-to-from-via-then-to-from, then-to-from-via-else-to-from+then-room-to}
+use Rattle.order_copy.proofs.check_new.Goals.{then-to-from-via-else-to-from+else-room-to+then-capacity-to, then-to-from-via-else-to-from+else-room-to+else-capacity-to+then-has_wide}
 
 pub returns-then-to-from : goal.returns-then-to-from
-returns-then-to-from c = past _ _ _ _ c.if-to-from.true
-
-pub returns-then-room-to : goal.returns-then-room-to
-returns-then-room-to c = short_order _ _ _ _ (omega (arith, c.if-to-from.false)) c.if-room-to.true
-
-pub returns-then-capacity-to : goal.returns-then-capacity-to
-returns-then-capacity-to c = short_flat _ _ _ _ (omega (arith, c.if-to-from.false)) (omega (arith, c.if-room-to.false)) (omega (arith, c.if-capacity-to.true, c.capacity.ensures))
+returns-then-to-from c = elim c.then-to-from.branch [
+  | then-to-from-via-then-to-from w ↦ past _ _ _ _ w.if-to-from.true
+  | then-to-from-via-else-to-from+then-room-to w ↦ short_order _ _ _ _ w.if-to-from.false w.if-room-to.true
+  | then-to-from-via-else-to-from+else-room-to+then-capacity-to w ↦ short_flat _ _ _ _ w.if-to-from.false w.if-room-to.false (omega (arith, w.if-capacity-to.true, w.capacity.ensures))
+  | then-to-from-via-else-to-from+else-room-to+else-capacity-to+then-has_wide w ↦
+      wide _ _ _ _ w.if-to-from.false w.if-room-to.false (omega (arith, w.if-capacity-to.false, w.capacity.ensures)) (sym w.if-has_wide.true ∙ w.has_wide.ensures)
+]
 
 pub has_wide-requires : goal.has_wide-requires
 has_wide-requires c = let a = c.args in capacity_fits a.flat.now a.to (omega (arith, c.if-capacity-to.false, c.capacity.ensures))
-
-pub returns-then-has_wide : goal.returns-then-has_wide
-returns-then-has_wide c = wide _ _ _ _ (omega (arith, c.if-to-from.false)) (omega (arith, c.if-room-to.false)) (omega (arith, c.if-capacity-to.false, c.capacity.ensures))
-    (sym c.if-has_wide.true ∙ c.has_wide.ensures)
 
 pub returns : goal.returns
 returns c = fine _ _ _ _ (omega (arith, c.if-to-from.false)) (omega (arith, c.if-room-to.false)) (omega (arith, c.if-capacity-to.false, c.capacity.ensures))

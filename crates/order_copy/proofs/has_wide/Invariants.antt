@@ -7,6 +7,3 @@ use Rattle.order_copy.proofs.has_wide.Given as goal
 
 abbrev pub invariant-loop-k : goal.invariant-loop-k
 invariant-loop-k l = wide_entry l.flat l.from (l.to - l.from) ≡ wide_entry l.flat l.k (l.to - l.k)
-
-abbrev pub decreases-loop-k : goal.decreases-loop-k
-decreases-loop-k l = l.to - l.k

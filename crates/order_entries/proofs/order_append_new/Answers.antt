@@ -1,44 +1,40 @@
--- Where the copying is refused the loop has no turn; else each entry that it comes to can be read and has room. Assumes nothing.
+-- Where the copying is refused the order is as it was; else each entry that the loop comes to can be read and has room. Assumes nothing.
 use Rattle.std.proofs.Common.{◌≡◌, ◌∙◌, sym, ap, length, List, set, arith}
+use Rattle.rules.specs.Answer.{number_of, number_of_pos}
 use Rattle.order_copy.specs.declared.OrderInfo.{OrderInfo}
 use Rattle.order_copy.specs.Copied.{copied}
-use Rattle.order_copy.specs.Loop.{Copying, copying, copied_none, copied_more}
+use Rattle.order_copy.specs.Checked.{Ready, ready}
+use Rattle.order_copy.specs.Loop.{copied_none, copied_more, copied_not, copied_all}
 use Rattle.order_entries.proofs.order_append_new.Goals as goal
-use Rattle.order_entries.proofs.order_append_new.Goals.{After-stop_at-end}
+use Rattle.order_entries.proofs.order_append_new.Goals.{In_default}
 
--- what the checks' number and the place where the copying stops say of the loop
-checked : (c : After-stop_at-end) → Copying c.args.order.now c.args.flat.now c.args.from c.args.to c.check_new-n.result c.stop_at-end.result
-checked c = copying _ _ _ _ _ _ c.check_new-n.ensures c.stop_at-end.ensures
+-- what the checks say of the entries
+checked : (c : In_default) → Ready (length c.args.order.now) c.args.flat.now c.args.from c.args.to
+checked c = ready _ _ _ _ (sym c.in_default.ensures)
+
+pub returns-in-Err : goal.returns-in-Err
+returns-in-Err c =
+    let n : c.into.result ≡ number_of c.in-Err.refusal = c.into.ensures in
+    (n ∙ c.in-Err.ensures, copied_not _ _ _ _ _ (λ z. number_of_pos c.in-Err.refusal (sym n ∙ z)))
 
 pub loop-k-init : goal.loop-k-init
-loop-k-init c = (omega arith, (checked (goal.at.loop-k-init c).After-stop_at-end).low, sym (copied_none _ _ _))
+loop-k-init c = sym (copied_none _ _ _)
 
-pub entry_at-e-requires : goal.entry_at-e-requires
-entry_at-e-requires c = ((checked (goal.at.entry_at-e-requires c).After-stop_at-end).each c.loop-k.k c.loop-k.invariant.0 c.loop-k-test.true).1
+pub entry_at-requires : goal.entry_at-requires
+entry_at-requires c = (checked (goal.at.entry_at-requires c).In_default).readable c.loop-k.k c.loop-k.auto.k c.loop-k-test.true
 
 pub append-requires : goal.append-requires
-append-requires c =
-    let d = checked (goal.at.append-requires c).After-stop_at-end in
-    omega (
-      arith,
-      (d.each c.loop-k.k c.loop-k.invariant.0 c.loop-k-test.true).0,
-      ap length c.loop-k.invariant.2,
-      d.long c.loop-k.k c.loop-k.invariant.0 c.loop-k.invariant.1,
-    )
+append-requires c = omega (arith, (checked (goal.at.append-requires c).In_default).within, c.loop-k.auto.order)
 
 pub loop-k-preserved : goal.loop-k-preserved
 loop-k-preserved c =
-    let d = checked (goal.at.loop-k-preserved c).After-stop_at-end in
-    let i = c.loop-k.invariant in (
-      omega (arith, i.0),
-      omega arith,
-      c.append.ensures ∙ ap (λ (l : List OrderInfo). set l c.loop-k.k c.entry_at-e.result) i.2
-          ∙ ap (λ (e : OrderInfo). set (copied c.args.order.now c.args.flat.now c.args.from c.loop-k.k) c.loop-k.k e) c.entry_at-e.ensures
-          ∙ copied_more _ _ _ _ i.0 (d.each c.loop-k.k i.0 c.loop-k-test.true).0,
-    )
+    let h = (checked (goal.at.loop-k-preserved c).In_default).within in
+    c.append.ensures ∙ ap (λ (l : List OrderInfo). set l c.loop-k.k c.entry_at.result) c.loop-k.invariant
+    ∙ ap (λ (e : OrderInfo). set (copied c.args.order.now c.args.flat.now c.args.from c.loop-k.k) c.loop-k.k e) c.entry_at.ensures
+    ∙ copied_more _ _ _ _ c.loop-k.auto.k (omega arith)
 
 pub returns : goal.returns
 returns c =
-    let d = checked (goal.at.returns c).After-stop_at-end in
-    let e : c.loop-k.k ≡ c.stop_at-end.result = omega arith in
-    (c.check_new-n.ensures, c.loop-k.invariant.2 ∙ rw e d.last)
+    let h = (checked (goal.at.returns c).In_default).order in
+    let e : c.loop-k.k ≡ c.args.to = omega arith in
+    (c.in_default.ensures, c.loop-k.invariant ∙ rw e (copied_all _ _ _ _))

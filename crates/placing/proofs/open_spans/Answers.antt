@@ -26,8 +26,3 @@ returns-then-n-eq2 c = let z = c.release_one-h-then-n-eq2 in
     rw two
     (done_next a.g r.result z.result a.spans.now a.order.now r.new.order z.new.order a.tally.now r.new.tally
     z.new.tally 1 k (omega arith) last r.ensures.becomes z.ensures.becomes)
-
-pub returns-else-n-eq2 : goal.returns-else-n-eq2
-returns-else-n-eq2 c = let no = c.if-n-eq2.false in
-    let n : c.args.n ≡ 1 = omega (arith, c.requires.le_n) in
-    rw n c.release_one-h.ensures.becomes

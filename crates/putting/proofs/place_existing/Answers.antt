@@ -1,15 +1,11 @@
 -- `putting::place_existing` meets its contract: the slot lies within the span storage; the put, and the release where the span is full.
 -- Assumes nothing.
 use native.Mathlib.Omega.{arith}
-use mathlib.Core.Path.{◌≡◌, refl, sym, subst}
+use mathlib.Core.Path.{◌≡◌, refl}
 use Rattle.entries.specs.Entries.{has_entry}
 use Rattle.buffer.specs.Moves.{slot_of, longer, put_spans, slot_fits}
-use Rattle.rules.specs.Guide.{release}
-use Rattle.buffer.specs.declared.Guide.{Guide}
-use Rattle.buffer.specs.View.{view}
 use Rattle.buffer.specs.Held.{held_few}
-use Rattle.placing.specs.Stands.{Stands}
-use Rattle.placing.specs.Done.{Done, Free, put_is, put_kept, put_gone, longer_free}
+use Rattle.placing.specs.Done.{put_is, put_kept, put_gone, longer_free}
 use Rattle.putting.proofs.place_existing.Goals as goal
 use Rattle.putting.proofs.place_existing.Goals.{After-store_held, Start}
 
@@ -38,30 +34,30 @@ release_one-h-requires c = let a = c.args in
     let o = a.order.now in
     let t = a.tally.now in
     record {
-      standing = subst (λ (x : Guide). Stands x s' o t) (sym c.guide_of.ensures)
+      standing =
           (put_is a.g a.spans.now s' o t a.i a.e c.requires.standing c.requires.le_i (put-at (goal.at.release_one-h-requires c).After-store_held)).stands;
-      free = subst Free (sym c.guide_of.ensures) (longer_free a.g a.i c.requires.le_i.0 c.requires.free);
+      free = longer_free a.g a.i c.requires.le_i.0 c.requires.free;
     }
 
-pub returns-then-p-q : goal.returns-then-p-q
+pub returns-then-g-pos : goal.returns-then-g-pos
 unfolding longer put_spans
-returns-then-p-q c = let z = c.release_one-h in
+returns-then-g-pos c = let z = c.release_one-h in
     let a = c.args in
     let s' = c.store_held.new.s in
     let o = a.order.now in
     let t = a.tally.now in
     let o' = z.new.order in
     let t' = z.new.tally in
-    let d = subst (λ (x : Guide). Done x z.result s' o t s' o' t' (release x.p 1 (view x s' o))) c.guide_of.ensures z.ensures.becomes in
+    let put = put-at (goal.at.returns-then-g-pos c).After-store_held in
     record {
-      becomes = put_gone a.g a.spans.now s' o t a.i a.e c.requires.standing c.requires.le_i (put-at (goal.at.returns-then-p-q c).After-store_held) z.result o' t' (omega (arith, c.if-p-q.true)) d;
+      becomes = put_gone a.g a.spans.now s' o t a.i a.e c.requires.standing c.requires.le_i put z.result o' t' (omega (arith, c.if-g-pos.true)) z.ensures.becomes;
       location = (refl, refl);
     }
 
-pub returns-else-p-q : goal.returns-else-p-q
+pub returns-else-g-pos : goal.returns-else-g-pos
 unfolding longer put_spans
-returns-else-p-q c = let a = c.args in record {
-  becomes = put_kept a.g a.spans.now c.store_held.new.s a.order.now a.tally.now a.i a.e c.requires.standing c.requires.le_i (put-at (goal.at.returns-else-p-q c).After-store_held)
-      (omega (arith, c.if-p-q.false));
+returns-else-g-pos c = let a = c.args in record {
+  becomes = put_kept a.g a.spans.now c.store_held.new.s a.order.now a.tally.now a.i a.e c.requires.standing c.requires.le_i (put-at (goal.at.returns-else-g-pos c).After-store_held)
+      (omega (arith, c.if-g-pos.false));
   location = (refl, refl);
 }

@@ -8,11 +8,6 @@ use Rattle.records.proofs.fill_rows.Goals as goal
 pub loop-q-init : goal.loop-q-init
 loop-q-init c = let a = c.args in (omega arith, (refl, fill_begins a.order.now a.n a.a a.rows.now))
 
-pub fill_one-requires : goal.fill_one-requires
-fill_one-requires c = let e = c.load-e.ensures in
-    let l = c.loop-q in
-    omega (arith, ap (λ z. z.added) e, c.requires.fillable.known l.q c.loop-q-test.true, l.invariant.1.0)
-
 pub loop-q-preserved : goal.loop-q-preserved
 loop-q-preserved c = let w = c.fill_one.ensures in
     let e = c.load-e in

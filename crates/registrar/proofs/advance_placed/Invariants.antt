@@ -1,12 +1,6 @@
 -- The places below p are done: storage holds what is left from p on, and what was due below p stands on the stack. Assumes nothing.
-use lib.ListN.{length}
-use mathlib.Core.Path.{◌≡◌}
-use Prim.Native.Nat.{◌-◌, ◌≤◌}
 use Rattle.registrar.specs.Keeps.{Placing}
 use Rattle.registrar.proofs.advance_placed.Given as goal
 
 abbrev pub invariant-loop-p : goal.invariant-loop-p
-invariant-loop-p l = (l.lo ≤ l.p) × (l.p ≤ l.hi) × (length l.waiting ≡ length l.initial.waiting) × Placing l.initial.waiting l.v l.lo l.top l.waiting l.p l.t
-
-abbrev pub decreases-loop-p : goal.decreases-loop-p
-decreases-loop-p l = l.hi - l.p
+invariant-loop-p l = Placing l.initial.waiting l.v l.lo l.top l.waiting l.p l.t

@@ -1,5 +1,4 @@
 -- The registration reached is on the chain, and what follows it has the same last. Registrations descend along a chain, so links fall. Assumes nothing.
-use native.Mathlib.Omega.{arith}
 use Rattle.registrar.specs.Loops.{seek_start, seek_more, seek_end}
 use Rattle.registrar.proofs.oldest.Goals as goal
 
@@ -10,9 +9,6 @@ link-next-requires c = let a = c.args in
 
 pub loop-next-init : goal.loop-next-init
 loop-next-init c = rw c.link-next.ensures (seek_start c.args.waiting.now c.args.v c.args.from c.requires.0 c.requires.1)
-
-pub overflow_sub-r-in-loop-next : goal.overflow_sub-r-in-loop-next
-overflow_sub-r-in-loop-next c = omega arith
 
 pub link-next-requires-in-loop-next : goal.link-next-requires-in-loop-next
 link-next-requires-in-loop-next c = let s = seek_more _ _ _ _ _ c.loop-next.invariant c.loop-next-test.true in (s.2, s.0.long)

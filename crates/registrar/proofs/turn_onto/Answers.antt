@@ -1,22 +1,16 @@
 -- What is left of the chain, turned round onto the present top, gives what the whole chain gives. Links fall, since registrations descend. Assumes nothing.
 use native.Mathlib.Omega.{arith}
 use Prim.Native.Nat.{◌<◌, ◌≤◌, ◌-◌}
-use mathlib.Core.Path.{refl, ◌∙◌}
+use mathlib.Core.Path.{◌∙◌}
 use lib.ListN.{length}
 use Rattle.rules.specs.Checks.{waiting_needed}
-use Rattle.registrar.specs.Loops.{turn_start, turn_at, turn_more, turn_end}
+use Rattle.registrar.specs.Loops.{turn_at, turn_more, turn_end}
 use Rattle.registrar.proofs.turn_onto.Goals as goal
 use Rattle.registrar.proofs.turn_onto.Goals.{In-loop-h}
 
 -- in a turn: the link is that of a registration, and its link is in the storage
 bound : (c : In-loop-h) → (c.loop-h.h - 1 < c.args.v) × (waiting_needed c.args.v ≤ length c.loop-h.waiting)
 bound c = (omega (arith, turn_at _ _ _ _ _ _ _ c.loop-h.invariant.0), c.loop-h.invariant.0.long)
-
-pub loop-h-init : goal.loop-h-init
-loop-h-init c = (turn_start _ _ _ _ c.requires, refl)
-
-pub overflow_sub-r : goal.overflow_sub-r
-overflow_sub-r c = omega arith
 
 pub link-next-requires : goal.link-next-requires
 link-next-requires c = bound (goal.at.link-next-requires c).In-loop-h

@@ -2,11 +2,13 @@
 use mathlib.Core.Path.{sym}
 use Prim.Native.Nat.{◌*◌}
 use Rattle.rules.specs.Limits.{reply_radix}
+use Rattle.rules.specs.Answer.{number_of, number_of_pos}
 use Rattle.laws.specs.Accepted.{accepted_is, refused_is}
+use mathlib.Core.Path.{refl}
 use Rattle.replay.proofs.by_number.Goals as goal
 
-pub returns-then-number-eq0 : goal.returns-then-number-eq0
-returns-then-number-eq0 c = let a = c.args in sym (accepted_is a.number a.number (reply_radix * a.count) c.if-number-eq0.true)
+pub returns-in-Ok : goal.returns-in-Ok
+returns-in-Ok c = rw c.in-Ok.is (sym (accepted_is 0 0 (reply_radix * c.in-Ok.count) refl))
 
-pub returns : goal.returns
-returns c = let a = c.args in sym (refused_is a.number a.number (reply_radix * a.count) c.if-number-eq0.false)
+pub returns-in-Err : goal.returns-in-Err
+returns-in-Err c = let n = number_of c.in-Err.e in rw (c.from.ensures, c.in-Err.is) (sym (refused_is n n (reply_radix * 0) (number_of_pos _)))

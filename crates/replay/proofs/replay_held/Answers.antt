@@ -1,5 +1,12 @@
--- `replay::replay_held` meets its contract: the promise of `replay`, by one number, which the session is polled for.
+-- `replay::replay_held` meets its contract: the promise of `replay`, by one number.
+use mathlib.Core.Path.{◌≡◌}
+use borrow.Author.Rules.{rules}
+use Rattle.replay.specs.Exported.{held}
+use Rattle.replay.specs.Telling.{counted, exported}
 use Rattle.replay.proofs.replay_held.Goals as goal
 
 pub returns : goal.returns
-returns c = record { number = _; session = _; replays = c.replay-a.ensures; is = rw c.held.ensures.kept at c.by_number.ensures }
+returns c =
+    let e : c.map.result ≡ counted held c.replay-a.result = search rules in
+    exported c.replay-a.new.storage c.replay-a.result c.replay-a.ensures.replays c.by_number.ensures e
+    (search rules) (search rules) (search rules) (search rules) (search rules) (search rules) (search rules) (search rules)

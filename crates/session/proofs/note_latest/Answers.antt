@@ -1,11 +1,7 @@
 -- `session::note_latest` meets its contract: the two ways of `noted`.
 use mathlib.Core.Path.{sym, ◌∙◌}
-use native.Mathlib.Omega.{arith}
 use Rattle.session.specs.Noting.{noted_none, noted_some}
 use Rattle.session.proofs.note_latest.Goals as goal
-
-pub note_written-requires : goal.note_written-requires
-note_written-requires c = omega (arith, c.if-from-to.true, c.requires c.if-from-to.true)
 
 pub returns-then-from-to : goal.returns-then-from-to
 returns-then-from-to c = c.note_written.ensures ∙ sym (noted_some _ _ _ _ c.if-from-to.true)

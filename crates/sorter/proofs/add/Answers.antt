@@ -1,15 +1,23 @@
 -- `sorter::add` meets its contract: refused, nothing has changed; admitted, the placing makes the call.
+use mathlib.Core.Path.{◌≡◌, refl}
+use borrow.Author.Rules.{rules}
+use Rattle.std.specs.Prelude.{Result, Err}
+use Rattle.rules.specs.declared.Refusal.{Refusal}
+use Rattle.rules.specs.Answer.{number_of_pos}
+use Rattle.session.specs.declared.Session.{Session}
 use Rattle.admitting.specs.Admitted.{admitted_refused, admitted_placed, add_asked, add_admitted}
 use Rattle.sorter.proofs.add.Goals as goal
 
-pub admit_add-a-requires : goal.admit_add-a-requires
-admit_add-a-requires c = add_asked c.requires
+pub admit_add-requires : goal.admit_add-requires
+admit_add-requires c = add_asked c.requires
 
-pub returns-then-a-ne0 : goal.returns-then-a-ne0
-returns-then-a-ne0 c = admitted_refused _ _ _ _ _ (add_admitted c.requires c.admit_add-a.ensures) c.if-a-ne0.true
+pub returns-in_err-a-clause-called : goal.returns-in_err-a-clause-called
+returns-in_err-a-clause-called c =
+    let e : ◌≡◌ {A = Result Session Refusal} c.from_residual.result (Err c.in_err-a.field-0.0) = search rules in
+    rw e (admitted_refused _ _ _ _ _ (add_admitted c.requires c.in_err-a.ensures) (number_of_pos _))
 
-pub place_admitted-t-requires : goal.place_admitted-t-requires
-place_admitted-t-requires c = (add_admitted c.requires c.admit_add-a.ensures).may c.if-a-ne0.false
+pub place_admitted-requires : goal.place_admitted-requires
+place_admitted-requires c = (add_admitted c.requires c.in_ok-a.ensures).may refl
 
-pub returns : goal.returns
-returns c = admitted_placed _ _ _ _ _ (add_admitted c.requires c.admit_add-a.ensures) _ _ c.if-a-ne0.false c.place_admitted-t.ensures
+pub returns-clause-called : goal.returns-clause-called
+returns-clause-called c = admitted_placed _ _ _ _ _ (add_admitted c.requires c.in_ok-a.ensures) _ _ refl c.place_admitted.ensures.placed

@@ -1,15 +1,23 @@
 -- `sorter::set` meets its contract: refused, nothing has changed; admitted, the placing makes the call.
+use mathlib.Core.Path.{◌≡◌, refl}
+use borrow.Author.Rules.{rules}
+use Rattle.std.specs.Prelude.{Result, Err}
+use Rattle.rules.specs.declared.Refusal.{Refusal}
+use Rattle.rules.specs.Answer.{number_of_pos}
+use Rattle.session.specs.declared.Session.{Session}
 use Rattle.admitting.specs.Admitted.{admitted_refused, admitted_placed, set_asked, set_admitted}
 use Rattle.sorter.proofs.set.Goals as goal
 
-pub admit_set-a-requires : goal.admit_set-a-requires
-admit_set-a-requires c = set_asked c.requires
+pub admit_set-requires : goal.admit_set-requires
+admit_set-requires c = set_asked c.requires
 
-pub returns-then-a-ne0 : goal.returns-then-a-ne0
-returns-then-a-ne0 c = admitted_refused _ _ _ _ _ (set_admitted c.requires c.admit_set-a.ensures) c.if-a-ne0.true
+pub returns-in_err-a-clause-called : goal.returns-in_err-a-clause-called
+returns-in_err-a-clause-called c =
+    let e : ◌≡◌ {A = Result Session Refusal} c.from_residual.result (Err c.in_err-a.field-0.0) = search rules in
+    rw e (admitted_refused _ _ _ _ _ (set_admitted c.requires c.in_err-a.ensures) (number_of_pos _))
 
-pub place_admitted-t-requires : goal.place_admitted-t-requires
-place_admitted-t-requires c = (set_admitted c.requires c.admit_set-a.ensures).may c.if-a-ne0.false
+pub place_admitted-requires : goal.place_admitted-requires
+place_admitted-requires c = (set_admitted c.requires c.in_ok-a.ensures).may refl
 
-pub returns : goal.returns
-returns c = admitted_placed _ _ _ _ _ (set_admitted c.requires c.admit_set-a.ensures) _ _ c.if-a-ne0.false c.place_admitted-t.ensures
+pub returns-clause-called : goal.returns-clause-called
+returns-clause-called c = admitted_placed _ _ _ _ _ (set_admitted c.requires c.in_ok-a.ensures) _ _ refl c.place_admitted.ensures.placed

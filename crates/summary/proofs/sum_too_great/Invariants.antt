@@ -1,13 +1,10 @@
 -- The sum so far is at most 2^24, and with the sum of what remains it makes up the tally's sum. Assumes nothing.
 use mathlib.Core.Path.{◌≡◌}
-use Prim.Native.Nat.{◌+◌, ◌-◌, ◌≤◌}
-use lib.ListN.{length, drop}
+use Prim.Native.Nat.{◌+◌, ◌≤◌}
+use lib.ListN.{drop}
 use Rattle.rules.specs.Limits.{most_places}
 use Rattle.rules.specs.Summary.{sum}
 use Rattle.summary.proofs.sum_too_great.Given as goal
 
-abbrev pub invariant-loop-i : goal.invariant-loop-i
-invariant-loop-i l = (l.i-end ≡ length l.t) × ((l.i ≤ length l.t) × ((l.s ≤ most_places) × (l.s + sum (drop l.i l.t) ≡ sum l.t)))
-
-abbrev pub decreases-loop-i : goal.decreases-loop-i
-decreases-loop-i l = length l.t - l.i
+abbrev pub invariant-loop-x : goal.invariant-loop-x
+invariant-loop-x l = (l.s ≤ most_places) × (l.s + sum (drop l.x-index l.t) ≡ sum l.t)

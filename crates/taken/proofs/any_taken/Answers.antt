@@ -1,29 +1,23 @@
--- Of the places not yet looked at one is flagged exactly where one of all is. Assumes nothing.
-use mathlib.Core.Path.{refl, sym, ◌∙◌}
+-- Of the places one is flagged: the walk's test is that of the flag. Assumes nothing.
+use Rattle.std.proofs.lemmas.Iterator.{YieldsList-from_slice}
+use Rattle.std.proofs.lemmas.Iterator.Adapters.{serves_from_places}
+use Rattle.std.proofs.lemmas.Iterator.Search.{any_from_yields_List}
+use Rattle.std.proofs.lemmas.Grind.{get_or_default_zero}
+use borrow.Author.Rules.{rules}
+use mathlib.Core.Path.{sym, ◌∙◌}
+use Prim.Native.Nat.{◌<◌}
 use native.Mathlib.Omega.{arith}
 use Rattle.lists.specs.Part.{below_at}
-use Rattle.lists.specs.Scan.{any_found, any_next, any_none}
 use Rattle.taken.specs.Flags.{taken_at}
+use Rattle.taken.specs.FlagLaws.{any_is}
 use Rattle.taken.proofs.any_taken.Goals as goal
 
-pub loop-i-init : goal.loop-i-init
-loop-i-init c = (omega arith, refl)
-
-pub is_taken-requires : goal.is_taken-requires
-is_taken-requires c = (below_at c.args.v c.args.outs.now c.requires.0 c.loop-i.i c.loop-i-test.true, c.requires.1)
-
-pub returns-then-is_taken : goal.returns-then-is_taken
-returns-then-is_taken c = let a = c.args in
-    sym (c.loop-i.invariant.1
-    ∙ any_found (taken_at a.waiting.now a.v) a.outs.now c.loop-i.i c.loop-i-test.true (sym c.is_taken.ensures ∙ c.if-is_taken.true))
-
-pub loop-i-preserved : goal.loop-i-preserved
-loop-i-preserved c = let a = c.args in (
-  omega arith,
-  c.loop-i.invariant.1
-      ∙ any_next (taken_at a.waiting.now a.v) a.outs.now c.loop-i.i c.loop-i-test.true (sym c.is_taken.ensures ∙ c.if-is_taken.false),
-)
+pub any-requires-clause-callable : goal.any-requires-clause-callable
+any-requires-clause-callable c = let a = c.args in
+    serves_from_places (YieldsList-from_slice a.outs.now cc) (λ x q k. search rules)
+    (λ x k h e. let low : x.now < a.v = omega (arith, e, get_or_default_zero a.outs.now k x.now h, below_at a.v a.outs.now c.requires.0 k h) in search rules)
 
 pub returns : goal.returns
 returns c = let a = c.args in
-    sym (c.loop-i.invariant.1 ∙ any_none (taken_at a.waiting.now a.v) a.outs.now c.loop-i.i c.loop-i-test.false)
+    any_from_yields_List (taken_at a.waiting.now a.v) _ _ c.any.result c.any.ensures.ran (YieldsList-from_slice a.outs.now cc) (λ x b q k. search rules)
+    ∙ sym (any_is (taken_at a.waiting.now a.v) a.outs.now)

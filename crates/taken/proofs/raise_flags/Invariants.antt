@@ -1,11 +1,6 @@
 -- The first i places are raised and do not repeat. A flag above 1 is that of a place met before. Assumes nothing.
-use lib.ListN.{length}
-use Prim.Native.Nat.{◌-◌}
 use Rattle.taken.specs.Raising.{Raising}
 use Rattle.taken.proofs.raise_flags.Given as goal
 
 abbrev pub invariant-loop-i : goal.invariant-loop-i
 invariant-loop-i l = Raising l.initial.waiting l.v l.outs l.i l.waiting
-
-abbrev pub decreases-loop-i : goal.decreases-loop-i
-decreases-loop-i l = length l.outs - l.i

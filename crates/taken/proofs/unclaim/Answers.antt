@@ -1,38 +1,44 @@
--- The first i places are still flagged, none of them was before, so taking the flag of the last of them back leaves those before. Assumes nothing.
-use mathlib.Core.Path.{refl, ◌∙◌}
-use lib.ListN.{length, get_or}
-use Prim.Native.Nat.{◌-◌, ◌≤◌, ◌<◌}
+-- The places that the walk has not reached are still flagged, none of them was before, so taking the flag of the last of them back leaves those before. Assumes nothing.
+use Rattle.std.proofs.lemmas.Iterator.Adapters.{YieldsList-from_rev_slice}
+use Rattle.std.proofs.lemmas.Iterator.Consumers.{YieldsList-turn, YieldsList-end}
+use Rattle.std.proofs.lemmas.List.{length_push, length-reverse}
+use lib.ListN.{length, get_or, take}
+use Rattle.std.proofs.Common.{length-take-le}
+use Prim.Native.Nat.{◌+◌, ◌-◌, ◌<◌}
+use mathlib.Core.Path.{◌≡◌, ◌∙◌}
 use native.Mathlib.Omega.{arith}
-use Rattle.rules.specs.Checks.{waiting_needed}
+use Rattle.taken.specs.Repeats.{walked_back}
 use Rattle.taken.specs.ClaimLaws.{unclaim_in, unclaim_next, unclaim_end}
 use Rattle.taken.proofs.unclaim.Goals as goal
-use Rattle.taken.proofs.unclaim.Goals.{In-loop-i}
+use Rattle.taken.proofs.unclaim.Goals.{In-Some}
 
-inside : (c : In-loop-i) → (c.loop-i.i - 1 < length c.args.outs.now) × (get_or c.args.outs.now (c.loop-i.i - 1) 0 < c.args.v) × (waiting_needed c.args.v ≤ length c.loop-i.waiting)
-inside c =
-    let p = c.requires in
-    unclaim_in p.plain (c.loop-i.invariant.1 p.before p.plain p.claiming) c.loop-i-test.true
-
-pub loop-i-init : goal.loop-i-init
-loop-i-init c = (refl, λ u f g. g)
-
-pub offset_bounds-outs-i : goal.offset_bounds-outs-i
-offset_bounds-outs-i c = omega (arith, (inside (goal.at.offset_bounds-outs-i c).In-loop-i).0)
-
-pub bounds-outs-i : goal.bounds-outs-i
-bounds-outs-i c = (inside (goal.at.bounds-outs-i c).In-loop-i).0
+-- which place a turn is at
+turn : (c : In-Some) → let i = length c.loop-x.yielded in (i < c.args.n) × (c.in-Some.x.now ≡ get_or c.args.outs.now (c.args.n - i - 1) 0)
+turn c =
+    let a = c.args in
+    let walk = YieldsList-turn (YieldsList-from_rev_slice (take a.n a.outs.now) (cc)) c.loop-x.yielded _ c.loop-x.yielded_by _ _ c.in-Some.x c.in-Some.is c.next.ensures.steps in
+    walked_back a.outs.now a.n (length c.loop-x.yielded) c.in-Some.x.now c.requires.claiming.most walk
 
 pub set_flag-requires : goal.set_flag-requires
-set_flag-requires c = let k = inside (goal.at.set_flag-requires c).In-loop-i in (k.1, k.2)
+set_flag-requires c =
+    let p = c.requires in
+    let t = turn (goal.at.set_flag-requires c).In-Some in
+    let k = unclaim_in p.plain (c.loop-x.invariant.2 p.before p.plain p.claiming) (omega arith) in
+    (omega (arith, k.1, t.1), k.2)
 
-pub loop-i-smaller : goal.loop-i-smaller
-loop-i-smaller c = omega arith
-
-pub loop-i-preserved : goal.loop-i-preserved
-loop-i-preserved c = (
-  c.set_flag.auto.waiting ∙ c.loop-i.invariant.0,
-  λ u f g. rw c.set_flag.ensures (unclaim_next f (c.loop-i.invariant.1 u f g) c.loop-i-test.true),
-)
+pub loop-x-preserved : goal.loop-x-preserved
+loop-x-preserved c =
+    let t = turn (goal.at.loop-x-preserved c).In-Some in
+    let l = length_push c.loop-x.yielded c.in-Some.x in
+    let e : c.args.n - (length c.loop-x.yielded + 1) ≡ c.args.n - length c.loop-x.yielded - 1 = omega arith in (
+      rw l (omega arith),
+      c.set_flag.auto.waiting ∙ c.loop-x.invariant.1,
+      λ u f g. rw (l, e, c.set_flag.ensures, t.1) (unclaim_next f (c.loop-x.invariant.2 u f g) (omega arith)),
+    )
 
 pub returns : goal.returns
-returns c = record { back = λ u f g. unclaim_end (c.loop-i.invariant.1 u f g) c.loop-i-test.false }
+returns c =
+    let a = c.args in
+    let end = YieldsList-end (YieldsList-from_rev_slice (take a.n a.outs.now) (cc)) c.loop-x.yielded _ c.loop-x.yielded_by _ _ c.in-None.is c.next.ensures.steps in
+    let all : length c.loop-x.yielded ≡ a.n = omega (arith, end.1, length-reverse (take a.n a.outs.now), length-take-le a.n a.outs.now c.requires.claiming.most) in
+    record { back = λ u f g. unclaim_end (c.loop-x.invariant.2 u f g) (omega arith) }

@@ -10,13 +10,6 @@ pub loop-q-init : goal.loop-q-init
 loop-q-init c = let a = c.args in
     (omega arith, (refl, (λ k z. omega (arith, c.requires.countable.small k z), count_begins a.order.now a.n a.a a.tally.now)))
 
-pub count_one-requires : goal.count_one-requires
-count_one-requires c = let l = c.loop-q in
-    let k = c.loop-q-test.true in
-    let known = c.requires.countable.known l.q k in
-    let small = l.invariant.1.1.0 l.q k in
-    (grind (arith, known, l.invariant.1.0), grind (arith, small, k))
-
 pub loop-q-preserved : goal.loop-q-preserved
 loop-q-preserved c = let w = c.parallelism_at in
     let a = c.args in

@@ -1,28 +1,25 @@
--- What remains to be done keeps the answer: the run from the place reached is the run from 0. Assumes nothing.
-use lib.ListN.{get_or}
-use mathlib.Core.Path.{sym, ◌∙◌}
-use native.Mathlib.Omega.{arith}
+-- The marks ahead are looked at up to the first that is 0, so the run of tracked places ends there. Assumes nothing.
+use Rattle.std.proofs.Common.{◌≡◌, ◌≤◌, ◌+◌, ◌-◌, ◌∙◌, ap, refl, arith, rules, tests, eqb, ltb, cond, Some, None, length, take, drop}
+use Rattle.std.specs.List.{position_or_len}
+use Rattle.std.specs.Option.{unwrap_or}
+use Rattle.std.proofs.lemmas.Iterator.{YieldsList-from_slice}
+use Rattle.std.proofs.lemmas.Iterator.Search.{position_from_yields_List}
 use Rattle.tracking.specs.Tracking.{tracked_in}
-use Rattle.tracking.specs.Loops.{run_begins, run_most, run_more, run_stops, run_ends, nz_no, nz_yes}
+use Rattle.tracking.specs.Loops.{run_most, run_found}
 use Rattle.tracking.proofs.advance.Goals as goal
 
-pub loop-i-init : goal.loop-i-init
-loop-i-init c = let a = c.args in
-    let t = tracked_in a.marks.now in
-    (omega (arith, run_most t a.v, c.requires.1), run_begins t a.v a.from c.requires.1)
+pub offset_bounds-marks-from : goal.offset_bounds-marks-from
+offset_bounds-marks-from c = let h = run_most (tracked_in c.args.marks.now) c.args.v in let k : c.args.from ≤ c.args.v = omega arith in search rules
 
-pub returns-then-marks-i-eq0 : goal.returns-then-marks-i-eq0
-unfolding tracked_in
-returns-then-marks-i-eq0 c = let a = c.args in
-    let l = c.loop-i in
-    sym (l.invariant.1 ∙ run_stops (tracked_in a.marks.now) a.v l.i c.loop-i-test.true (nz_no (get_or a.marks.now l.i 0) c.if-marks-i-eq0.true))
+pub slice_bounds-ahead-count : goal.slice_bounds-ahead-count
+slice_bounds-ahead-count c = omega (arith, run_most (tracked_in c.args.marks.now) c.args.v)
 
-pub loop-i-preserved : goal.loop-i-preserved
-unfolding tracked_in
-loop-i-preserved c = let a = c.args in
-    let l = c.loop-i in
-    (omega arith, l.invariant.1 ∙ run_more (tracked_in a.marks.now) a.v l.i c.loop-i-test.true (nz_yes (get_or a.marks.now l.i 0) c.if-marks-i-eq0.false))
+pub slice_bounds-ahead-start : goal.slice_bounds-ahead-start
+slice_bounds-ahead-start c = let h = run_most (tracked_in c.args.marks.now) c.args.v in let k : c.args.from ≤ c.args.v = omega arith in search rules
 
 pub returns : goal.returns
 returns c = let a = c.args in
-    sym (c.loop-i.invariant.1 ∙ run_ends (tracked_in a.marks.now) a.v c.loop-i.i c.loop-i-test.false)
+    let xs = take (a.v - a.from) (drop a.from a.marks.now) in
+    let p : c.position.result ≡ cond (ltb (position_or_len (λ x. eqb x 0) xs) (length xs)) (Some (position_or_len (λ x. eqb x 0) xs)) None =
+    position_from_yields_List (λ x. eqb x 0) _ _ c.position.result c.position.ensures.ran (YieldsList-from_slice xs c.iter.ensures.rest) (λ x b q k. search (rules, tests)) in
+    ap (λ r. a.from + r) (c.unwrap_or.ensures ∙ ap (λ r. unwrap_or r (length xs)) p) ∙ run_found a.marks.now a.v a.from c.requires.0 c.requires.1 xs refl

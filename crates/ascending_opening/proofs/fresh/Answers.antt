@@ -1,9 +1,0 @@
--- `ascending_opening::fresh` meets its contract: the guide is the first one.
-use mathlib.Core.Path.{ap}
-use mathlib.Core.Bool.{false}
-use Rattle.buffer.specs.declared.Guide.{Guide}
-use Rattle.ascending_opening.proofs.fresh.Goals as goal
-
-pub returns : goal.returns
-returns c = let w = c.args.w in
-    ap (λ (g : Guide). record { guide = g; lowest = 0; added = 0; used = 0; room = w; flushes = 0; closed = false; registrations = 0; places = 0 }) c.fresh-g.ensures
