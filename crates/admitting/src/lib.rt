@@ -4,6 +4,7 @@
 
 ghost use Rattle.std.specs.Prelude.{◌≡◌, ◌+◌, ◌≤◌, ◌<◌, length};
 ghost use Rattle.rules.specs.Checks.{waiting_needed};
+ghost use Rattle.session.specs.Storage.{given_read, across_read};
 ghost use Rattle.session.specs.Slices.{contents, SameSlices};
 ghost use Rattle.session.specs.Settle.{MaySettle};
 ghost use Rattle.admitting.specs.Linking.{LinksNew};
@@ -110,5 +111,35 @@ pub fn place_admitted(s: Session, storage: &mut Storage, a: Admitted) -> Session
     };
     let t = session::settle(z, storage, a.top, s.added);
     session::note_latest(storage.rows, s.added, a.added, t.guide.written);
+    t
+}
+
+// What `place_admitted` does, over the slices one by one: of the pool placing only reads, so a caller who holds it by `&` can place.
+pub fn place_admitted_over(
+    s: Session,
+    spans: &mut [u32],
+    order: &mut [u32],
+    tally: &mut [u32],
+    rows: &mut [u32],
+    marks: &mut [u16],
+    locations: &mut [u64],
+    waiting: &mut [u64],
+    pool: &[u32],
+    a: Admitted,
+) -> Session
+    requires { MaySettle s.added (counted s (passed a)) (given_read spans order tally rows marks locations waiting pool.now) a.top }
+    ensures { across_read spans order tally rows marks locations waiting pool.now (λ σ τ. Places s (passed a) result σ τ) }
+{
+    let z = Session {
+        watermark: a.watermark,
+        added: a.added,
+        used: a.used,
+        delayed: a.delayed,
+        ..s
+    };
+    let t = session::settle_over(
+        z, spans, order, tally, rows, marks, locations, waiting, pool, a.top, s.added,
+    );
+    session::note_latest(rows, s.added, a.added, t.guide.written);
     t
 }

@@ -2,7 +2,8 @@
 use Rattle.std.specs.Prelude.{◌≡◌, refl, List, Bool, true, false, ◌&&◌, ◌≢◌, length, get_or, leb, take, drop}
 use Rattle.std.specs.List.{list_all}
 use Rattle.std.specs.Simd.{first_chunks}
-use Rattle.std.proofs.Common.{ap, ◌∙◌, eq-eqb, ne_eqb, add-zero, drop-drop, get_or-drop, get_or-take}
+use Rattle.std.proofs.Math.Path.{sym}
+use Rattle.std.proofs.Common.{ap, ◌∙◌, le-leb, eq-eqb, ne_eqb, add-zero, drop-drop, get_or-drop, get_or-take}
 use Rattle.std.proofs.Math.Option.{some, none}
 use Prim.Native.Nat.{ℕ, zero, suc, ◌+◌, ◌*◌, ◌/◌, ◌%◌, ◌<◌}
 use native.Mathlib.Omega.{arith}
@@ -11,8 +12,8 @@ use Rattle.std.proofs.lemmas.Bool.{lt-leb}
 use Prim.Native.Nat.{◌-◌, ◌≤◌}
 
 -- whether a request's kind is known
-abbrev pub kind_known : List ℕ → Bool
-kind_known r = leb (get_or r 0 0) 2
+abbrev pub is_kind : List ℕ → Bool
+is_kind r = leb (get_or r 0 0) 2
 
 module _ (q : List ℕ) where
   number_at : (k j : ℕ) → j < request_size → get_or (take request_size (drop (request_size * k) q)) j 0 ≡ get_or q (request_size * k + j) 0
@@ -31,19 +32,22 @@ module _ (q : List ℕ) where
   not_sixes h = rw (ne_eqb (length q % request_size) 0 h)
 
   -- the k-th six of the numbers, and what it says of the request there
-  all_known : (k m : ℕ) → list_all kind_known (first_chunks request_size m (drop (request_size * k) q)) ≡ kinds_known q k m
+  all_known : (k m : ℕ) → list_all is_kind (first_chunks request_size m (drop (request_size * k) q)) ≡ kinds_known q k m
   unfolding kinds_known
   all_known k zero = refl
   all_known k (suc m) =
       let e : get_or (take request_size (drop (request_size * k) q)) 0 0 ≡ get_or q (request_size * k) 0 = number_at k 0 (omega arith) ∙ ap (λ j. get_or q j 0) (add-zero (request_size * k)) in
       let d : request_size * k + request_size ≡ request_size * suc k = omega arith in
-      ap (λ (x : ℕ). leb x 2 && list_all kind_known (first_chunks request_size m (drop request_size (drop (request_size * k) q)))) e
-      ∙ ap (λ (l : List ℕ). leb (get_or q (request_size * k) 0) 2 && list_all kind_known (first_chunks request_size m l)) (drop-drop request_size (request_size * k) q ∙ ap (λ j. drop j q) d)
+      ap (λ (x : ℕ). leb x 2 && list_all is_kind (first_chunks request_size m (drop request_size (drop (request_size * k) q)))) e
+      ∙ ap (λ (l : List ℕ). leb (get_or q (request_size * k) 0) 2 && list_all is_kind (first_chunks request_size m l)) (drop-drop request_size (request_size * k) q ∙ ap (λ j. drop j q) d)
       ∙ ap (λ (b : Bool). leb (get_or q (request_size * k) 0) 2 && b) (all_known (suc k) m)
 
-  pub sixes : {b : Bool} → length q % request_size ≡ 0 → b ≡ list_all kind_known (first_chunks request_size (length q / request_size) q) → b ≡ well_formed q
+  pub sixes : {b : Bool} → length q % request_size ≡ 0 → kinds_known q 0 (length q / request_size) ≡ b → b ≡ well_formed q
   unfolding well_formed
-  sixes e f = f ∙ all_known 0 (length q / request_size) ∙ rw (eq-eqb (length q % request_size) 0 e)
+  sixes e f = sym (rw (eq-eqb (length q % request_size) 0 e) f)
+
+  pub sixes_all : {b : Bool} → length q % request_size ≡ 0 → b ≡ list_all is_kind (first_chunks request_size (length q / request_size) q) → b ≡ well_formed q
+  sixes_all e f = sixes e (sym (f ∙ all_known 0 (length q / request_size)))
 
   pub chunk_request : (k : ℕ) → request_at (take request_size (drop (request_size * k) q)) 0 ≡ request_at q k
   unfolding request_at
@@ -74,6 +78,9 @@ module _ (q : List ℕ) where
 
     pub kind_unknown : 2 < get_or q (request_size * k) 0 → kinds_known q k (n - k) ≡ false
     kind_unknown g = kind_first ∙ rw (lt-leb (get_or q (request_size * k) 0) 2 g)
+
+    pub kind_known : get_or q (request_size * k) 0 ≤ 2 → kinds_known q k (n - k) ≡ kinds_known q (k + 1) (n - (k + 1))
+    kind_known g = let s : k + 1 ≡ suc k = omega arith in kind_first ∙ (rw (le-leb (get_or q (request_size * k) 0) 2 g)) ∙ ap (λ j. kinds_known q j (n - (k + 1))) (sym s)
 
   pub kinds_none_left : (n k : ℕ) → n ≤ k → kinds_known q k (n - k) ≡ true
   unfolding kinds_known

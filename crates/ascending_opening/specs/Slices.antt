@@ -9,6 +9,7 @@ use Rattle.rules.specs.Model.{initial}
 use Rattle.records.specs.Filling.{row_extent}
 use Rattle.zeros.specs.Zeros.{Cleared}
 use Rattle.placing.specs.Slices.{Borrowed}
+use Rattle.session.specs.Storage.{Storage}
 use Rattle.opening.specs.Opened.{sizes}
 use Rattle.ascending_session.specs.declared.Ascending.{Ascending}
 use Rattle.ascending_session.specs.Slices.{lean}
@@ -87,6 +88,10 @@ abbrev pub BeginsOver : ℕ → ℕ → ℕ → Ascending → Borrowed → Borro
 BeginsOver P N W s tally rows marks locations =
     Begins P N W s tally.entry.now rows.entry.now marks.entry.now locations.entry.now
     tally.exit.now rows.exit.now marks.exit.now locations.exit.now
+
+-- the same of a storage: with any spans and order in place of its own
+abbrev pub BeginsWithAny : ℕ → ℕ → ℕ → Ascending → Storage → Storage → Type 0
+BeginsWithAny P N W s σ τ = Begins P N W s σ.tally σ.rows σ.marks σ.locations τ.tally τ.rows τ.marks τ.locations
 
 pub begins : {P N W : ℕ} {s : Ascending} {t rs m l t' rs' m' l' : List ℕ} → s ≡ first_session P N W → Clears P N t rs m l t' rs' m' l' → Begins P N W s t rs m l t' rs' m' l'
 begins {P} {N} {W} {s} {t} {rs} {m} {l} {t'} {rs'} {m'} {l'} es c = record { opens = λ sp o e. opens_done P N W sp o t rs m l s t' rs' m' l' e es c }

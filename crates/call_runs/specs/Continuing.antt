@@ -1,8 +1,9 @@
 -- The loop of the sets and adds, from wherever the calls before it have led: what it asks and promises, its invariant, that a call keeps
 -- this, and what follows from it. Assumes nothing.
 use Rattle.std.specs.Prelude.{◌≡◌, refl, true, false, ℕ, ◌+◌, ◌≤◌, ◌<◌, length, get_or, drop, set}
-use Rattle.std.proofs.Common.{sym, ap, ◌∙◌, arith, length-set, length-drop}
+use Rattle.std.proofs.Common.{sym, ap, ◌∙◌, arith, length-set, length-drop, get_or-set_same}
 use mathlib.Core.List.{List, [], ◌∷◌}
+use Rattle.std.proofs.lemmas.Bool.{false≢true}
 use Rattle.std.proofs.Math.Option.{Option, some, none}
 use Rattle.rules.specs.Calls.{Call, step}
 use Rattle.rules.specs.Encoding.{front, Front, before_all, decode}
@@ -217,13 +218,32 @@ one_there (x ∷ l) f e = omega arith
 same_front : {f g : Front} {o : Option Front} → o ≡ some f → o ≡ some g → f ≡ g
 same_front d e = cc
 
+-- the call that was read is the one that the numbers are
+pub made_is_one : {l : List ℕ} {num next : ℕ} {s s' : Session} {σ σ' : Storage} → Made l 0 num next s s' σ σ' → MadeOne l num s s' σ σ'
+made_is_one M c e = let f : M.call ≡ c = ap (λ (x : Front). x.call) (same_front M.is e) in rw (sym f) M.called
+
 module _ {l : List ℕ} (one : OneCall l) where
   pub one_readable : Readable l 0
   one_readable = record { inside = one_there l _ one.is; read = record { call = one.call; rest = [] }; is = one.is }
 
--- the call that was read is the one that the numbers are
-pub one_made : {l : List ℕ} {num next : ℕ} {s s' : Session} {σ σ' : Storage} → Made l 0 num next s s' σ σ' → MadeOne l num s s' σ σ'
-one_made M c e = let f : M.call ≡ c = ap (λ (x : Front). x.call) (same_front M.is e) in rw (sym f) M.called
+  pub one_may : {s : Session} {σ : Storage} (out : List ℕ) → Asks s σ → 1 ≤ length out → MayContinue l s σ out 0 0
+  unfolding decode decode_from unless_empty before_all
+  one_may out q h = record { asks = q; left = one.call ∷ []; is = decode_some l (record { call = one.call; rest = [] }) one.is; room = omega (arith, h) }
+
+  -- the loop makes that call, and stores its number first
+  pub one_made : {s s' : Session} {σ σ' : Storage} {out out' : List ℕ} {at n : ℕ} → 1 ≤ length out → Continues l s σ out 0 0 s' σ' out' at n → MadeOne l (get_or out' 0 0) s s' σ σ'
+  one_made {s} {s'} {σ} {σ'} {out} {out'} h C c e = go C.onward C.stops
+    where
+      after : {num next at n : ℕ} {w out' : List ℕ} {t s' : Session} {τ σ' : Storage} → Made l 0 num next s t σ τ → get_or w 0 0 ≡ num →
+          Onward l t τ w next 1 s' σ' out' at n → Called c (get_or out' 0 0) s s' σ σ'
+      after M g here = rw g (made_is_one M c e)
+      after {next = next} M g (then j N X) =
+          let f : drop next l ≡ [] = ap (λ (x : Front). x.rest) (same_front M.is e) in
+          absurd (omega (arith, j, ap length f, length-drop next l))
+
+      go : {at n : ℕ} {out' : List ℕ} {s' : Session} {σ' : Storage} → Onward l s σ out 0 0 s' σ' out' at n → (at < length l → ends_run (get_or l at 0) ≡ true) → Called c (get_or out' 0 0) s s' σ σ'
+      go here stops = absurd (false≢true (sym one.goes_on ∙ stops one_readable.inside))
+      go (then {num = num} i M more) stops = after M (get_or-set_same out 0 num 0 h) more
 
 module _ {l : List ℕ} {s₁ : Session} {σ₁ : Storage} {out₁ : List ℕ} {at₁ n₁ : ℕ} {s : Session} {σ : Storage} {out : List ℕ} {at n : ℕ} (G : Going l s₁ σ₁ out₁ at₁ n₁ s σ out at n) where
   module _ (h : at < length l) where
@@ -232,8 +252,3 @@ module _ {l : List ℕ} {s₁ : Session} {σ₁ : Storage} {out₁ : List ℕ} {
           rs ≡ υ.rows → m ≡ υ.marks → lo ≡ υ.locations → w ≡ υ.waiting
           → Going l s₁ σ₁ out₁ at₁ n₁ z (storage sp o t rs m lo w υ.pool) (set out n a.number) next (n + 1)
       made_as M e₀ e₁ e₂ e₃ e₄ e₅ e₆ e₇ = rw (e₀, e₁, e₂, e₃, e₄, e₅, e₆, e₇) (going_next G h M)
-
-module _ {l : List ℕ} (one : OneCall l) where
-  pub one_may : {s : Session} {σ : Storage} (out : List ℕ) → Asks s σ → 1 ≤ length out → MayContinue l s σ out 0 0
-  unfolding decode decode_from unless_empty before_all
-  one_may out q h = record { asks = q; left = one.call ∷ []; is = decode_some l (record { call = one.call; rest = [] }) one.is; room = omega (arith, h) }

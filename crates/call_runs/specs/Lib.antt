@@ -3,3 +3,4 @@ pub mod Made
 pub mod Making
 pub mod Continuing
 pub mod Cascading
+pub mod Naming

@@ -10,6 +10,7 @@ ghost use Rattle.call_runs.specs.Made.{ends_run, Readable, AddAt, AsksCall, Admi
 ghost use Rattle.admitting.specs.Promise.{Asks};
 ghost use Rattle.admitting.specs.Told.{told};
 ghost use Rattle.call_runs.specs.Continuing.{MayContinue, Continues, OneCall, MadeOne};
+ghost use Rattle.call_runs.specs.Naming.{Names};
 
 use admitting::Admitted;
 use lists::Registration;
@@ -150,13 +151,46 @@ pub fn run_open(
     }
 }
 
-// Makes the one set or add that the numbers are.
+// The refusal that has this number, where one has it.
+fn refusal(number: u64) -> Option<Refusal>
+    ensures { Names number result }
+{
+    match number {
+        1 => Some(Refusal::OutOfRange),
+        2 => Some(Refusal::TooShort),
+        3 => Some(Refusal::TooManyNumbers),
+        4 => Some(Refusal::FlaggedPlace),
+        5 => Some(Refusal::UnknownPlace),
+        6 => Some(Refusal::RepeatedOutput),
+        7 => Some(Refusal::Closed),
+        8 => Some(Refusal::TakenPlace),
+        9 => Some(Refusal::TooManyRegistrations),
+        10 => Some(Refusal::FullPool),
+        11 => Some(Refusal::TooManyFlushes),
+        12 => Some(Refusal::StillWaiting),
+        13 => Some(Refusal::NotHeld),
+        14 => Some(Refusal::GuideExhausted),
+        15 => Some(Refusal::Malformed),
+        16 => Some(Refusal::LongJob),
+        17 => Some(Refusal::LongListing),
+        18 => Some(Refusal::UnknownLane),
+        19 => Some(Refusal::NeverAccepted),
+        20 => Some(Refusal::NotWaiting),
+        21 => Some(Refusal::ProfileBreach),
+        _ => None,
+    }
+}
+
+// Makes the one set or add that the numbers are, by the loop over them: its number is the one answer.
 pub fn make_one(s: Session, storage: &mut Storage, calls: &[u64]) -> Result<Session, Refusal>
     requires { (Asks s (contents storage.old)) × (OneCall calls.now) }
     ensures made { MadeOne calls.now (number result) s (session_after s result) (contents storage.old) (contents storage.new) }
     ensures same { SameSlices storage.old storage.new }
 {
-    let d = admit_call(s, storage.marks, storage.waiting, storage.pool, calls, 0);
-    let a = d.admitted?;
-    Ok(admitting::place_admitted(s, storage, a))
+    let mut answers = [0u64; 1];
+    let r = run_open(s, storage, &mut answers, calls, 0, 0);
+    match refusal(answers[0]) {
+        Some(e) => Err(e),
+        None => Ok(r.session),
+    }
 }

@@ -47,10 +47,14 @@ pub fn find_span(lens: [u16; window::SPANS], from: usize, p: u32) -> MatchedSpan
     requires { from ≤ 32 }
     ensures { result ≡ matched lens from p }
 {
-    match lens[from..].iter().position(|l| (*l as u32) < p) {
-        Some(i) => MatchedSpan::Existing(from + i),
-        None => MatchedSpan::New(1),
+    let mut r = MatchedSpan::New(1);
+    for i in from..window::SPANS {
+        if (lens[i] as u32) < p {
+            r = MatchedSpan::Existing(i);
+            break;
+        }
     }
+    r
 }
 
 // The span for a value in the window whose span 0 has the number `first`, placed after a location where there is one. Span 0 is never
@@ -67,9 +71,12 @@ pub fn choose(
 {
     match after {
         None => MatchedSpan::Existing(1),
-        Some(at) if at.span < first => MatchedSpan::Existing(1),
         Some(at) => {
-            let d = (at.span - first) as usize;
+            let d: i64 = at.span as i64 - first as i64;
+            if d < 0 {
+                return MatchedSpan::Existing(1);
+            }
+            let d = d as usize;
             if d == window::LAST {
                 // What it depends on is in the last span. Position 0 of the span right behind would be too near, so one span more is opened.
                 return MatchedSpan::New(2);

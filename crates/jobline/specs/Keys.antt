@@ -1,4 +1,4 @@
--- Laws of keys: std's tests of them, and a line by the key that it starts with and those that it does not. Assumes nothing.
+-- Laws of keys: the tests of them, and a line by the key that it starts with and those that it does not. Assumes nothing.
 use Rattle.std.specs.Prelude.{Bool, true, false, not, ◌⊎◌, ◌≡◌, ℕ, suc, ◌+◌, ◌≤◌, ◌<◌, length, get_or, drop, eqb}
 use mathlib.Core.List.{List, [], ◌∷◌}
 use Rattle.std.proofs.Common.{inl, inr, ap, ◌∙◌, zero-le, suc-le-suc, add-one, arith, length-drop, take, take_all}
@@ -15,7 +15,7 @@ use Rattle.rules.specs.Job.{after_key, key_or, line_of, key_parallelism, key_pla
 use Rattle.jobtext.specs.Pieces.{bool}
 use Rattle.jobline.specs.Lines.{is_some, begins, NoAdd}
 
--- std's tests of a key and of a whole line
+-- std's equality of bytes, of a key and of a whole line
 pub begins_is : (ks s : List ℕ) → bytes_eq (take (length ks) s) ks ≡ begins ks s
 unfolding begins is_some after_key
 begins_is [] s = refl
@@ -185,6 +185,7 @@ module _ (s : List ℕ) where
             go (inl e) = let q = eqb-true (length s) (length flush_text) e in no_key q (sym (same_key flush_text s q) ∙ a) (sym (same_key final_text s q) ∙ b)
             go (inr e) = not_whole (eqb-false (length s) (length flush_text) e)
 
+-- the bytes from i on of both
 module _ (ks s : List ℕ) (i : ℕ) (a : i < length ks) where
   pub begins_on : i < length s → get_or s i 0 ≡ get_or ks i 0 → begins (drop i ks) (drop i s) ≡ begins (drop (i + 1) ks) (drop (i + 1) s)
   unfolding begins is_some after_key

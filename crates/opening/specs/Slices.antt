@@ -11,7 +11,7 @@ use Rattle.zeros.specs.Zeros.{Cleared}
 use Rattle.waiting.specs.Cleared.{Emptied}
 use Rattle.session.specs.declared.Session.{Session}
 use Rattle.placing.specs.Slices.{Borrowed}
-use Rattle.session.specs.Storage.{storage}
+use Rattle.session.specs.Storage.{Storage, storage}
 use Rattle.session.specs.Rep.{Rep}
 use Rattle.opening.specs.Opened.{sizes, first_session, Fresh, Opens, Enough, enough_of, fresh_rep, fresh_frame}
 
@@ -90,6 +90,10 @@ abbrev pub BeginsOver : ℕ → ℕ → Session → Borrowed → Borrowed → Bo
 BeginsOver P N s tally rows marks locations waiting =
     Begins P N s tally.entry.now rows.entry.now marks.entry.now locations.entry.now waiting.entry.now
     tally.exit.now rows.exit.now marks.exit.now locations.exit.now waiting.exit.now
+
+-- the same of a storage: with any spans, order and pool in place of its own
+abbrev pub BeginsWithAny : ℕ → ℕ → Session → Storage → Storage → Type 0
+BeginsWithAny P N s σ τ = Begins P N s σ.tally σ.rows σ.marks σ.locations σ.waiting τ.tally τ.rows τ.marks τ.locations τ.waiting
 
 pub begins : {P N : ℕ} {s : Session} {t rs m l w t' rs' m' l' w' : List ℕ} → s ≡ first_session P N → Clears P N t rs m l w t' rs' m' l' w' → Begins P N s t rs m l w t' rs' m' l' w'
 begins {P} {N} {s} {t} {rs} {m} {l} {w} {t'} {rs'} {m'} {l'} {w'} es c =

@@ -9,6 +9,7 @@ ghost use Rattle.rules.specs.Ascending.{check_open as check_lean};
 ghost use Rattle.session.specs.Slices.{contents, SameSlices};
 ghost use Rattle.session.specs.After.{session_after};
 ghost use Rattle.opening.specs.Opened.{sizes_of, sizes, PlaceLengths, Lengths, ClearsOver, Kept, Begins, Opens, first_session};
+ghost use Rattle.opening.specs.Slices.{Lengths as LengthsOver, BeginsOver, BeginsWithAny, OpensOver};
 
 use rules::Refusal;
 use session::{Session, Storage};
@@ -41,6 +42,17 @@ pub fn check_lengths(l: SliceLengths, p: u64, v: u64) -> Result<(), Refusal>
     Ok(())
 }
 
+// The checks of opening, over lengths alone: a caller may have no more of the storage than these.
+pub fn check_sizes(l: SliceLengths, waiting: usize, p: u64, v: u64) -> Result<(), Refusal>
+    ensures { number result ≡ verdict (check_open p v (sizes_of l.spans l.order l.tally l.rows l.marks l.locations waiting)) }
+{
+    check_lengths(l, p, v)?;
+    if waiting < waiting::SIZE * v as usize {
+        return Err(Refusal::TooShort);
+    }
+    Ok(())
+}
+
 // The checks of opening.
 pub fn check_open(storage: &Storage, p: u64, v: u64) -> Result<(), Refusal>
     ensures { number result ≡ verdict (check_open p v (sizes (contents storage.now))) }
@@ -53,11 +65,7 @@ pub fn check_open(storage: &Storage, p: u64, v: u64) -> Result<(), Refusal>
         marks: storage.marks.len(),
         locations: storage.locations.len(),
     };
-    check_lengths(lengths, p, v)?;
-    if storage.waiting.len() < waiting::SIZE * v as usize {
-        return Err(Refusal::TooShort);
-    }
-    Ok(())
+    check_sizes(lengths, storage.waiting.len(), p, v)
 }
 
 // Clears rows, places with their locations, and tally.
@@ -95,23 +103,70 @@ pub fn fresh(p: u32, v: u32) -> Session
     }
 }
 
-// Opens a session of parallelism p and v places on storage that passes the checks.
+// Opens a session of parallelism p and v places on the slices that opening writes: they suffice for a caller who has no more of the storage
+// at hand. Of every storage that has them and passes the checks, it promises what opening promises.
+pub fn begin_over(
+    tally: &mut [u32],
+    rows: &mut [u32],
+    marks: &mut [u16],
+    locations: &mut [u64],
+    waiting: &mut [u64],
+    p: u64,
+    v: u64,
+) -> Session
+    requires { LengthsOver p v (length tally.old) (length rows.old) (length marks.old) (length locations.old) (length waiting.old) }
+    ensures { BeginsOver p v result tally rows marks locations waiting }
+{
+    clear(tally, rows, marks, locations, p as usize, v as usize);
+    waiting::clear(waiting, v as usize);
+    fresh(p as u32, v as u32)
+}
+
+// Opens a session of parallelism p and v places on storage that passes the checks. What it promises of spans, order and pool that pass them
+// holds of every other that would, as they are neither read nor written.
 pub fn begin(storage: &mut Storage, p: u64, v: u64) -> Session
     requires { Lengths p v (contents storage.old) }
     ensures begins { Begins p v result (contents storage.old) (contents storage.new) }
+    ensures with_any { BeginsWithAny p v result (contents storage.old) (contents storage.new) }
     ensures kept { Kept (contents storage.old) (contents storage.new) }
     ensures same { SameSlices storage.old storage.new }
 {
-    clear(
+    begin_over(
         storage.tally,
         storage.rows,
         storage.marks,
         storage.locations,
-        p as usize,
-        v as usize,
-    );
-    waiting::clear(storage.waiting, v as usize);
-    fresh(p as u32, v as u32)
+        storage.waiting,
+        p,
+        v,
+    )
+}
+
+// Opens a session of parallelism p and v places on slices that a caller lends one by one, or refuses: then they are as they were. Spans and
+// order are only read, and the pool is not looked at.
+pub fn open_over(
+    spans: &[u32],
+    order: &[u32],
+    tally: &mut [u32],
+    rows: &mut [u32],
+    marks: &mut [u16],
+    locations: &mut [u64],
+    waiting: &mut [u64],
+    p: u64,
+    v: u64,
+) -> Result<Session, Refusal>
+    ensures { OpensOver p v (number result) (session_after (first_session 0 0) result) spans.now order.now tally rows marks locations waiting }
+{
+    let lengths = SliceLengths {
+        spans: spans.len(),
+        order: order.len(),
+        tally: tally.len(),
+        rows: rows.len(),
+        marks: marks.len(),
+        locations: locations.len(),
+    };
+    check_sizes(lengths, waiting.len(), p, v)?;
+    Ok(begin_over(tally, rows, marks, locations, waiting, p, v))
 }
 
 // Opens a session of parallelism p and v places on the storage, or refuses: then storage is as it was.

@@ -11,13 +11,23 @@ ghost use Rattle.replay.specs.Telling.{count_told};
 use rules::Refusal;
 use session::Storage;
 
+// 64 times a count of the session where a call's number is 0, else that number.
+pub fn coded(number: u64, count: u32) -> u64
+    ensures { result ≡ by_number number count }
+{
+    if number == 0 {
+        return rules::REPLY_RADIX * (count as u64);
+    }
+    number
+}
+
 // 64 times a count of the session, or the number of a refusal.
 pub fn by_number(told: Result<u32, Refusal>) -> u64
     ensures { result ≡ by_number (number told) (count_told told) }
 {
     match told {
-        Ok(count) => rules::REPLY_RADIX * (count as u64),
-        Err(e) => u64::from(e),
+        Ok(count) => coded(0, count),
+        Err(e) => coded(u64::from(e), 0),
     }
 }
 

@@ -6,6 +6,7 @@ ghost use Rattle.lists.specs.Part.{part};
 ghost use Rattle.records.specs.Filling.{rows_fit};
 ghost use Rattle.session.specs.Noting.{noted};
 ghost use Rattle.session.specs.Outputs.{Settling, Settled};
+ghost use Rattle.session.specs.Storage.{given_read, across_read, given_over, across_over};
 ghost use Rattle.session.specs.Slices.{contents, SameLists, SameSlices};
 ghost use Rattle.session.specs.PlaceNext.{MayPlace, PlacesOne, MayPlaceNext, PlacesNext};
 ghost use Rattle.session.specs.Settle.{MaySettle, Settles};
@@ -201,6 +202,138 @@ pub fn settle(s: Session, storage: &mut Storage, top: u64, c: u32) -> Session
         let d = place_next(z, storage, t, c);
         z = d.session;
         t = d.top;
+    }
+    z
+}
+
+// The placing once more, over the slices one by one: of the pool it only reads, so a caller who holds it by `&` can place. What
+// `find_after` does.
+fn find_after_over(
+    locations: &[u64],
+    waiting: &[u64],
+    pool: &[u32],
+    v: u32,
+    added: u32,
+    used: usize,
+    r: u32,
+) -> After
+    requires { MayFind locations.now waiting.now pool.now v added used r }
+    ensures { Finds locations.now waiting.now pool.now v added used r result }
+{
+    let size = v as usize;
+    let i = r as usize;
+    let start = pool::list_start(waiting, size, i);
+    let n = pool::list_inputs(waiting, size, i);
+    let end = pool::list_end(waiting, size, i, added as usize, used);
+    let at = start + n;
+    let top = tracking::top_loc(locations, pool, start, n);
+    let after = if n == 0 {
+        None
+    } else {
+        Some(tracking::unpacked(top))
+    };
+    After {
+        after,
+        at,
+        n: end - at,
+        lane: pool::lane_of(waiting, size, i),
+    }
+}
+
+// What `place_one` does.
+fn place_one_over(
+    s: Session,
+    spans: &mut [u32],
+    order: &mut [u32],
+    tally: &mut [u32],
+    rows: &mut [u32],
+    marks: &mut [u16],
+    locations: &mut [u64],
+    waiting: &[u64],
+    pool: &[u32],
+    r: u32,
+    ended: u32,
+) -> Moved
+    requires { MayPlace ended s.guide s.watermark s.added s.used (given_over spans order tally rows marks locations waiting.now pool.now) r }
+    ensures { across_over spans order tally rows marks locations waiting.now pool.now (λ σ τ. PlacesOne ended r s.guide s.watermark s.added s.used σ result.guide result.watermark τ) }
+{
+    let v = s.guide.v;
+    let n = s.guide.written;
+    let a = find_after_over(locations, waiting, pool, v, s.added, s.used, r);
+    let e = Entry {
+        value: r,
+        added: r,
+        accepted: ended,
+        parallelism: 0,
+        lane: a.lane,
+    };
+    let d = guide::push(s.guide, spans, order, tally, a.after, e);
+    let guide = d.guide;
+    records::fill_rows(order, rows, n, guide.written - n);
+    let loc = tracking::packed(d.at);
+    let watermark = settle_outputs(marks, locations, pool, a.at, a.n, loc, v, s.watermark);
+    Moved { guide, watermark }
+}
+
+// What `place_next` does, for a caller who holds the pool by `&`.
+pub fn place_next_over(
+    s: Session,
+    spans: &mut [u32],
+    order: &mut [u32],
+    tally: &mut [u32],
+    rows: &mut [u32],
+    marks: &mut [u16],
+    locations: &mut [u64],
+    waiting: &mut [u64],
+    pool: &[u32],
+    top: u64,
+    c: u32,
+) -> CascadeTurn
+    requires { MayPlaceNext c s (given_read spans order tally rows marks locations waiting pool.now) top }
+    ensures { across_read spans order tally rows marks locations waiting pool.now (λ σ τ. PlacesNext c s σ top result.session τ result.top) }
+{
+    let v = s.guide.v as usize;
+    let r = top - 1;
+    let under = registrar::next(waiting, v, r as usize);
+    let m = place_one_over(
+        s, spans, order, tally, rows, marks, locations, waiting, pool, r as u32, c,
+    );
+    let over = registrar::advance_placed(waiting, v, s.watermark, m.watermark, under);
+    let delayed = s.delayed - 1;
+    let session = Session {
+        guide: m.guide,
+        watermark: m.watermark,
+        delayed,
+        ..s
+    };
+    CascadeTurn { session, top: over }
+}
+
+// What `settle` does, for a caller who holds the pool by `&`.
+pub fn settle_over(
+    s: Session,
+    spans: &mut [u32],
+    order: &mut [u32],
+    tally: &mut [u32],
+    rows: &mut [u32],
+    marks: &mut [u16],
+    locations: &mut [u64],
+    waiting: &mut [u64],
+    pool: &[u32],
+    top: u64,
+    c: u32,
+) -> Session
+    requires { MaySettle c s (given_read spans order tally rows marks locations waiting pool.now) top }
+    ensures { across_read spans order tally rows marks locations waiting pool.now (λ σ τ. Settles c s σ top result τ) }
+{
+    let mut z = s;
+    let mut t = top;
+    while t != 0 {
+        let turn = place_next_over(
+            z, spans, order, tally, rows, marks, locations, waiting, pool, t, c,
+        );
+        z = turn.session;
+        t = turn.top;
     }
     z
 }

@@ -11,8 +11,6 @@ use Rattle.std.specs.Float.Ieee.{prec, emax, low, size, nearest, odd, units, rou
 use borrow.Author.Tests.{lt-ltb, le-ltb}
 use Rattle.rules.specs.Limits.{most_places, average_divisor, low_counts, sums_of_thousands}
 use Rattle.rules.specs.Refusals as refusal
-use Rattle.rules.specs.declared.Refusal.{Refusal}
-use Rattle.rules.specs.Answer.{number_of, number_of_pos}
 use Rattle.rules.specs.Checks.{verdict}
 use Rattle.rules.specs.Summary.{Figures, sum, average, figures}
 use Rattle.summary.specs.declared.Summary.{Summary}
@@ -85,10 +83,10 @@ pub after_done : (n : ℕ) (t before : List ℕ) (f : Figures) → n ≡ 0 → f
 unfolding summary_after
 after_done n t before f e g = rw (e, g)
 
-pub after_refused : (x : Refusal) (n : ℕ) (t before : List ℕ) → n ≡ number_of x → before ≡ summary_after n t before
+pub after_refused : (n : ℕ) (t before : List ℕ) → (n ≡ 0 → ⊥) → before ≡ summary_after n t before
 unfolding summary_after
-after_refused x zero t before e = absurd (number_of_pos x (sym e))
-after_refused x (suc n) t before e = refl
+after_refused zero t before h = absurd (h refl)
+after_refused (suc n) t before h = refl
 
 -- the summary written in its parts: two numbers, then the counts, then the sums
 pub written : (b m : ℕ) (counts sums to x y : List ℕ) → length counts ≡ low_counts → length sums ≡ sums_of_thousands → summary_size ≤ length to
